@@ -1,0 +1,12 @@
+//! Numbers of the machine: lines, nodes and sets of nodes, states of a directory entry, lists of bytes.
+#![tactic(auto)]
+
+mod addresses;
+mod byte_list;
+mod memory;
+mod states;
+
+pub use addresses::{Line, LineNo, NodeNo, SHARED_BASE, Width, home_of, lane, line_of, with_lane};
+pub use byte_list::Bytes;
+pub use memory::NoMemory;
+pub use states::{Meta, Mode, State};
