@@ -1,0 +1,8 @@
+//! The outside as a program sees it: sources of bytes and sinks for bytes, each with a count of its faults.
+#![tactic(auto)]
+
+mod outside;
+mod whole;
+
+pub use outside::{Failed, Sink, Source};
+pub use whole::{ReadErr, read_all, write_whole};
