@@ -1,8 +1,10 @@
 //! The outside as a program sees it: sources of bytes and sinks for bytes, each with a count of its faults.
 #![tactic(auto)]
 
+mod memory;
 mod outside;
 mod whole;
 
+pub use memory::{MemSink, MemSource};
 pub use outside::{Failed, Sink, Source};
 pub use whole::{ReadErr, read_all, write_whole};
