@@ -3,8 +3,12 @@
 
 mod memory;
 mod outside;
+mod steady;
+mod streams;
 mod whole;
 
 pub use memory::{MemSink, MemSource};
 pub use outside::{Failed, Sink, Source};
+pub use steady::{SteadySink, SteadySource};
+pub use streams::{StdSink, StdSource};
 pub use whole::{ReadErr, read_all, write_whole};

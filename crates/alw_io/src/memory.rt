@@ -29,8 +29,12 @@ impl Model for MemSource {
     ghost Value = { SourceState };
 
     ghost view = { λ s. record {
-        rest = drop s.taken s.bytes.items; most = s.most; fails = s.fails.items;
-        calls = s.calls; faults = s.faults } };
+      rest = drop s.taken s.bytes.items;
+      most = s.most;
+      fails = s.fails.items;
+      calls = s.calls;
+      faults = s.faults;
+    } };
 
     ghost invariant = { λ s. (s.taken ≤ length s.bytes.items) × (1 ≤ s.most) };
 }
@@ -110,8 +114,13 @@ impl Model for MemSink {
     ghost Value = { SinkState };
 
     ghost view = { λ s. record {
-        held = s.bytes.items; room = s.room; most = s.most; fails = s.fails.items;
-        calls = s.calls; faults = s.faults } };
+      held = s.bytes.items;
+      room = s.room;
+      most = s.most;
+      fails = s.fails.items;
+      calls = s.calls;
+      faults = s.faults;
+    } };
 
     ghost invariant = { λ s. (length s.bytes.items ≤ s.room) × (s.room ≤ vec_capacity s.bytes) × (1 ≤ s.most) };
 }
@@ -120,12 +129,7 @@ impl MemSink {
     /// An empty sink for up to `room` bytes, which takes all its memory at once. A write moves the least
     /// of `most`, the length that is offered and the room that is left; exactly the calls numbered in
     /// `fails`, from 1, fail, and each write of a nonempty piece to a full sink.
-    pub fn new(
-        alloc: Global,
-        room: usize,
-        most: usize,
-        fails: &[u32],
-    ) -> Result<MemSink, NoMemory>
+    pub fn new(alloc: Global, room: usize, most: usize, fails: &[u32]) -> Result<MemSink, NoMemory>
         requires { 1 ≤ most }
         ensures { IfOk result (λ s. s ≡ starting_sink room most fails.now) }
     {
