@@ -12,3 +12,6 @@ pub use outside::{Failed, Sink, Source};
 pub use steady::{SteadySink, SteadySource};
 pub use streams::{StdSink, StdSource};
 pub use whole::{ReadErr, read_all, write_whole};
+
+#[cfg(test)]
+mod tests;
