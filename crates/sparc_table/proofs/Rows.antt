@@ -2,7 +2,7 @@
 use Rattle.std.proofs.Common.{◌≡◌, ℕ, ◌==◌, Bool, true, false, cond, ◌↔◌, IfSome, MatchOption, List, [], ◌∷◌, Option, Some, None, option_map, refl, arith, sym, subst}
 use Rattle.std.proofs.lemmas.Bool.{eqb-true, eqb-false}
 use Rattle.sparc_table.specs.Fields.{bits_of, op_of, op2_of, op3_of, rd_of, rs1_of, i_of, unused_of, annul_of, cond_of}
-use Rattle.sparc_table.specs.Table.{is_in, arithmetic, shifts, accesses, IsOperand, IsSpelled, IsOutside, register_in, operand_in, short_operand_in, format_2, format_3, memory, instr_of}
+use Rattle.sparc_table.specs.Table.{is_in, arithmetic, shifts, accesses, IsOperand, IsSpelled, IsOutside, FitsOperand, Fits, register_in, operand_in, short_operand_in, format_2, format_3, memory, instr_of}
 use Rattle.sparc_table.specs.declared.instructions.Operand.{Operand}
 use Rattle.sparc_table.specs.declared.instructions.Operand.TheVariants.{Reg, Imm}
 use Rattle.sparc_table.specs.declared.instructions.Instr.{Instr}
@@ -144,3 +144,25 @@ table word found e = go found e
 -- the relation is the function
 pub one_table_is : (word : ℕ) (instr : Instr) → IsSpelled instr word ↔ (instr_of word ≡ Some instr)
 one_table_is word instr = (instr_of_is instr word, λ e. subst (Spells word) e (instr_of_spells word))
+
+-- a spelled instruction's fields are within their bits
+fits_operand : (width : ℕ) (operand : Operand) (word : ℕ) → IsOperand width operand word → FitsOperand width operand
+fits_operand width (Reg rs2) word h = omega arith
+fits_operand width (Imm bits) word h = h.2
+
+pub spelled_fits : (instr : Instr) (word : ℕ) → IsSpelled instr word → Fits instr
+spelled_fits (Call disp) word h = omega arith
+spelled_fits (Sethi rd imm) word h = (omega arith, omega arith)
+spelled_fits (Branch annul condition disp) word h = (omega arith, omega arith)
+spelled_fits (Arith op3 rd rs1 operand) word h = (h.0, omega arith, omega arith, fits_operand 13 operand word h.1.4)
+spelled_fits (Shift op3 rd rs1 operand) word h = (h.0, omega arith, omega arith, fits_operand 5 operand word h.1.4)
+spelled_fits (ReadY rd) word h = omega arith
+spelled_fits (WriteY rs1 operand) word h = (omega arith, fits_operand 13 operand word h.4)
+spelled_fits (Jmpl rd rs1 operand) word h = (omega arith, omega arith, fits_operand 13 operand word h.4)
+spelled_fits (TrapOn condition rs1 operand) word h = (h.0, omega arith, fits_operand 7 operand word h.1.4)
+spelled_fits (Memory op3 rd rs1 operand) word h = (h.0, omega arith, omega arith, fits_operand 13 operand word h.1.4)
+
+-- what the table finds fits
+pub table_fits : (word : ℕ) (found : Option Instr) → found ≡ instr_of word → IfSome found (λ instr. Fits instr)
+table_fits word (Some instr) e = let P = Spells word in spelled_fits instr word (subst P (sym e) (instr_of_spells word))
+table_fits word None e = tt

@@ -10,3 +10,6 @@ pub use instructions::{Instr, Operand};
 pub use outcomes::{Need, Outcome};
 pub use registers::Regs;
 pub use words::{decode, encode, one_table};
+
+#[cfg(test)]
+mod tests;

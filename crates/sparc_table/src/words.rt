@@ -1,4 +1,4 @@
-ghost use Rattle.std.specs.Prelude.{◌≡◌, ◌==◌, ◌↔◌, ◌<◌, ◌^◌, ℕ, Some, MatchOption, option_map};
+ghost use Rattle.std.specs.Prelude.{◌≡◌, ◌==◌, ◌↔◌, ◌<◌, ◌^◌, ℕ, Some, IfSome, MatchOption, option_map};
 ghost use Rattle.sparc_table.specs.Fields.{bits_of, op_of, op2_of, op3_of, rd_of, rs1_of, annul_of, cond_of};
 ghost use Rattle.sparc_table.specs.Table.{Fits, FitsOperand, IsSpelled, IsOutside, IsFormat3, is_in, arithmetic, accesses, only_if, instr_of, format_2, format_3, memory, register_in, operand_in, short_operand_in};
 ghost use Rattle.sparc_table.specs.declared.instructions.Instr.{Instr};
@@ -6,10 +6,11 @@ ghost use Rattle.sparc_table.specs.declared.instructions.Instr.{Instr};
 use crate::instructions::{Instr, Operand};
 
 /// The instruction that a word spells. None exactly outside the table (SPARC V8 manual, appendix F).
-#[tactic(auto, using(crate::proofs::Rows::table), unfolding(crate::specs::Table::instr_of))]
+#[tactic(auto, using(crate::proofs::Rows::table, crate::proofs::Rows::table_fits), unfolding(crate::specs::Table::instr_of))]
 pub fn decode(word: u32) -> Option<Instr>
     ensures row { result ≡ instr_of word }
     ensures spelled { MatchOption result (IsOutside word) (λ instr. IsSpelled instr word) }
+    ensures fits { IfSome result (λ instr. Fits instr) }
 {
     match op(word) {
         0 => decode_format_2(word),
