@@ -52,6 +52,10 @@ IsSpelled (Jmpl rd rs1 operand) word = IsFormat3 2 0x38 rd rs1 13 operand word
 IsSpelled (TrapOn condition rs1 operand) word = (condition < 16) × IsFormat3 2 0x3A condition rs1 7 operand word
 IsSpelled (Memory op3 rd rs1 operand) word = IsTrue (is_in accesses op3) × IsFormat3 3 op3 rd rs1 13 operand word
 
+-- a word spells no instruction
+abbrev pub IsOutside : ℕ → Type 0
+IsOutside word = (instr : Instr) → ¬ IsSpelled instr word
+
 -- ---- the table as a function
 
 -- the register that is a word's operand, where the bits beside it are 0

@@ -4,7 +4,12 @@
 mod instructions;
 mod outcomes;
 mod registers;
+mod words;
 
 pub use instructions::{Instr, Operand};
 pub use outcomes::{Need, Outcome};
 pub use registers::Regs;
+pub use words::{decode, encode, one_table};
+
+#[cfg(test)]
+mod tests;
