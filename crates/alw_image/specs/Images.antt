@@ -40,8 +40,8 @@ abbrev pub start_in : List (NodeNo × ℕ × ℕ) → ℕ → ℕ → Option ℕ
 start_in starts node slot = option_map (λ start. start.2) (find (λ start. start.0.0 == node && (start.1 == slot)) starts)
 
 -- the address at which a slot of a node starts: None where it is halted from the beginning
-abbrev pub start_of : Parts → ℕ → ℕ → Option ℕ
-start_of p node slot = start_in p.starts node slot
+abbrev pub started_at : Parts → ℕ → ℕ → Option ℕ
+started_at p node slot = start_in p.starts node slot
 
 -- the line is Trap-Always
 abbrev pub is_always : Parts → ℕ → Bool
@@ -56,8 +56,8 @@ abbrev pub IsStart : Parts → NodeNo × ℕ × ℕ → Type 0
 IsStart p start = (start.0.0 < node_count p) × (start.1 < p.contexts) × (start.2 % 4 ≡ 0) × (start.2 < 4 * length p.code)
 
 -- the number of the context that a start is of
-abbrev pub started : Parts → NodeNo × ℕ × ℕ → ℕ
-started p start = start.0.0 * p.contexts + start.1
+abbrev pub context_started : Parts → NodeNo × ℕ × ℕ → ℕ
+context_started p start = start.0.0 * p.contexts + start.1
 
 -- the parts of an image
 pub record IsImage (p : Parts) : Type 0 where
@@ -70,7 +70,7 @@ pub record IsImage (p : Parts) : Type 0 where
   pub bodies : AllByRecursion (IsDataLine p) p.bodies
   pub bodies_ascend : IsStrictlyIncreasing (map (λ entry. entry.0.0) p.bodies)
   pub starts : AllByRecursion (IsStart p) p.starts
-  pub starts_ascend : IsStrictlyIncreasing (map (started p) p.starts)
+  pub starts_ascend : IsStrictlyIncreasing (map (context_started p) p.starts)
   pub always : AllByRecursion (λ line. line < line_count p) p.always
   pub always_ascend : IsStrictlyIncreasing p.always
 

@@ -1,8 +1,10 @@
-ghost use Rattle.std.specs.Prelude.{◌≡◌, ◌<◌, ◌*◌, ◌+◌, ◌/◌, ◌%◌};
+ghost use Rattle.std.specs.Prelude.{◌≡◌, ◌<◌, ◌≤◌, ◌*◌, ◌+◌, ◌/◌, ◌%◌, length, IfOk};
 ghost use Rattle.alw_image.specs.Images.{body_in};
+ghost use Rattle.alw_image.specs.First.{IsAtWord, plain_parts};
 
-use crate::parts::{Code, Parts};
-use alw_num::{Line, LineNo};
+use crate::parts::{Bodies, Code, LineList, Parts, Starts};
+use alw_num::{Line, LineNo, NoMemory, NodeNo};
+use std::alloc::Global;
 use std::marker::Model;
 
 /// An image: parts that are within their ranges and in order. Contracts see the parts.
@@ -23,7 +25,7 @@ impl Model for Image {
 }
 
 impl Image {
-    ghost use Rattle.alw_image.specs.Images.{IsImage, line_count, context_count, body_of, start_of, is_always};
+    ghost use Rattle.alw_image.specs.Images.{IsImage, line_count, context_count, body_of, started_at, is_always};
 
     /// Columns of the mesh.
     pub fn width(&self) -> u8
@@ -72,7 +74,7 @@ impl Image {
     /// The address at which a context starts. None exactly where the image has no start for it.
     pub fn start(&self, context: u32) -> Option<u32>
         requires { context < context_count self.now }
-        ensures { result ≡ start_of self.now (context / self.now.contexts) (context % self.now.contexts) }
+        ensures { result ≡ started_at self.now (context / self.now.contexts) (context % self.now.contexts) }
     {
         let contexts = u32::from(self.parts.contexts);
         let node = context / contexts;
@@ -97,6 +99,34 @@ impl Image {
             .iter()
             .any(|listed| line.0 == *listed)
     }
+}
+
+// The image of one node and one context with these lines, this program and this one start.
+pub fn plain_image(
+    alloc: Global,
+    per_node: u16,
+    code: Code,
+    address: u32,
+) -> Result<Image, NoMemory>
+    requires lines { (1 ≤ per_node) × (per_node ≤ 4096) }
+    requires code { (1 ≤ length code) × (length code ≤ 4096) }
+    requires start { IsAtWord (length code) address }
+    ensures { IfOk result (λ image. image ≡ plain_parts per_node code address) }
+{
+    let mut starts = Starts::empty(alloc);
+    starts.push((NodeNo(0), 0, address))?;
+    Ok(Image {
+        parts: Parts {
+            width: 1,
+            height: 1,
+            contexts: 1,
+            per_node,
+            code,
+            bodies: Bodies::empty(alloc),
+            starts,
+            always: LineList::empty(alloc),
+        },
+    })
 }
 
 // The bytes that data lines give a line.

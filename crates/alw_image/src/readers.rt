@@ -1,0 +1,40 @@
+ghost use Rattle.std.specs.Prelude.{◌≡◌, ◌≢◌, ◌<◌, ◌^◌, ◌++◌, List, ℕ, length, IfSome, IfNone, MatchOption};
+ghost use Rattle.std.specs.Int.{w16, w32, to_be_bytes};
+
+// What follows these bytes at the front. None exactly where they don't stand there.
+pub fn behind<'a>(bytes: &'a [u8], front: &[u8]) -> Option<&'a [u8]>
+    ensures { MatchOption result ((rest : List ℕ) → bytes.now ≢ front.now ++ rest) (λ rest. bytes.now ≡ front.now ++ rest.now) }
+{
+    bytes.strip_prefix(front)
+}
+
+// The big-endian number in the first two bytes, and what follows them. None exactly where there
+// are fewer.
+pub fn half_at(bytes: &[u8]) -> Option<(u16, &[u8])>
+    ensures found { IfSome result (λ read. bytes.now ≡ to_be_bytes w16 read.0 ++ read.1.now) }
+    ensures range { IfSome result (λ read. read.0 < 2 ^ 16) }
+    ensures none { IfNone result (length bytes.now < 2) }
+{
+    if bytes.len() < 2 {
+        return None;
+    }
+    let (front, rest) = bytes.split_at(2);
+    Some((u16::from_be_bytes([front[0], front[1]]), rest))
+}
+
+// The big-endian number in the first four bytes, and what follows them. None exactly where there
+// are fewer.
+pub fn word_at(bytes: &[u8]) -> Option<(u32, &[u8])>
+    ensures found { IfSome result (λ read. bytes.now ≡ to_be_bytes w32 read.0 ++ read.1.now) }
+    ensures range { IfSome result (λ read. read.0 < 2 ^ 32) }
+    ensures none { IfNone result (length bytes.now < 4) }
+{
+    if bytes.len() < 4 {
+        return None;
+    }
+    let (front, rest) = bytes.split_at(4);
+    Some((
+        u32::from_be_bytes([front[0], front[1], front[2], front[3]]),
+        rest,
+    ))
+}
