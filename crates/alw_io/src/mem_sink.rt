@@ -38,7 +38,8 @@ impl Model for MemSink {
       faults = s.faults;
     } };
 
-    ghost invariant = { λ s. (length s.bytes.items ≤ s.room) × (s.room ≤ vec_capacity s.bytes) × (1 ≤ s.most) };
+    ghost invariant = { λ s.
+        (length s.bytes.items ≤ s.room) × (s.room ≤ vec_capacity s.bytes) × (1 ≤ s.most) };
 }
 
 impl MemSink {
@@ -79,11 +80,15 @@ impl Sink for MemSink {
         ensures cause { HasCause self.old.faults self.new.faults result }
         ensures range { self.new.faults ≤ 2 ^ 64 - 1 }
 
-        ensures told { IsErr result ↔ (Contains self.old.fails (raised self.old.calls) ⊎ IsFullFor self.old piece.now) }
-        ensures moved { IfOk result (λ n. n ≡ least self.old.most (length piece.now) (self.old.room - length self.old.held)) }
-        ensures plan { (self.new.room ≡ self.old.room) × (self.new.most ≡ self.old.most) × (self.new.fails ≡ self.old.fails) }
+        ensures told { IsErr result
+            ↔ (Contains self.old.fails (raised self.old.calls) ⊎ IsFullFor self.old piece.now) }
+        ensures moved { IfOk result (λ n.
+            n ≡ least self.old.most (length piece.now) (self.old.room - length self.old.held)) }
+        ensures plan { (self.new.room ≡ self.old.room) × (self.new.most ≡ self.old.most)
+            × (self.new.fails ≡ self.old.fails) }
         ensures calls { self.new.calls ≡ raised self.old.calls }
-        ensures faults { self.new.faults ≡ (if is_err result then raised self.old.faults else self.old.faults) }
+        ensures faults { self.new.faults
+            ≡ (if is_err result then raised self.old.faults else self.old.faults) }
     {
         self.calls = self.calls.saturating_add(1);
         let left = self.room - self.bytes.len();

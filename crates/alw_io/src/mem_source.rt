@@ -24,7 +24,7 @@ pub struct MemSource {
 }
 
 impl Model for MemSource {
-    ghost use Rattle.std.specs.Prelude.{◌≤◌, ◌<◌, ◌^◌, drop, length};
+    ghost use Rattle.std.specs.Prelude.{◌≤◌, drop, length};
     ghost use Rattle.alw_io.specs.Scripted.{SourceState};
 
     ghost Value = { SourceState };
@@ -75,10 +75,12 @@ impl Source for MemSource {
         ensures range { self.new.faults ≤ 2 ^ 64 - 1 }
 
         ensures told { IsErr result ↔ Contains self.old.fails (raised self.old.calls) }
-        ensures moved { IfOk result (λ n. n ≡ least self.old.most (length buf.new) (length self.old.rest)) }
+        ensures moved { IfOk result (λ n.
+            n ≡ least self.old.most (length buf.new) (length self.old.rest)) }
         ensures plan { (self.new.most ≡ self.old.most) × (self.new.fails ≡ self.old.fails) }
         ensures calls { self.new.calls ≡ raised self.old.calls }
-        ensures faults { self.new.faults ≡ (if is_err result then raised self.old.faults else self.old.faults) }
+        ensures faults { self.new.faults
+            ≡ (if is_err result then raised self.old.faults else self.old.faults) }
     {
         self.calls = self.calls.saturating_add(1);
         if is_planned(&self.fails, self.calls) {
