@@ -44,7 +44,8 @@ impl From<AllocError> for ReadErr {
 pub fn read_all<S: Source>(alloc: Global, source: &mut S, max: usize) -> Result<Bytes, ReadErr>
     ensures took { Took max (S.left source.old) (S.left source.new) result }
     ensures later { S.faults source.old ≤ S.faults source.new }
-    ensures failed { result ≡ Err ReadErr.Failed → Rose (S.faults source.old) (S.faults source.new) }
+    ensures failed { result ≡ Err ReadErr.Failed
+        → Rose (S.faults source.old) (S.faults source.new) }
 {
     let mut bytes: Vec<u8> = Vec::new(alloc);
     let mut piece = [0u8; 4096];

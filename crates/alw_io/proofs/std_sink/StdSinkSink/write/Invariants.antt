@@ -1,6 +1,6 @@
 use Rattle.std.proofs.Common.{◌-◌, ◌^◌, ◌≤◌}
 use Rattle.std.specs.Io.KnownBytes.{Keeps}
-use Rattle.alw_io.proofs.streams.StdSinkSink.write.Given as goal
+use Rattle.alw_io.proofs.std_sink.StdSinkSink.write.Given as goal
 
 -- writes that a signal ended appended nothing
 abbrev pub invariant-loop-self : goal.invariant-loop-self

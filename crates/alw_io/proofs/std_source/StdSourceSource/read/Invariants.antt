@@ -1,6 +1,6 @@
 use Rattle.std.proofs.Common.{◌-◌, ◌^◌, ◌≤◌}
 use Rattle.std.specs.Io.KnownBytes.{Keeps}
-use Rattle.alw_io.proofs.streams.StdSourceSource.read.Given as goal
+use Rattle.alw_io.proofs.std_source.StdSourceSource.read.Given as goal
 
 -- reads that a signal ended took nothing
 abbrev pub invariant-loop-count : goal.invariant-loop-count
