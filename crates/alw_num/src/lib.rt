@@ -4,9 +4,11 @@
 mod addresses;
 mod byte_list;
 mod memory;
+mod node_sets;
 mod states;
 
 pub use addresses::{Line, LineNo, NodeNo, SHARED_BASE, Width, home_of, lane, line_of, with_lane};
 pub use byte_list::Bytes;
 pub use memory::NoMemory;
+pub use node_sets::{MOST_NODES, NodeSet};
 pub use states::{Meta, Mode, State};
