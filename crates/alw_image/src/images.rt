@@ -1,0 +1,112 @@
+ghost use Rattle.std.specs.Prelude.{◌≡◌, ◌<◌, ◌*◌, ◌+◌, ◌/◌, ◌%◌};
+ghost use Rattle.alw_image.specs.Images.{body_in};
+
+use crate::parts::{Code, Parts};
+use alw_num::{Line, LineNo};
+use std::marker::Model;
+
+/// An image: parts that are within their ranges and in order. Contracts see the parts.
+#[derive(Debug, Drop)]
+pub struct Image {
+    parts: Parts,
+}
+
+impl Model for Image {
+    ghost use Rattle.alw_image.specs.declared.parts.Parts.{Parts};
+    ghost use Rattle.alw_image.specs.Images.{IsImage};
+
+    ghost Value = { Parts };
+
+    ghost view = { λ i. i.parts };
+
+    ghost invariant = { λ i. IsImage i.parts };
+}
+
+impl Image {
+    ghost use Rattle.alw_image.specs.Images.{IsImage, line_count, context_count, body_of, start_of, is_always};
+
+    /// Columns of the mesh.
+    pub fn width(&self) -> u8
+        ensures { result ≡ self.now.width }
+    {
+        self.parts.width
+    }
+
+    /// Rows of the mesh.
+    pub fn height(&self) -> u8
+        ensures { result ≡ self.now.height }
+    {
+        self.parts.height
+    }
+
+    /// Contexts of each node.
+    pub fn contexts(&self) -> u8
+        ensures { result ≡ self.now.contexts }
+    {
+        self.parts.contexts
+    }
+
+    /// Lines of shared data that each node is the home of.
+    pub fn per_node(&self) -> u16
+        ensures { result ≡ self.now.per_node }
+    {
+        self.parts.per_node
+    }
+
+    /// The program.
+    pub fn code(&self) -> &Code
+        ensures code { result.now ≡ self.now.code }
+        ensures allowed { IsImage self.now }
+    {
+        &self.parts.code
+    }
+
+    /// The bytes of a line at the start.
+    pub fn body(&self, line: LineNo) -> Line
+        requires { line.0 < line_count self.now }
+        ensures { result ≡ body_of self.now line.0 }
+    {
+        listed_body(self.parts.bodies.members(), line.0)
+    }
+
+    /// The address at which a context starts. None exactly where the image has no start for it.
+    pub fn start(&self, context: u32) -> Option<u32>
+        requires { context < context_count self.now }
+        ensures { result ≡ start_of self.now (context / self.now.contexts) (context % self.now.contexts) }
+    {
+        let contexts = u32::from(self.parts.contexts);
+        let node = context / contexts;
+        let slot = context % contexts;
+        let starts = self.parts.starts.members();
+        let listed = starts.iter().find(|start| u32::from(start.0.0) == node
+            && u32::from(start.1) == slot);
+        match listed {
+            Some(start) => Some(start.2),
+            None => None,
+        }
+    }
+
+    /// The line is Trap-Always.
+    pub fn always(&self, line: LineNo) -> bool
+        requires { line.0 < line_count self.now }
+        ensures { result ≡ is_always self.now line.0 }
+    {
+        self.parts
+            .always
+            .members()
+            .iter()
+            .any(|listed| line.0 == *listed)
+    }
+}
+
+// The bytes that data lines give a line.
+fn listed_body(bodies: &[(LineNo, Line)], number: u32) -> Line
+    ensures { result ≡ body_in bodies.now number }
+{
+    for (line, body) in bodies {
+        if line.0 == number {
+            return *body;
+        }
+    }
+    Line::ZERO
+}

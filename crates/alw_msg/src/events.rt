@@ -1,0 +1,30 @@
+use alw_num::{NodeNo, Sequence};
+
+/// One atomic step of the machine: an instruction of a node, an action of its trap handler, the
+/// delivery of the message at the head of a link, or an eviction from a set of a node's cache.
+#[derive(Clone, Copy, Debug, PartialEq, Eq)]
+pub enum Event {
+    Instr { node: NodeNo },
+    Handle { node: NodeNo },
+    Deliver { from: NodeNo, to: NodeNo },
+    Evict { node: NodeNo, set: u32 },
+}
+
+/// An event with its stamp, a logical clock (Lamport 1978).
+#[derive(Clone, Copy, Debug, PartialEq, Eq)]
+pub struct Entry {
+    pub stamp: u32,
+    pub event: Event,
+}
+
+/// The events of a run, in order.
+pub type Journal = Sequence<Entry>;
+
+/// The numbers of the contexts that took a turn, in order.
+pub type Turns = Sequence<u32>;
+
+/// Printed words, each with the number of the context that printed it, in order.
+pub type Prints = Sequence<(u32, u32)>;
+
+/// Words of shared data, each as its address and value.
+pub type Words = Sequence<(u32, u32)>;
