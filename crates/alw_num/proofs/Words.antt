@@ -126,3 +126,6 @@ first_high s none some l = (lowest_high s none some l).1
 pub none_here : (s : NodeSet) → s.low ≡ 0 → s.high ≡ 0 → nodes_of s ≡ no_nodes
 unfolding nodes_of no_nodes
 none_here s l h = rw (l, h)
+
+-- what the functions over the two words are proved by
+pub ruleset words = (nothing, has_low, has_high, with_low, with_high, without_low, without_high, without_past, joined, counted, some_low, first_low, some_high, first_high, none_here)
