@@ -1,5 +1,5 @@
 -- What the two words of a set say, for the functions over them.
-use Rattle.std.proofs.Common.{◌≡◌, ℕ, ◌+◌, ◌-◌, ◌*◌, ◌/◌, ◌%◌, ◌^◌, ◌<◌, ◌≤◌, ◌≢◌, ◌==◌, true, false, ◌∷◌, refl, sym, ap, ◌∙◌, arith, bit_and, bit_or, count_ones, ⊎_elim}
+use Rattle.std.proofs.Common.{◌≡◌, ℕ, ◌+◌, ◌-◌, ◌*◌, ◌/◌, ◌%◌, ◌^◌, ◌<◌, ◌≤◌, ◌≢◌, ◌==◌, true, false, [], ◌∷◌, refl, sym, ap, ◌∙◌, arith, bit_and, bit_or, count_ones, ⊎_elim}
 use Rattle.std.specs.Int.{bit_at, bit_not, w128, trailing_zeros}
 use Rattle.std.proofs.Math.Nat.{mod-eq_of_lt}
 use Rattle.std.proofs.lemmas.Nat.{shr_split, mod_below, ones_cat}
@@ -8,7 +8,7 @@ use Rattle.std.proofs.lemmas.Bool.{cases_lt, true≢false}
 use Rattle.std.proofs.lemmas.Nat.Bits.{shr_and_one, bit_at-lt, bit_at-zero, bit_at_or, bit_at_above, bit_at_cat_low, bit_at_cat_high, bit_at_set_same, bit_at_set_other, bit_at_clear_same, bit_at_clear_other, bit_at-trailing_zeros}
 use Rattle.alw_num.specs.declared.node_sets.NodeSet.{NodeSet}
 use Rattle.alw_num.specs.NodeSets.{Nodes, no_nodes, has_node, add_node, drop_node, join_nodes, members, count_nodes, nodes_of}
-use Rattle.alw_num.proofs.Sets.{same_nodes, has-none, has-add, has-drop, has-join, members-least, count-bits}
+use Rattle.alw_num.proofs.Sets.{same_nodes, has-none, has-add, has-drop, has-join, members-least, members-none, count-bits}
 
 bit_at-mod : (n w k : ℕ) → k < w → bit_at (n % 2 ^ w) k ≡ bit_at n k
 bit_at-mod n w k l = sym (bit_at_cat_low (n / 2 ^ w) w (n % 2 ^ w) k l) ∙ ap (λ m. bit_at m k) (shr_split n w)
@@ -127,5 +127,8 @@ pub none_here : (s : NodeSet) → s.low ≡ 0 → s.high ≡ 0 → nodes_of s �
 unfolding nodes_of no_nodes
 none_here s l h = rw (l, h)
 
+pub no_members : (s : NodeSet) → s.low ≡ 0 → s.high ≡ 0 → members (nodes_of s) ≡ []
+no_members s l h = ap members (none_here s l h) ∙ members-none
+
 -- what the functions over the two words are proved by
-pub ruleset words = (nothing, has_low, has_high, with_low, with_high, without_low, without_high, without_past, joined, counted, some_low, first_low, some_high, first_high, none_here)
+pub ruleset words = (nothing, has_low, has_high, with_low, with_high, without_low, without_high, without_past, joined, counted, some_low, first_low, some_high, first_high, none_here, no_members)

@@ -1,4 +1,4 @@
-ghost use Rattle.std.specs.Prelude.{◌≡◌, ◌<◌, ◌↔◌, ◌∷◌, IsTrue, IsNone, IfSome};
+ghost use Rattle.std.specs.Prelude.{◌≡◌, ◌<◌, ◌↔◌, [], ◌∷◌, IsTrue, IsNone, IfNone, IfSome};
 ghost use Rattle.alw_num.specs.NodeSets.{no_nodes, has_node, add_node, drop_node, join_nodes, count_nodes, members, nodes_of};
 
 use crate::addresses::NodeNo;
@@ -97,6 +97,7 @@ impl NodeSet {
     /// The least member. With `without` it goes over a set in ascending order.
     pub fn lowest(&self) -> Option<NodeNo>
         ensures none { IsNone result ↔ (nodes_of self.now ≡ no_nodes) }
+        ensures no_members { IfNone result (members (nodes_of self.now) ≡ []) }
         ensures lowest { IfSome result (λ n. members (nodes_of self.now) ≡ n.0 ∷ members (drop_node (nodes_of self.now) n.0)) }
         ensures within { IfSome result (λ n. n.0 < MOST_NODES) }
     {
