@@ -101,3 +101,13 @@ spelled_by bytes k n body code address read same parts = read ∙ ap (λ (m : �
 -- a list by what stands before a place and behind it
 pub whole : (xs front back : List ℕ) (n : ℕ) → take n xs ≡ front → drop n xs ≡ back → xs ≡ front ++ back
 whole xs front back n at_front at_back = sym (take-append-drop n xs) ∙ ap (λ ys. ys ++ drop n xs) at_front ∙ ap (λ ys. front ++ ys) at_back
+
+length-layout : (k n : ℕ) (body : List ℕ) → length (layout k n body) ≡ 28 + length body
+unfolding layout
+length-layout k n body = omega arith
+
+-- a plainest image is short
+pub length-spelling : (p : Parts) → IsFirst p → length (spelling p) ≤ 16420
+length-spelling p f =
+    let short = f.plain.short in
+    omega (arith, ap length (spelling-first p f), length-layout f.per_node (length f.code) (words f.code ++ first_start f.address), length-append (words f.code) (first_start f.address), length-words f.code)

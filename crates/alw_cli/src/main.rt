@@ -1,0 +1,35 @@
+//! The simulator's program: it reads an image on standard input, runs it and writes the report.
+#![tactic(auto)]
+
+mod command_words;
+mod plain_run;
+mod plain_turn;
+mod report_text;
+mod top;
+
+use alw_io::{StdSink, StdSource};
+use std::alloc::Global;
+use std::env;
+use std::process::ExitCode;
+use std::rt::Env;
+use top::alewife;
+
+// The status where the runtime can't give the program its words.
+const NO_WORDS: u8 = 10;
+
+// The program's words, without its name.
+fn words_of(rt: &(impl Env + AllocGlobal)) -> Option<Vec<String>> {
+    env::args(rt).ok()?.skip(1).collect(rt.alloc()).ok()
+}
+
+fn main(rt: HostRuntime) -> ExitCode {
+    let alloc: Global = rt.alloc();
+    let Some(words) = words_of(&rt) else {
+        return ExitCode::from(NO_WORDS);
+    };
+    let mut input = StdSource::new(rt.stdin());
+    let mut out = StdSink::new(rt.stdout());
+    let mut err = StdSink::new(rt.stderr());
+    let done = alewife(alloc, &words, &mut input, &mut out, &mut err);
+    ExitCode::from(done.status)
+}
