@@ -1,5 +1,5 @@
 -- How a run grows by one turn, and that it is a run of the flat machine.
-use Rattle.std.proofs.Common.{◌≡◌, ℕ, zero, suc, ◌+◌, ◌*◌, ◌/◌, ◌%◌, ◌^◌, ◌<◌, ◌≤◌, Bool, true, false, List, [], ◌∷◌, ◌++◌, length, take, refl, ap, sym, ◌∙◌, append_assoc, length-append, arith, IsTrue, ◌==◌, bit_or, slice_index, subst, inl, inr}
+use Rattle.std.proofs.Common.{◌≡◌, ℕ, zero, suc, ◌+◌, ◌*◌, ◌/◌, ◌%◌, ◌^◌, ◌<◌, ◌≤◌, true, false, List, [], ◌∷◌, ◌++◌, length, take, refl, ap, sym, ◌∙◌, append_assoc, length-append, arith, IsTrue, ◌==◌, bit_or, slice_index, subst, inl, inr}
 use Rattle.std.proofs.lemmas.Bool.{eqb-true, cases_lt}
 use Rattle.std.proofs.lemmas.List.{append-nil}
 use Rattle.alw_num.specs.declared.addresses.Line.{Line}
@@ -14,7 +14,7 @@ use Rattle.sparc_table.specs.Turns.{turn_of}
 use Rattle.alw_image.specs.First.{IsFirst, IsPlainCode}
 use Rattle.alw_image.specs.Images.{body_of, line_count, zero_line}
 use Rattle.alw_image.specs.declared.parts.Parts.{Parts}
-use Rattle.alw_cli.specs.Plain.{State, IsNext, IsLegal, IsRun, IsFlatRun, start, first_regs, turn, step, state_after, prints_of, printed, is_halt, turns_of, flat_of, flat_start, flat_prints, Goes}
+use Rattle.alw_cli.specs.Plain.{State, IsNext, IsLegal, IsRun, IsFlatRun, start, first_regs, turn, step, state_after, prints_of, printed, is_halt, turns_of, flat_of, flat_prints, Goes}
 
 -- ---- a journal with one entry more
 

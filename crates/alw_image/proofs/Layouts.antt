@@ -5,7 +5,7 @@ use Rattle.std.specs.Int.{w16, w32, to_be_bytes}
 use Rattle.alw_image.specs.Images.{words, spelling}
 use Rattle.alw_image.specs.First.{IsAtWord, IsFirst, IsPlainCode, HasSizes, plain_parts, layout}
 use Rattle.alw_image.specs.declared.parts.Parts.{Parts}
-use Rattle.alw_image.proofs.Programs.{length-words, same_word}
+use Rattle.alw_image.proofs.Programs.{length-words}
 
 -- a start of node 0 and slot 0 at an address
 abbrev pub first_start : ℕ → List ℕ

@@ -1,5 +1,5 @@
 -- The plainest images: one node, one context, no data, and a program of OR, print and halt that ends with a halt.
-use Rattle.std.specs.Prelude.{◌≡◌, ◌≢◌, ℕ, ◌+◌, ◌*◌, ◌%◌, ◌^◌, ◌<◌, ◌≤◌, Bool, true, false, ◌==◌, ◌&&◌, nat_le, IsTrue, Option, None, Some, [], ◌∷◌, ◌++◌, List, length}
+use Rattle.std.specs.Prelude.{◌≡◌, ℕ, ◌+◌, ◌*◌, ◌%◌, ◌^◌, ◌<◌, ◌≤◌, Bool, false, ◌==◌, ◌&&◌, nat_le, IsTrue, Option, None, Some, [], ◌∷◌, ◌++◌, List, length}
 use Rattle.std.specs.Int.{w16, w32, to_be_bytes}
 use Rattle.std.specs.List.{AllByRecursion}
 use Rattle.sparc_table.specs.declared.instructions.Instr.{Instr}
@@ -7,7 +7,6 @@ use Rattle.sparc_table.specs.declared.instructions.Instr.TheVariants.{Call, Seth
 use Rattle.sparc_table.specs.declared.instructions.Operand.{Operand}
 use Rattle.sparc_table.specs.declared.instructions.Operand.TheVariants.{Reg, Imm}
 use Rattle.sparc_table.specs.Table.{instr_of}
-use Rattle.alw_image.specs.Images.{words, spelling}
 use Rattle.alw_image.specs.declared.parts.Parts.{Parts}
 
 -- the written number 0 or 1

@@ -1,5 +1,5 @@
 -- The parameters of a run, each with its range.
-use Rattle.std.specs.Prelude.{◌≡◌, ℕ, ◌≤◌, IsTrue, List, [], ◌∷◌, ◌==◌}
+use Rattle.std.specs.Prelude.{ℕ, ◌≤◌, IsTrue, List, [], ◌∷◌, ◌==◌}
 use Rattle.std.specs.List.{list_any}
 
 -- hardware pointers of an entry, sets of a cache, the greatest stamp, and evictions tried of 256 draws

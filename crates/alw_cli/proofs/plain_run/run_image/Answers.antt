@@ -1,8 +1,7 @@
-use Rattle.std.proofs.Common.{◌≡◌, ◌∙◌, sym, ap, refl, arith, length, false, length-append}
+use Rattle.std.proofs.Common.{◌≡◌, ◌∙◌, ap, arith, length, false}
 use Rattle.std.proofs.lemmas.List.{append-nil}
 use Rattle.alw_image.specs.Images.{zero_line}
-use Rattle.sparc_table.specs.declared.outcomes.Outcome.TheVariants.{Halt, Out}
-use Rattle.alw_cli.specs.Plain.{turn, start, prints_of, is_halt, printed}
+use Rattle.alw_cli.specs.Plain.{start, is_halt}
 use Rattle.alw_cli.proofs.Runs.{goes_on, ends, prints_grow, goes_up, few_prints, turn_is, entry_behind, code_of, plain_of, halts_on}
 use Rattle.alw_cli.proofs.plain_run.run_image.Goals as goal
 

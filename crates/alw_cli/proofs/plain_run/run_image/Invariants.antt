@@ -1,5 +1,5 @@
 -- The run so far is under way, with these registers and these prints, and PC goes up.
-use Rattle.std.proofs.Common.{◌≡◌, ◌-◌, ◌*◌, ◌<◌, length}
+use Rattle.std.proofs.Common.{◌≡◌, ◌-◌, ◌*◌, length}
 use Rattle.alw_cli.specs.Plain.{start, prints_of}
 use Rattle.alw_cli.proofs.Runs.{IsUnderWay, GoesUp}
 use Rattle.alw_cli.proofs.plain_run.run_image.Given as goal

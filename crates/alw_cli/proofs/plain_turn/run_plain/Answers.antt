@@ -1,4 +1,4 @@
-use Rattle.std.proofs.Common.{sym, ap, ◌∙◌, refl}
+use Rattle.std.proofs.Common.{refl}
 use Rattle.sparc_table.specs.Meaning.{effect}
 use Rattle.alw_cli.proofs.Runs.{or_row}
 use Rattle.alw_cli.proofs.plain_turn.run_plain.Goals as goal

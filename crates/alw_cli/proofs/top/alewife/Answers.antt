@@ -1,4 +1,4 @@
-use Rattle.std.proofs.Common.{◌≡◌, ◌++◌, length, sym, ap, arith, length-append}
+use Rattle.std.proofs.Common.{arith}
 use Rattle.alw_image.specs.Images.{spelling}
 use Rattle.alw_image.proofs.Layouts.{length-spelling}
 use Rattle.alw_cli.proofs.Words.{longer}

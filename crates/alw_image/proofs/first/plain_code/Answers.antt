@@ -1,10 +1,10 @@
-use Rattle.std.proofs.Common.{◌≡◌, ◌+◌, ◌*◌, ◌++◌, ◌∷◌, [], length, sym, ap, ◌∙◌, subst, append_assoc, length-append, arith, refl, inr, IsTrue, Bool, true, false}
+use Rattle.std.proofs.Common.{◌≡◌, ◌++◌, ◌∷◌, [], length, sym, ap, ◌∙◌, subst, append_assoc, length-append, arith, inr, IsTrue, true, false}
 use Rattle.std.proofs.lemmas.List.{append-nil}
 use Rattle.std.specs.Int.{w32, to_be_bytes}
 use Rattle.sparc_table.specs.Table.{instr_of}
 use Rattle.alw_image.specs.Images.{words}
-use Rattle.alw_image.specs.First.{IsPlain, IsPlainCode, is_plain}
-use Rattle.alw_image.proofs.Programs.{words-push, length-words, plain-push, plain_behind, same_program, ends_in_halt, is_program, empty_of, words_behind}
+use Rattle.alw_image.specs.First.{IsPlainCode, is_plain}
+use Rattle.alw_image.proofs.Programs.{words-push, plain-push, plain_behind, same_program, ends_in_halt, is_program, empty_of, words_behind}
 use Rattle.alw_image.proofs.first.plain_code.Goals as goal
 
 pub returns-then-not-is_plain_word-clause-none : goal.returns-then-not-is_plain_word-clause-none

@@ -1,7 +1,7 @@
-use Rattle.std.proofs.Common.{◌≡◌, ℕ, ◌*◌, ◌++◌, length, take, drop, refl, sym, ap, subst, ◌∙◌, arith, take-append-drop}
+use Rattle.std.proofs.Common.{◌≡◌, ℕ, ◌*◌, ◌++◌, length, refl, sym, ap, subst, ◌∙◌, arith}
 use Rattle.std.proofs.lemmas.Bool.{false≢true}
-use Rattle.alw_image.specs.Images.{words, spelling}
-use Rattle.alw_image.specs.First.{IsAtWord, IsPlainCode, layout}
+use Rattle.alw_image.specs.Images.{words}
+use Rattle.alw_image.specs.First.{IsAtWord}
 use Rattle.alw_image.proofs.Layouts.{first_start, sizes_of, parts_of, spelling-first, is_first, spelled_by, whole}
 use Rattle.alw_image.proofs.Programs.{length-words}
 use Rattle.alw_image.proofs.first.read_first.Goals as goal
