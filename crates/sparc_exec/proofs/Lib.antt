@@ -1,3 +1,4 @@
 mod Products
 mod Lanes
 mod Lines
+mod Outcomes

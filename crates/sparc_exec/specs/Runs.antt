@@ -1,5 +1,5 @@
 -- What an instruction does over a port: its meaning, on the copy that it needs.
-use Rattle.std.specs.Prelude.{◌≡◌, ℕ, List, Option, Some, None, Result, Ok, Err, ⊤}
+use Rattle.std.specs.Prelude.{◌≡◌, ℕ, List, Option, Some, None, Result, Ok, Err}
 use Rattle.alw_num.specs.declared.addresses.Line.{Line}
 use Rattle.alw_num.specs.declared.addresses.LineNo.{LineNo}
 use Rattle.alw_num.specs.declared.states.Mode.{Mode}
@@ -54,10 +54,3 @@ IsMissing need copies line mode = (need ≡ needs.Copy line mode) × (granted mo
 abbrev pub need_with : Mode → Result LineNo ℕ → Need
 need_with mode (Ok line) = needs.Copy line mode
 need_with mode (Err tt) = needs.Trap tt
-
--- an outcome that comes with no change of registers and copies
-abbrev pub IsStill : Outcome → Type 0
-IsStill (ends.Miss line mode) = ⊤
-IsStill ends.Halt = ⊤
-IsStill (ends.Trap tt) = ⊤
-IsStill _ = ⊥

@@ -6,10 +6,10 @@ ghost use Rattle.sparc_table.specs.Table.{Fits, FitsOperand};
 ghost use Rattle.sparc_table.specs.Registers.{with_register};
 ghost use Rattle.sparc_table.specs.Access.{width_of, is_load};
 ghost use Rattle.sparc_table.specs.Control.{next};
-ghost use Rattle.sparc_table.specs.Meaning.{need, accessed};
+ghost use Rattle.sparc_table.specs.Meaning.{need, accessed, IsStill};
 ghost use Rattle.sparc_table.specs.Turns.{fetched, run_of, need_of, turn_of};
 ghost use Rattle.sparc_exec.specs.Ports.{granted};
-ghost use Rattle.sparc_exec.specs.Runs.{Same, seen, IsRunOn, IsRun, IsMissing, IsStill};
+ghost use Rattle.sparc_exec.specs.Runs.{Same, seen, IsRunOn, IsRun, IsMissing};
 
 use crate::accesses::{is_load, line_at, load, store};
 use crate::arithmetic::{address, calculate, operand_value, shift};
@@ -25,6 +25,8 @@ use sparc_table::{Instr, Operand, Outcome, Regs, decode};
 #[tactic(auto, unfolding(sparc_table::specs::Turns::need_of, sparc_table::specs::Turns::turn_of))]
 pub fn turn<P: Port>(code: &[u32], regs: &mut Regs, port: &mut P) -> Outcome
     ensures run { IsRun (need_of code.now regs.old (P.lines port.old)) (turn_of code.now regs.old (P.lines port.old)) (seen regs.old (P.copy port.old) (P.calls port.old)) (seen regs.new (P.copy port.new) (P.calls port.new)) result }
+    ensures missed { (line : LineNo) → (mode : Mode) → (result ≡ Outcome.Miss line mode) ↔ IsMissing (need_of code.now regs.old (P.lines port.old)) (P.copy port.old) line mode }
+    ensures still { IsStill result → (regs.new ≡ regs.old) × Same (P.copy port.old) (P.copy port.new) }
     ensures lines { P.lines port.new ≡ P.lines port.old }
 {
     match fetch(code, regs.pc) {
@@ -48,8 +50,19 @@ fn fetch(code: &[u32], pc: u32) -> Result<Instr, u8>
 /// Runs one instruction over a port: its meaning, on the copy of the line that it needs.
 ///
 /// Without that copy the outcome is Miss. On Miss, Halt and Trap the registers and all copies stay.
-#[tactic(auto, unfolding(sparc_table::specs::Meaning::need, sparc_table::specs::Meaning::effect))]
 pub fn run_one<P: Port>(instr: &Instr, regs: &mut Regs, port: &mut P) -> Outcome
+    requires { Fits instr.now }
+    ensures run { IsRun (need instr.now regs.old (P.lines port.old)) (run_of instr.now regs.old (P.lines port.old)) (seen regs.old (P.copy port.old) (P.calls port.old)) (seen regs.new (P.copy port.new) (P.calls port.new)) result }
+    ensures missed { (line : LineNo) → (mode : Mode) → (result ≡ Outcome.Miss line mode) ↔ IsMissing (need instr.now regs.old (P.lines port.old)) (P.copy port.old) line mode }
+    ensures still { IsStill result → (regs.new ≡ regs.old) × Same (P.copy port.old) (P.copy port.new) }
+    ensures lines { P.lines port.new ≡ P.lines port.old }
+{
+    run_row(instr, regs, port)
+}
+
+// Runs an instruction by its row of the table.
+#[tactic(auto, unfolding(sparc_table::specs::Meaning::need, sparc_table::specs::Meaning::effect))]
+fn run_row<P: Port>(instr: &Instr, regs: &mut Regs, port: &mut P) -> Outcome
     requires { Fits instr.now }
     ensures run { IsRun (need instr.now regs.old (P.lines port.old)) (run_of instr.now regs.old (P.lines port.old)) (seen regs.old (P.copy port.old) (P.calls port.old)) (seen regs.new (P.copy port.new) (P.calls port.new)) result }
     ensures lines { P.lines port.new ≡ P.lines port.old }
