@@ -1,4 +1,4 @@
 mod Products
 mod Lanes
 mod Lines
-mod Outcomes
+pub mod Outcomes

@@ -10,3 +10,6 @@ mod turns;
 pub use ports::Port;
 pub use sparc_table::Outcome;
 pub use turns::{run_one, turn};
+
+#[cfg(test)]
+mod tests;
