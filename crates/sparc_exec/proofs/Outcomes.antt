@@ -6,26 +6,14 @@ use Rattle.alw_num.specs.declared.addresses.LineNo.{LineNo}
 use Rattle.alw_num.specs.declared.states.Mode.{Mode}
 use Rattle.alw_num.specs.declared.states.Mode.TheVariants.{Read, Write}
 use Rattle.sparc_table.specs.Meaning.{need, effect, IsStill}
-use Rattle.sparc_table.specs.Turns.{run_at, run_of}
-use Rattle.sparc_table.proofs.Effects.{IsOrderly, stops, orderly}
+use Rattle.sparc_table.proofs.Effects.{IsOrderly}
 use Rattle.sparc_table.specs.declared.registers.Regs.{Regs}
-use Rattle.sparc_table.specs.declared.instructions.Instr.{Instr}
 use Rattle.sparc_table.specs.declared.outcomes.Need.{Need}
 use Rattle.sparc_table.specs.declared.outcomes.Need.TheVariants as needs
 use Rattle.sparc_table.specs.declared.outcomes.Outcome.{Outcome}
 use Rattle.sparc_table.specs.declared.outcomes.Outcome.TheVariants as ends
 use Rattle.sparc_exec.specs.Ports.{Copies, granted, with_copy}
 use Rattle.sparc_exec.specs.Runs.{Seen, Same, Completed, IsRunOn, IsRun, IsMissing}
-
--- ---- the effects that runs have are orderly
-
-orderly_at : (need : Need) (instr : Instr) (regs : Regs) (line : Line) → IsOrderly regs line (run_at need instr regs line)
-orderly_at (needs.Trap type) instr regs line = stops regs line _ (λ l m e. cc)
-orderly_at needs.Nothing instr regs line = orderly instr regs line
-orderly_at (needs.Copy l m) instr regs line = orderly instr regs line
-
-pub orderly_run : (instr : Instr) (regs : Regs) (lines : ℕ) (line : Line) → IsOrderly regs line (run_of instr regs lines line)
-orderly_run instr regs lines line = orderly_at (need instr regs lines) instr regs line
 
 -- ---- copies
 

@@ -95,20 +95,23 @@ fn sign_extend_22(bits: u32) -> u32
 }
 
 // CALL.
-pub fn call(disp: u32, regs: &mut Regs)
+pub fn call(disp: u32, regs: &mut Regs) -> Outcome
     requires { disp < 2 ^ 30 }
-    ensures { regs.new ≡ transfer (call_target regs.old.pc disp) (with_register regs.old 15 regs.old.pc) }
+    ensures done { result ≡ Outcome.Done }
+    ensures regs { regs.new ≡ transfer (call_target regs.old.pc disp) (with_register regs.old 15 regs.old.pc) }
 {
     let target = regs.pc.wrapping_add(4 * disp);
     regs.set(15, regs.pc);
     transfer(target, regs);
+    Outcome::Done
 }
 
 // Bicc.
-pub fn branch(annul: bool, condition: u8, disp: u32, regs: &mut Regs)
+pub fn branch(annul: bool, condition: u8, disp: u32, regs: &mut Regs) -> Outcome
     requires condition { condition < 16 }
     requires disp { disp < 2 ^ 22 }
-    ensures { regs.new ≡ branched annul condition (holds condition regs.old) (branch_target regs.old.pc disp) regs.old }
+    ensures done { result ≡ Outcome.Done }
+    ensures regs { regs.new ≡ branched annul condition (holds condition regs.old) (branch_target regs.old.pc disp) regs.old }
 {
     let target = regs.pc.wrapping_add(sign_extend_22(disp).wrapping_mul(4));
     if holds(condition, regs) {
@@ -122,6 +125,7 @@ pub fn branch(annul: bool, condition: u8, disp: u32, regs: &mut Regs)
     } else {
         advance(regs);
     }
+    Outcome::Done
 }
 
 // JMPL.

@@ -1,9 +1,10 @@
-ghost use Rattle.std.specs.Prelude.{◌≡◌, ◌<◌, ◌↔◌, IsTrue, IsFalse, IfOk};
+ghost use Rattle.std.specs.Prelude.{◌≡◌, ◌<◌, ◌↔◌, bit_xor, IsTrue, IsFalse, IfOk};
 ghost use Rattle.alw_num.specs.Lanes.{IsAligned};
 ghost use Rattle.alw_num.specs.declared.addresses.LineNo.{LineNo};
 ghost use Rattle.alw_num.specs.declared.states.Mode.{Mode};
 ghost use Rattle.sparc_table.specs.Table.{Fits, FitsOperand};
-ghost use Rattle.sparc_table.specs.Registers.{with_register};
+ghost use Rattle.sparc_table.specs.Registers.{register, with_register};
+ghost use Rattle.sparc_table.specs.Operands.{operand_of};
 ghost use Rattle.sparc_table.specs.Access.{width_of, is_load};
 ghost use Rattle.sparc_table.specs.Control.{next};
 ghost use Rattle.sparc_table.specs.Meaning.{need, accessed, IsStill};
@@ -68,22 +69,17 @@ fn run_row<P: Port>(instr: &Instr, regs: &mut Regs, port: &mut P) -> Outcome
     ensures lines { P.lines port.new ≡ P.lines port.old }
 {
     match *instr {
-        Instr::Call { disp } => {
-            call(disp, regs);
-            Outcome::Done
-        }
+        Instr::Call { disp } => call(disp, regs),
         Instr::Sethi { rd, imm } => assign(rd, imm * 1024, regs),
-        Instr::Branch { annul, cond, disp } => {
-            branch(annul, cond, disp, regs);
-            Outcome::Done
-        }
+        Instr::Branch { annul, cond, disp } => branch(annul, cond, disp, regs),
         Instr::Arith {
             op3,
             rd,
             rs1,
             operand,
         } => {
-            calculate(op3, rd, regs.get(rs1), operand_value(operand, regs), regs);
+            let (x, y) = (regs.get(rs1), operand_value(operand, regs));
+            calculate(op3, rd, x, y, regs);
             advance(regs);
             Outcome::Done
         }
@@ -97,11 +93,7 @@ fn run_row<P: Port>(instr: &Instr, regs: &mut Regs, port: &mut P) -> Outcome
             assign(rd, value, regs)
         }
         Instr::ReadY { rd } => assign(rd, regs.y, regs),
-        Instr::WriteY { rs1, operand } => {
-            regs.y = regs.get(rs1) ^ operand_value(operand, regs);
-            advance(regs);
-            Outcome::Done
-        }
+        Instr::WriteY { rs1, operand } => write_y(rs1, operand, regs),
         Instr::Jmpl { rd, rs1, operand } => jump(rd, address(rs1, operand, regs), regs),
         Instr::TrapOn { cond, rs1, operand } => trap_on(cond, address(rs1, operand, regs), regs),
         Instr::Memory {
@@ -111,6 +103,18 @@ fn run_row<P: Port>(instr: &Instr, regs: &mut Regs, port: &mut P) -> Outcome
             operand,
         } => access(op3, rd, rs1, operand, regs, port),
     }
+}
+
+// WRY.
+fn write_y(rs1: u8, operand: Operand, regs: &mut Regs) -> Outcome
+    requires rs1 { rs1 < 32 }
+    requires operand { FitsOperand 13 operand }
+    ensures regs { regs.new ≡ next (record regs.old { y = bit_xor (register regs.old rs1) (operand_of operand regs.old) }) }
+    ensures done { result ≡ Outcome.Done }
+{
+    regs.y = regs.get(rs1) ^ operand_value(operand, regs);
+    advance(regs);
+    Outcome::Done
 }
 
 // rd gets a value, and the turn is done.

@@ -8,7 +8,7 @@ mod registers;
 mod words;
 
 pub use instructions::{Instr, Operand};
-pub use laws::{one_table, orderly_effects};
+pub use laws::{one_table, orderly_effects, orderly_turns};
 pub use outcomes::{Need, Outcome};
 pub use registers::Regs;
 pub use words::{decode, encode};

@@ -1,4 +1,5 @@
-use Rattle.sparc_exec.proofs.Outcomes.{orderly_run, missed_is, still_is}
+use Rattle.sparc_table.proofs.Effects.{orderly_run}
+use Rattle.sparc_exec.proofs.Outcomes.{missed_is, still_is}
 use Rattle.sparc_exec.proofs.turns.run_one.Goals as goal
 
 pub returns-clause-missed : goal.returns-clause-missed
