@@ -1,2 +1,3 @@
 mod Examples
+pub mod Effects
 pub mod Rows

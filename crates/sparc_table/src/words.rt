@@ -1,7 +1,6 @@
-ghost use Rattle.std.specs.Prelude.{◌≡◌, ◌==◌, ◌↔◌, ◌<◌, ◌^◌, ℕ, Some, IfSome, MatchOption, option_map};
+ghost use Rattle.std.specs.Prelude.{◌≡◌, ◌==◌, ◌<◌, ◌^◌, ℕ, Some, IfSome, MatchOption, option_map};
 ghost use Rattle.sparc_table.specs.Fields.{bits_of, op_of, op2_of, op3_of, rd_of, rs1_of, annul_of, cond_of};
 ghost use Rattle.sparc_table.specs.Table.{Fits, FitsOperand, IsSpelled, IsOutside, IsFormat3, is_in, arithmetic, accesses, only_if, instr_of, format_2, format_3, memory, register_in, operand_in, short_operand_in};
-ghost use Rattle.sparc_table.specs.declared.instructions.Instr.{Instr};
 
 use crate::instructions::{Instr, Operand};
 
@@ -21,12 +20,6 @@ pub fn decode(word: u32) -> Option<Instr>
         _ => decode_memory(word),
     }
 }
-
-/// The table read both ways: a word spells exactly the instruction that the table finds for it, so no
-/// word fits two rows.
-pub fn one_table()
-    ensures { (word : ℕ) → (instr : Instr) → IsSpelled instr word ↔ (instr_of word ≡ Some instr) }
-{}
 
 // SETHI and Bicc, by op2.
 fn decode_format_2(word: u32) -> Option<Instr>
