@@ -1,1 +1,3 @@
 pub mod Lanes
+pub mod NodeSets
+pub mod Weights

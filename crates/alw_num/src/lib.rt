@@ -4,11 +4,13 @@
 mod addresses;
 mod byte_list;
 mod memory;
+mod node_sets;
 mod sequences;
 mod states;
 
 pub use addresses::{Line, LineNo, NodeNo, SHARED_BASE, Width, home_of, lane, line_of, with_lane};
 pub use byte_list::Bytes;
 pub use memory::NoMemory;
+pub use node_sets::{MOST_NODES, NodeSet};
 pub use sequences::Sequence;
 pub use states::{Meta, Mode, State};

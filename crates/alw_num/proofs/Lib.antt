@@ -1,0 +1,4 @@
+pub mod Examples
+pub mod Sets
+pub mod Weigh
+pub mod Words

@@ -1,0 +1,123 @@
+ghost use Rattle.std.specs.Prelude.{◌≡◌, ◌<◌, ◌↔◌, ◌∷◌, IsTrue, IsNone, IfSome};
+ghost use Rattle.alw_num.specs.NodeSets.{no_nodes, has_node, add_node, drop_node, join_nodes, count_nodes, members, nodes_of};
+
+use crate::addresses::NodeNo;
+
+/// The number of nodes that a set can hold: node numbers are below it.
+pub const MOST_NODES: u16 = 256;
+
+// The number of bits in a word of a set.
+const WORD_BITS: u16 = 128;
+
+/// A set of nodes, in 256 bits: node n is bit n of `low` below 128, and bit n - 128 of `high`
+/// otherwise.
+#[derive(Clone, Copy, Debug, PartialEq, Eq)]
+pub struct NodeSet {
+    pub low: u128,
+    pub high: u128,
+}
+
+impl NodeSet {
+    /// The set without a member.
+    #[tactic(auto, using(crate::proofs::Words::nothing))]
+    pub fn empty() -> NodeSet
+        ensures { nodes_of result ≡ no_nodes }
+    {
+        NodeSet { low: 0, high: 0 }
+    }
+
+    /// Whether a node is a member.
+    #[tactic(auto, using(crate::proofs::Words::has_low, crate::proofs::Words::has_high))]
+    pub fn has(&self, n: NodeNo) -> bool
+        requires { n.0 < MOST_NODES }
+        ensures { result ≡ has_node (nodes_of self.now) n.0 }
+    {
+        if n.0 < WORD_BITS {
+            self.low >> n.0 & 1 == 1
+        } else {
+            self.high >> (n.0 - WORD_BITS) & 1 == 1
+        }
+    }
+
+    /// The set and a node.
+    #[tactic(auto, using(crate::proofs::Words::with_low, crate::proofs::Words::with_high))]
+    pub fn with(self, n: NodeNo) -> NodeSet
+        requires { n.0 < MOST_NODES }
+        ensures { nodes_of result ≡ add_node (nodes_of self) n.0 }
+    {
+        let NodeSet { low, high } = self;
+        if n.0 < WORD_BITS {
+            NodeSet {
+                low: low | 1 << n.0,
+                high,
+            }
+        } else {
+            NodeSet {
+                low,
+                high: high | 1 << (n.0 - WORD_BITS),
+            }
+        }
+    }
+
+    /// The set without a node.
+    #[tactic(auto, using(crate::proofs::Words::without_low, crate::proofs::Words::without_high, crate::proofs::Words::without_past))]
+    pub fn without(self, n: NodeNo) -> NodeSet
+        ensures { nodes_of result ≡ drop_node (nodes_of self) n.0 }
+    {
+        let NodeSet { low, high } = self;
+        if n.0 < WORD_BITS {
+            NodeSet {
+                low: low & !(1 << n.0),
+                high,
+            }
+        } else if n.0 < MOST_NODES {
+            NodeSet {
+                low,
+                high: high & !(1 << (n.0 - WORD_BITS)),
+            }
+        } else {
+            self
+        }
+    }
+
+    /// The nodes of both sets.
+    #[tactic(auto, using(crate::proofs::Words::joined))]
+    pub fn union(self, o: NodeSet) -> NodeSet
+        ensures { nodes_of result ≡ join_nodes (nodes_of self) (nodes_of o) }
+    {
+        NodeSet {
+            low: self.low | o.low,
+            high: self.high | o.high,
+        }
+    }
+
+    /// The number of members.
+    #[tactic(auto, using(crate::proofs::Words::counted))]
+    pub fn count(&self) -> u32
+        ensures { result ≡ count_nodes (nodes_of self.now) }
+    {
+        self.low.count_ones() + self.high.count_ones()
+    }
+
+    /// The least member. With `without` it goes over a set in ascending order.
+    #[tactic(auto, using(crate::proofs::Words::some_low, crate::proofs::Words::first_low, crate::proofs::Words::some_high, crate::proofs::Words::first_high, crate::proofs::Words::none_here))]
+    pub fn lowest(&self) -> Option<NodeNo>
+        ensures none { IsNone result ↔ (nodes_of self.now ≡ no_nodes) }
+        ensures lowest { IfSome result (λ n. members (nodes_of self.now) ≡ n.0 ∷ members (drop_node (nodes_of self.now) n.0)) }
+        ensures within { IfSome result (λ n. n.0 < MOST_NODES) }
+    {
+        if self.low != 0 {
+            Some(NodeNo(self.low.trailing_zeros() as u16))
+        } else if self.high != 0 {
+            Some(NodeNo(WORD_BITS + self.high.trailing_zeros() as u16))
+        } else {
+            None
+        }
+    }
+
+    pub fn is_empty(&self) -> bool
+        ensures { IsTrue result ↔ (nodes_of self.now ≡ no_nodes) }
+    {
+        self.lowest().is_none()
+    }
+}
