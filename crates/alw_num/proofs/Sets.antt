@@ -1,13 +1,14 @@
 -- Laws of sets of nodes.
-use Rattle.std.proofs.Common.{◌≡◌, ℕ, zero, suc, ◌+◌, ◌/◌, ◌%◌, ◌^◌, ◌<◌, ◌≤◌, ◌==◌, Bool, true, false, cond, ◌||◌, List, [], ◌∷◌, length, refl, ap, ◌∙◌, ◌⊎◌, inl, inr, arith, bit_and, count_ones}
+use Rattle.std.proofs.Common.{◌≡◌, ℕ, zero, suc, ◌+◌, ◌/◌, ◌%◌, ◌^◌, ◌<◌, ◌≤◌, ◌≢◌, ◌==◌, Bool, true, false, cond, ◌||◌, List, [], ◌∷◌, length, refl, sym, ap, ◌∙◌, ◌⊎◌, inl, inr, arith, bit_and, count_ones}
 use Rattle.std.specs.Int.Count.{ones, ones_step}
 use Rattle.std.specs.Int.{bit_at}
+use Rattle.std.specs.List.{AllByRecursion}
 use Rattle.std.proofs.lemmas.Bool.{eqb-true, eqb-false, eq-eqb, ne_eqb, cases_order}
 use Rattle.std.proofs.lemmas.Bool.Decides.{nat_tests}
 use Rattle.std.proofs.lemmas.Nat.Bits.{same_from_bits, bit_at-lt, bit_at-zero, bit_at_lowest, bit_at-suc, bit_at_or, bit_at_and, bit_at_xor, bit_at-pow_same, bit_at-pow_other}
 use Rattle.alw_num.specs.NodeSets.{Nodes, no_nodes, has_node, add_node, drop_node, one_node, join_nodes, members, count_nodes, places, front_if}
-use Rattle.alw_num.specs.Weights.{digit, times}
-use Rattle.alw_num.proofs.Weigh.{is_node, digit_same, digit_other, cases_lt_then}
+use Rattle.alw_num.specs.Weights.{digit, weigh, times, sum_below}
+use Rattle.alw_num.proofs.Weigh.{is_node, digit_same, digit_other, digit_le, digit_of_more, true_of_digit, cases_lt_then, sum_same, sum_le, sum_both, sum_ones, sum_at, sum_times}
 
 bit_by_test : (a b : ℕ) → a < 2 → b < 2 → (a == 1) ≡ (b == 1) → a ≡ b
 bit_by_test a b l m e = grind (arith, nat_tests)
@@ -164,3 +165,152 @@ members-least P m here before = members_are P m (m ∷ members (drop_node P m))
 pub count-bits : (P : Nodes) → count_nodes P ≡ count_ones P.bits
 unfolding members
 count-bits P = places-length P.bits (P.bits == 0) 0 P.bits (omega arith) refl
+
+-- what is in a set that is made of others
+pub ruleset has_laws = (has-none, has-one, has-add, has-drop, has-join)
+
+pub add_member : (P : Nodes) (n : ℕ) → has_node P n ≡ true → add_node P n ≡ P
+add_member P n here = same_nodes _ _ (λ k. grind (arith, nat_tests, has-add P n k))
+
+pub drop_stranger : (P : Nodes) (n : ℕ) → has_node P n ≡ false → drop_node P n ≡ P
+drop_stranger P n gone = same_nodes _ _ (λ k. grind (arith, nat_tests, has-drop P n k))
+
+pub drop-add : (P : Nodes) (n : ℕ) → has_node P n ≡ false → drop_node (add_node P n) n ≡ P
+drop-add P n gone = same_nodes _ _ (λ k. grind (arith, nat_tests, has-drop (add_node P n) n k, has-add P n k))
+
+pub add-drop : (P : Nodes) (n : ℕ) → has_node P n ≡ true → add_node (drop_node P n) n ≡ P
+add-drop P n here = same_nodes _ _ (λ k. grind (arith, nat_tests, has-add (drop_node P n) n k, has-drop P n k))
+
+pub join-none : (P : Nodes) → join_nodes P no_nodes ≡ P
+join-none P = same_nodes _ _ (λ k. grind (arith, has-join P no_nodes k, has-none k))
+
+pub none-join : (P : Nodes) → join_nodes no_nodes P ≡ P
+none-join P = same_nodes _ _ (λ k. grind (arith, has-join no_nodes P k, has-none k))
+
+pub join-add : (P Q : Nodes) (n : ℕ) → join_nodes P (add_node Q n) ≡ add_node (join_nodes P Q) n
+join-add P Q n = same_nodes _ _ (λ k. grind (arith, nat_tests, has-join P (add_node Q n) k, has-add Q n k, has-add (join_nodes P Q) n k, has-join P Q k))
+
+pub add-join : (P Q : Nodes) (n : ℕ) → join_nodes (add_node P n) Q ≡ add_node (join_nodes P Q) n
+add-join P Q n = same_nodes _ _ (λ k. grind (arith, nat_tests, has-join (add_node P n) Q k, has-add P n k, has-add (join_nodes P Q) n k, has-join P Q k))
+
+-- how often a node stands among the members without another
+pub times-drop : (P : Nodes) (n k : ℕ) → times k (members (drop_node P n)) ≡ cond (k == n) 0 (digit (has_node P k))
+times-drop P n k = member (drop_node P n) k ∙ ap digit (has-drop P n k) ∙ inside (k == n) (has_node P k)
+  where
+    inside : (b c : Bool) → digit (cond b false c) ≡ cond b 0 (digit c)
+    inside true c = refl
+    inside false c = refl
+
+false_of_digit : (b : Bool) → digit b ≡ 0 → b ≡ false
+false_of_digit true e = absurd (omega arith)
+false_of_digit false e = refl
+
+pub has_of_times : (P : Nodes) (k : ℕ) → 1 ≤ times k (members P) → has_node P k ≡ true
+has_of_times P k l = true_of_digit (has_node P k) (omega (arith, member P k))
+
+pub none_of_members : (P : Nodes) → members P ≡ [] → P ≡ no_nodes
+none_of_members P e = same_nodes P no_nodes (λ k. false_of_digit (has_node P k) (sym (member P k) ∙ ap (times k) e) ∙ sym (has-none k))
+
+pub has_front : (P : Nodes) (m : ℕ) (rest : List ℕ) → members P ≡ m ∷ rest → has_node P m ≡ true
+has_front P m rest e = has_of_times P m (omega (arith, ap (times m) e, digit_same m m refl))
+
+-- the members without the first of them
+pub members-drop_front : (P : Nodes) (m : ℕ) (rest : List ℕ) → members P ≡ m ∷ rest → members (drop_node P m) ≡ rest
+members-drop_front P m rest e =
+    let order : AscendsFrom 0 (m ∷ rest) = rw e at (members-ascend P) in
+    members_are (drop_node P m) (m + 1) rest order.1 (λ k.
+    let whole : digit (k == m) + times k rest ≡ digit (has_node P k) = sym (ap (times k) e) ∙ member P k in
+    let later = times_before (m + 1) rest k order.1 in
+    rw (has-drop P m k) (is_node (times k rest ≡ digit (cond (k == m) false (has_node P k))) k m
+    (λ same. rw (eq-eqb k m same) (later (omega arith)))
+    (λ other. rw (ne_eqb k m other) (omega (arith, digit_other k m other)))))
+
+pub one_of_members : (P : Nodes) (n : ℕ) → members P ≡ n ∷ [] → P ≡ one_node n
+one_of_members P n e =
+    sym (add-drop P n (has_front P n [] e)) ∙ ap (λ Q. add_node Q n) (none_of_members (drop_node P n) (members-drop_front P n [] e))
+
+each_of : (Q : ℕ → Type 0) (js : List ℕ) → ((k : ℕ) → 1 ≤ times k js → Q k) → AllByRecursion Q js
+each_of Q [] each = tt
+each_of Q (j ∷ js) each = (each j (omega (arith, digit_same j j refl)), each_of Q js (λ k l. each k (omega arith)))
+
+-- what holds of each node in a set holds of each of its members
+pub each_member : (P : Nodes) (Q : ℕ → Type 0) → ((k : ℕ) → has_node P k ≡ true → Q k) → AllByRecursion Q (members P)
+each_member P Q each = each_of Q (members P) (λ k l. each k (has_of_times P k l))
+
+-- numbers that stand nowhere in a list: those above the sum of all in it
+pub times_beyond : (js : List ℕ) (k : ℕ) → weigh (λ j. j) js < k → times k js ≡ 0
+times_beyond [] k l = refl
+times_beyond (j ∷ js) k l = omega (arith, digit_other k j (λ e. omega arith), times_beyond js k (omega arith))
+
+-- the number of members, node by node
+pub count-sum : (P : Nodes) (n : ℕ) → ((k : ℕ) → n ≤ k → has_node P k ≡ false) → count_nodes P ≡ sum_below n (λ k. digit (has_node P k))
+count-sum P n past = sym (sum_times n (members P) (λ k l. member P k ∙ ap digit (past k l))) ∙ sum_same n _ _ (λ k l. member P k)
+
+last_of : Nodes → ℕ
+last_of P = weigh (λ j. j) (members P)
+
+past_last : (P : Nodes) (k : ℕ) → last_of P < k → has_node P k ≡ false
+unfolding last_of
+past_last P k l = false_of_digit (has_node P k) (sym (member P k) ∙ times_beyond (members P) k l)
+
+pub count-none : count_nodes no_nodes ≡ 0
+count-none = ap length members-none
+
+pub count-one : (n : ℕ) → count_nodes (one_node n) ≡ 1
+count-one n = ap length (members-one n)
+
+pub count-members : (P : Nodes) → count_nodes P ≡ length (members P)
+count-members P = refl
+
+pub none_of_count : (P : Nodes) → count_nodes P ≡ 0 → P ≡ no_nodes
+none_of_count P e = none_of_members P (empty (members P) e)
+  where
+    empty : (js : List ℕ) → length js ≡ 0 → js ≡ []
+    empty [] is = refl
+    empty (j ∷ js) is = absurd (omega arith)
+
+-- a node more or less
+count_differs : (P Q : Nodes) (n : ℕ) → ((k : ℕ) → k ≢ n → has_node P k ≡ has_node Q k) → count_nodes P + digit (has_node Q n) ≡ count_nodes Q + digit (has_node P n)
+count_differs P Q n same =
+    let most : ℕ = last_of P + last_of Q + n + 1 in
+    let p = count-sum P most (λ k l. past_last P k (omega arith)) in
+    let q = count-sum Q most (λ k l. past_last Q k (omega arith)) in
+    let s = sum_at most (λ k. digit (has_node P k)) (λ k. digit (has_node Q k)) n (omega arith) (λ k d. ap digit (same k d)) in
+    omega arith
+
+pub count-add : (P : Nodes) (n : ℕ) → count_nodes (add_node P n) + digit (has_node P n) ≡ count_nodes P + 1
+count-add P n =
+    let here : has_node (add_node P n) n ≡ true = has-add P n n ∙ rw (eq-eqb n n refl) in
+    omega (arith, count_differs (add_node P n) P n (λ k d. has-add P n k ∙ rw (ne_eqb k n d)), ap digit here)
+
+pub count-drop : (P : Nodes) (n : ℕ) → count_nodes (drop_node P n) + digit (has_node P n) ≡ count_nodes P
+count-drop P n =
+    let gone : has_node (drop_node P n) n ≡ false = has-drop P n n ∙ rw (eq-eqb n n refl) in
+    omega (arith, count_differs (drop_node P n) P n (λ k d. has-drop P n k ∙ rw (ne_eqb k n d)), ap digit gone)
+
+-- a set whose nodes are all in another has no more of them
+pub count-le : (P Q : Nodes) → ((k : ℕ) → has_node P k ≡ true → has_node Q k ≡ true) → count_nodes P ≤ count_nodes Q
+count-le P Q within =
+    let most : ℕ = last_of P + last_of Q + 1 in
+    let p = count-sum P most (λ k l. past_last P k (omega arith)) in
+    let q = count-sum Q most (λ k l. past_last Q k (omega arith)) in
+    let s = sum_le most (λ k. digit (has_node P k)) (λ k. digit (has_node Q k)) (λ k l. digit_of_more (has_node P k) (has_node Q k) (within k)) in
+    omega arith
+
+pub count-join : (P Q : Nodes) → count_nodes (join_nodes P Q) ≤ count_nodes P + count_nodes Q
+count-join P Q =
+    let most : ℕ = last_of P + last_of Q + last_of (join_nodes P Q) + 1 in
+    let p = count-sum P most (λ k l. past_last P k (omega arith)) in
+    let q = count-sum Q most (λ k l. past_last Q k (omega arith)) in
+    let j = count-sum (join_nodes P Q) most (λ k l. past_last (join_nodes P Q) k (omega arith)) in
+    let s = sum_le most (λ k. digit (has_node (join_nodes P Q) k)) (λ k. digit (has_node P k) + digit (has_node Q k)) (λ k l. rw (has-join P Q k) (digit_or (has_node P k) (has_node Q k))) in
+    let b = sum_both most (λ k. digit (has_node P k)) (λ k. digit (has_node Q k)) in
+    omega arith
+  where
+    digit_or : (a b : Bool) → digit (a || b) ≤ digit a + digit b
+    digit_or true b = omega arith
+    digit_or false b = omega arith
+
+-- a set of nodes below n has no more than n
+pub count_below : (P : Nodes) (n : ℕ) → ((k : ℕ) → n ≤ k → has_node P k ≡ false) → count_nodes P ≤ n
+count_below P n past = omega (arith, count-sum P n past, sum_le n (λ k. digit (has_node P k)) (λ k. 1) (λ k l. digit_le (has_node P k)), sum_ones n)

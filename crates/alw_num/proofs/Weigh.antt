@@ -1,5 +1,5 @@
 -- Laws of the weight of a list and of sums over the nodes below a number.
-use Rattle.std.proofs.Common.{◌≡◌, ℕ, zero, suc, ◌+◌, ◌*◌, ◌<◌, ◌≤◌, ◌≢◌, ◌==◌, Bool, true, false, List, [], ◌∷◌, ◌++◌, length, refl, sym, ap, ⊎_elim, arith}
+use Rattle.std.proofs.Common.{◌≡◌, ℕ, zero, suc, ◌+◌, ◌*◌, ◌<◌, ◌≤◌, ◌≢◌, ◌==◌, Bool, true, false, cond, List, [], ◌∷◌, ◌++◌, length, refl, sym, subst, ap, ⊎_elim, arith}
 use Rattle.std.proofs.lemmas.Bool.{eqb-true, eqb-false, eq-eqb, ne_eqb, cases_lt}
 use Rattle.std.proofs.Math.Nat.{mul-add}
 use Rattle.alw_num.specs.Weights.{digit, weigh, times, sum_below}
@@ -12,6 +12,14 @@ is_node P k i same other = go (k == i) refl
     go true e = same (eqb-true k i e)
     go false e = other (eqb-false k i e)
 
+-- a fact at each place, of a function that is changed at one
+pub at_nodes : {A : Type 0} (P : ℕ → A → Type 0) (f : ℕ → A) (i : ℕ) (v : A) → P i v → ((k : ℕ) → k ≢ i → P k (f k)) → (k : ℕ) → P k (cond (k == i) v (f k))
+at_nodes P f i v here there k = go (k == i) refl
+  where
+    go : (b : Bool) → (k == i) ≡ b → P k (cond b v (f k))
+    go true e = let same : i ≡ k = sym (eqb-true k i e) in subst (λ j. P j v) same here
+    go false e = there k (eqb-false k i e)
+
 -- a fact below a number, and from it on
 pub cases_lt_then : {P : Type 0} (n j : ℕ) → (j < n → P) → (n ≤ j → P) → P
 cases_lt_then n j below from = ⊎_elim below from (cases_lt j n)
@@ -19,6 +27,10 @@ cases_lt_then n j below from = ⊎_elim below from (cases_lt j n)
 pub digit_le : (b : Bool) → digit b ≤ 1
 digit_le true = omega arith
 digit_le false = omega arith
+
+pub digit_of_more : (a b : Bool) → (a ≡ true → b ≡ true) → digit a ≤ digit b
+digit_of_more true b more = rw (more refl) (omega arith)
+digit_of_more false b more = omega arith
 
 pub true_of_digit : (b : Bool) → 1 ≤ digit b → b ≡ true
 true_of_digit true h = refl
@@ -69,6 +81,10 @@ sum_le (suc n) f g le = omega (arith, le n (omega arith), sum_le n f g (λ i l. 
 pub sum_none : (n : ℕ) (f : ℕ → ℕ) → ((i : ℕ) → i < n → f i ≡ 0) → sum_below n f ≡ 0
 sum_none zero f is = refl
 sum_none (suc n) f is = omega (arith, is n (omega arith), sum_none n f (λ i l. is i (omega arith)))
+
+pub sum_ones : (n : ℕ) → sum_below n (λ k. 1) ≡ n
+sum_ones zero = refl
+sum_ones (suc n) = omega (arith, sum_ones n)
 
 pub sum_both : (n : ℕ) (f g : ℕ → ℕ) → sum_below n (λ i. f i + g i) ≡ sum_below n f + sum_below n g
 sum_both zero f g = refl

@@ -1,6 +1,5 @@
 -- A set of nodes is the number whose binary digit n says whether node n is in it, so that two sets with the same members are equal.
-use Rattle.std.specs.Prelude.{ℕ, zero, suc, ◌+◌, ◌*◌, ◌/◌, ◌%◌, ◌^◌, List, [], ◌∷◌, length, Bool, true, false, ◌==◌, bit_and, bit_or, bit_xor}
-use Rattle.std.proofs.Common.{refl}
+use Rattle.std.specs.Prelude.{ℕ, zero, suc, ◌+◌, ◌*◌, ◌/◌, ◌%◌, ◌^◌, List, [], ◌∷◌, length, Bool, true, false, ◌==◌, bit_and, bit_or, bit_xor, refl}
 use Rattle.std.specs.Int.{bit_at}
 use Rattle.std.specs.Coded.{Coded, code_by, coded_ℕ}
 use Rattle.alw_num.specs.declared.node_sets.NodeSet.{NodeSet}

@@ -1,1 +1,9 @@
 pub mod Registers
+pub mod Fields
+pub mod Table
+pub mod Operands
+pub mod Arithmetic
+pub mod Control
+pub mod Access
+pub mod Meaning
+pub mod Turns

@@ -1,5 +1,5 @@
 -- The registers of a context as a value: what is read from one, and what a write leaves.
-use Rattle.std.specs.Prelude.{ℕ, ◌+◌, ◌%◌, ◌^◌, ◌==◌, if◌then◌else◌, false, slice_index, slice_set, replicate}
+use Rattle.std.specs.Prelude.{ℕ, ◌+◌, ◌%◌, ◌^◌, ◌==◌, if◌then◌else◌, Bool, true, false, not, slice_index, slice_set, replicate}
 use Rattle.sparc_table.specs.declared.registers.Regs.{Regs}
 
 -- the value of a register: register 0 reads 0
@@ -22,3 +22,8 @@ start_of pc o0 o1 = record {
   pc = pc;
   npc = (pc + 4) % 2 ^ 32;
 }
+
+-- exclusive or of two codes: one is set and the other isn't
+abbrev pub differ : Bool → Bool → Bool
+differ true b = not b
+differ false b = b
