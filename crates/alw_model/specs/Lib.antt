@@ -3,3 +3,7 @@ pub mod FullMap
 pub mod LimitLess
 pub mod Caches
 pub mod Contexts
+pub mod Messages
+pub mod NodeStates
+pub mod NodeSteps
+pub mod Machine
