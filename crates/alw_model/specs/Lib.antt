@@ -7,3 +7,6 @@ pub mod Messages
 pub mod NodeStates
 pub mod NodeSteps
 pub mod Machine
+pub mod Flat
+pub mod Lines
+pub mod Runs
