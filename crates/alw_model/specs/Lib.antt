@@ -10,3 +10,4 @@ pub mod Machine
 pub mod Flat
 pub mod Lines
 pub mod Runs
+pub mod Rows

@@ -8,7 +8,8 @@ use Rattle.alw_num.specs.declared.addresses.Line.{Line}
 use Rattle.alw_num.specs.declared.addresses.Width.TheVariants.{Word}
 use Rattle.alw_num.specs.declared.states.State.{State}
 use Rattle.alw_num.specs.declared.states.State.TheVariants.{RO, RW, RT, WT}
-use Rattle.alw_num.specs.NodeSets.{count_nodes}
+use Rattle.alw_num.specs.declared.states.Meta.{Meta}
+use Rattle.alw_num.specs.NodeSets.{Nodes, members, count_nodes}
 use Rattle.sparc_table.specs.declared.outcomes.Outcome.{Outcome}
 use Rattle.alw_msg.specs.declared.messages.Kind.{Kind}
 use Rattle.alw_msg.specs.declared.messages.Kind.TheVariants as kinds
@@ -108,6 +109,40 @@ acted_on home (message ∷ rest) = acted_on (act home message.0 message.1).0 res
 -- the full map after a journal
 abbrev pub full_map_after : Parts → Parameters → List Entry → ℕ → Home
 full_map_after parts parameters journal line = acted_on (home_start (body_of parts line)) (acted_messages parts parameters journal line)
+
+-- ---- memory and directory
+
+-- the words of a line that aren't 0, each with its address
+abbrev pub words_of : ℕ → Line → List (ℕ × ℕ)
+words_of line body = flat_map (λ offset. word_unless_zero (SHARED_BASE + 16 * line + offset) (lane_of body offset Word)) (0 ∷ 4 ∷ 8 ∷ 12 ∷ [])
+  where
+    word_unless_zero : ℕ → ℕ → List (ℕ × ℕ)
+    word_unless_zero address word = cond (word == 0) [] ((address, word) ∷ [])
+
+-- the words of shared data whose current value isn't 0, each with its address, ascending
+abbrev pub memory_words : Parts → Parameters → MachineState → List (ℕ × ℕ)
+memory_words parts parameters machine = flat_map (λ line. words_of line (current_value parts parameters machine line)) (range_with_len 0 (line_count parts))
+
+-- what the report says of an entry: line, state, meta state, H and S as ascending lists, and the counter
+pub record DirectoryLine : Type 0 where
+  pub line : ℕ
+  pub state : State
+  pub meta : Meta
+  pub hardware : List ℕ
+  pub software : List ℕ
+  pub acks : ℕ
+
+-- an entry is listed where it isn't Read-Only or P isn't empty
+abbrev pub is_listed : State → Nodes → Bool
+is_listed RO pointers = not (count_nodes pointers == 0)
+is_listed _ pointers = true
+
+abbrev pub directory_line : ℕ → Directory → List DirectoryLine
+directory_line line entry = cond (is_listed entry.state (full_map_of entry).pointers) (record { line = line; state = entry.state; meta = entry.meta; hardware = members entry.hardware; software = members entry.software; acks = entry.acks } ∷ []) []
+
+-- the listed entries, by line
+abbrev pub directory_lines : Parts → MachineState → List DirectoryLine
+directory_lines parts machine = flat_map (λ line. directory_line line (home_at parts (node_at machine (home_node parts line)) line)) (range_with_len 0 (line_count parts))
 
 -- ---- counts
 
