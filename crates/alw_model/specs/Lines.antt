@@ -1,5 +1,5 @@
 -- What a machine's state says of one line: its home's entry and pending packets, and each node's copy, transaction and messages; who carries its current value.
-use Rattle.std.specs.Prelude.{ℕ, Bool, cond, ◌&&◌, ◌==◌, Option, Some, None, List, [], ◌∷◌, ◌++◌, map, option_map, flat_map}
+use Rattle.std.specs.Prelude.{ℕ, cond, ◌==◌, Option, Some, None, List, [], ◌∷◌, ◌++◌, map, option_map, flat_map}
 use Rattle.std.specs.List.{range_with_len}
 use Rattle.alw_num.specs.declared.addresses.Line.{Line}
 use Rattle.alw_num.specs.declared.states.Mode.{Mode}
@@ -9,8 +9,8 @@ use Rattle.alw_image.specs.declared.parts.Parts.{Parts}
 use Rattle.alw_image.specs.Images.{node_count}
 use Rattle.alw_image.specs.Parameters.{Parameters}
 use Rattle.alw_model.specs.Maps.{value_at}
-use Rattle.alw_model.specs.FullMap.{ToMemory, REPM, UPDATE, ToCache, WDATA, Home}
-use Rattle.alw_model.specs.LimitLess.{Directory, full_map_of}
+use Rattle.alw_model.specs.FullMap.{ToMemory, REPM, UPDATE, ToCache, WDATA}
+use Rattle.alw_model.specs.LimitLess.{Directory}
 use Rattle.alw_model.specs.Caches.{Copy, Transaction, copy_at}
 use Rattle.alw_model.specs.Messages.{Content, ForMemory, ForCache, content, home_node}
 use Rattle.alw_model.specs.NodeStates.{home_at}

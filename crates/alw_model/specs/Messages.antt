@@ -1,5 +1,5 @@
 -- Messages on links: what each kind carries, how the sender writes one, and which are fit for their link (Chaiken, Kubiatowicz and Agarwal, ASPLOS 1991, the table of protocol messages).
-use Rattle.std.specs.Prelude.{ℕ, ◌-◌, ◌/◌, ◌^◌, Bool, ◌&&◌, ◌==◌, nat_lt, List, [], ◌∷◌, map}
+use Rattle.std.specs.Prelude.{ℕ, ◌-◌, ◌/◌, ◌^◌, Bool, ◌&&◌, ◌==◌, nat_lt, List, map}
 use Rattle.alw_num.specs.declared.addresses.Line.{Line}
 use Rattle.alw_msg.specs.declared.messages.Kind.{Kind}
 use Rattle.alw_msg.specs.declared.messages.Kind.TheVariants as kinds

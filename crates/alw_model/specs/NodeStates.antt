@@ -1,7 +1,6 @@
 -- The state of a node: its contexts, its cache and transactions, the entries of its home lines, its packet queue and its clock (Lamport 1978).
-use Rattle.std.specs.Prelude.{ℕ, ◌+◌, ◌-◌, ◌*◌, ◌%◌, ◌^◌, Bool, true, false, not, ◌&&◌, ◌==◌, nat_lt, max, Option, Some, None, is_some, List, [], ◌∷◌, map, length, slice_index_or, slice_set}
+use Rattle.std.specs.Prelude.{ℕ, ◌+◌, ◌-◌, ◌*◌, ◌%◌, ◌^◌, Bool, true, false, not, ◌&&◌, ◌==◌, nat_lt, max, Option, Some, None, is_some, List, [], ◌∷◌, map, slice_index_or, slice_set}
 use Rattle.std.specs.List.{range_with_len}
-use Rattle.alw_num.specs.declared.addresses.Line.{Line}
 use Rattle.alw_msg.specs.declared.messages.Msg.{Msg}
 use Rattle.alw_msg.specs.declared.events.Event.{Event}
 use Rattle.alw_msg.specs.declared.events.Event.TheVariants.{Instr, Handle, Deliver, Evict}
@@ -9,7 +8,7 @@ use Rattle.alw_image.specs.declared.parts.Parts.{Parts}
 use Rattle.alw_image.specs.Images.{node_count, body_of, is_always, zero_line}
 use Rattle.alw_image.specs.Parameters.{Parameters}
 use Rattle.alw_model.specs.Maps.{empty_map, value_at}
-use Rattle.alw_model.specs.FullMap.{ToCache, RDATA, WDATA, INV, BUSY}
+use Rattle.alw_model.specs.FullMap.{ToCache, INV, BUSY}
 use Rattle.alw_model.specs.LimitLess.{Directory, directory_start, is_in_progress}
 use Rattle.alw_model.specs.Caches.{Copy, Cache, Transactions, set_of, replaced_by}
 use Rattle.alw_model.specs.Contexts.{Slot, slots_start, running, is_held}

@@ -1,5 +1,5 @@
 -- What is read off a journal: turns and prints, the messages that a line's home acted on, the full map that they leave, and the counts of the report.
-use Rattle.std.specs.Prelude.{ℕ, ◌+◌, ◌-◌, ◌*◌, ◌/◌, ◌%◌, Bool, true, false, cond, not, ◌&&◌, ◌||◌, ◌==◌, Option, Some, None, List, [], ◌∷◌, ◌++◌, map, length, fold, flat_map, is_some}
+use Rattle.std.specs.Prelude.{ℕ, ◌+◌, ◌-◌, ◌*◌, ◌/◌, ◌%◌, Bool, true, false, cond, not, ◌==◌, Option, Some, None, List, [], ◌∷◌, map, flat_map, is_some}
 use Rattle.std.specs.List.{range_with_len}
 use Rattle.alw_num.specs.Lanes.{lane_of}
 use Rattle.alw_num.specs.Weights.{digit, weigh}
@@ -7,7 +7,7 @@ use Rattle.alw_num.specs.declared.addresses.TheConstants.{SHARED_BASE}
 use Rattle.alw_num.specs.declared.addresses.Line.{Line}
 use Rattle.alw_num.specs.declared.addresses.Width.TheVariants.{Word}
 use Rattle.alw_num.specs.declared.states.State.{State}
-use Rattle.alw_num.specs.declared.states.State.TheVariants.{RO, RW, RT, WT}
+use Rattle.alw_num.specs.declared.states.State.TheVariants.{RO}
 use Rattle.alw_num.specs.declared.states.Meta.{Meta}
 use Rattle.alw_num.specs.NodeSets.{Nodes, members, count_nodes}
 use Rattle.sparc_table.specs.declared.outcomes.Outcome.{Outcome}
@@ -15,21 +15,22 @@ use Rattle.alw_msg.specs.declared.messages.Kind.{Kind}
 use Rattle.alw_msg.specs.declared.messages.Kind.TheVariants as kinds
 use Rattle.alw_msg.specs.declared.messages.Msg.{Msg}
 use Rattle.alw_msg.specs.declared.events.Event.{Event}
-use Rattle.alw_msg.specs.declared.events.Event.TheVariants.{Instr, Handle, Deliver, Evict}
 use Rattle.alw_msg.specs.declared.events.Entry.{Entry}
+use Rattle.alw_msg.specs.declared.contexts.Status.{Status}
+use Rattle.alw_msg.specs.declared.contexts.Status.TheVariants.{Ready, Waiting}
 use Rattle.alw_image.specs.declared.parts.Parts.{Parts}
-use Rattle.alw_image.specs.Images.{body_of, line_count, node_count}
+use Rattle.alw_image.specs.Images.{body_of, line_count}
 use Rattle.alw_image.specs.Parameters.{Parameters}
 use Rattle.alw_model.specs.declared.steps.Did.{Did}
-use Rattle.alw_model.specs.declared.steps.Did.TheVariants.{Turn, Missed, Took, Packet, Handled, Evicted}
+use Rattle.alw_model.specs.declared.steps.Did.TheVariants.{Turn, Missed, Took, Handled, Evicted}
 use Rattle.alw_model.specs.FullMap.{ToMemory, Home, home_start, act}
 use Rattle.alw_model.specs.LimitLess.{Directory, full_map_of}
-use Rattle.alw_model.specs.Contexts.{slot_at}
-use Rattle.alw_model.specs.Messages.{Content, ForMemory, ForCache, content, home_node}
+use Rattle.alw_model.specs.Contexts.{Slot, slot_at}
+use Rattle.alw_model.specs.Messages.{content, home_node}
 use Rattle.alw_model.specs.NodeStates.{NodeState, node_of, home_at}
 use Rattle.alw_model.specs.NodeSteps.{Stepped}
 use Rattle.alw_model.specs.Machine.{MachineState, machine_start, node_at, taken_by, stepped_by, after_step}
-use Rattle.alw_model.specs.Flat.{print_of}
+use Rattle.alw_model.specs.Flat.{Context, Flat, print_of}
 use Rattle.alw_model.specs.Lines.{request_in, current_value}
 
 -- one event of a run: its node's number, the node before it, the message that it took, and what it did
@@ -123,6 +124,21 @@ words_of line body = flat_map (λ offset. word_unless_zero (SHARED_BASE + 16 * l
 abbrev pub memory_words : Parts → Parameters → MachineState → List (ℕ × ℕ)
 memory_words parts parameters machine = flat_map (λ line. words_of line (current_value parts parameters machine line)) (range_with_len 0 (line_count parts))
 
+-- a slot as a context of the flat machine: one that waits counts as Ready
+abbrev pub flat_status : Status → Status
+flat_status (Waiting line) = Ready
+flat_status status = status
+
+abbrev pub flat_context : Slot → Context
+flat_context slot = record { regs = slot.regs; status = flat_status slot.status }
+
+-- the machine as the flat machine sees it: the current value of each line, and each context
+abbrev pub flat_view : Parts → Parameters → MachineState → Flat
+flat_view parts parameters machine = record {
+  memory = map (current_value parts parameters machine) (range_with_len 0 (line_count parts));
+  contexts = flat_map (λ node. map flat_context node.slots) machine.nodes;
+}
+
 -- what the report says of an entry: line, state, meta state, H and S as ascending lists, and the counter
 pub record DirectoryLine : Type 0 where
   pub line : ℕ
@@ -207,3 +223,7 @@ count_replies run = weigh (λ moment. digit (is_reply moment.taken)) run
 
 abbrev pub count_used : List Moment → ℕ
 count_used run = weigh (λ moment. digit (uses_hold moment.before moment.stepped.did)) run
+
+-- slots with a hold
+abbrev pub count_holds : MachineState → ℕ
+count_holds machine = weigh (λ node. weigh (λ slot. digit (is_some slot.hold)) node.slots) machine.nodes

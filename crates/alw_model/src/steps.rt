@@ -1,5 +1,5 @@
-use alw_num::State;
 use alw_msg::Kind;
+use alw_num::State;
 use sparc_table::Outcome;
 
 /// What an event of a node did: a turn of a slot with its outcome, a miss of a slot, a delivery on
