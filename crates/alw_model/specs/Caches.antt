@@ -1,9 +1,9 @@
 -- A node's cache and its open transactions, and how they answer messages (Chaiken, Kubiatowicz and Agarwal, ASPLOS 1991, the cache-side states; caches are direct-mapped).
-use Rattle.std.specs.Prelude.{ℕ, ◌%◌, Bool, true, false, cond, ◌==◌, Option, Some, None, List, [], ◌∷◌}
+use Rattle.std.specs.Prelude.{ℕ, ◌%◌, Bool, true, false, cond, not, ◌==◌, Option, Some, None, List, [], ◌∷◌}
 use Rattle.alw_num.specs.declared.addresses.Line.{Line}
 use Rattle.alw_num.specs.declared.states.Mode.{Mode}
 use Rattle.alw_num.specs.declared.states.Mode.TheVariants.{Read, Write}
-use Rattle.alw_model.specs.Maps.{Map, value_at, with_value, without_value}
+use Rattle.alw_model.specs.Maps.{Map, kept_if, value_at, with_value, without_value}
 use Rattle.alw_model.specs.FullMap.{ToMemory, RREQ, WREQ, REPM, UPDATE, ACKC, ToCache, RDATA, WDATA, INV, BUSY}
 
 -- a copy of a line: Read-Only (Read) or Read-Write (Write)
@@ -33,28 +33,18 @@ Requests = List (ℕ × ToMemory)
 abbrev pub set_of : ℕ → ℕ → ℕ
 set_of sets line = line % sets
 
--- the copy, where it is of this line
-abbrev pub copy_of : ℕ → Option Copy → Option Copy
-copy_of line None = None
-copy_of line (Some copy) = cond (copy.line == line) (Some copy) None
-
 -- the copy of a line: None where the line is Invalid
 abbrev pub copy_at : ℕ → Cache → ℕ → Option Copy
-copy_at sets cache line = copy_of line (value_at cache (set_of sets line))
+copy_at sets cache line = kept_if (λ copy. copy.line == line) (value_at cache (set_of sets line))
 
 -- a copy of the first mode grants the second: a Read-Write copy grants both
 abbrev pub grants : Mode → Mode → Bool
 grants Read Write = false
 grants _ _ = true
 
--- the copy, where it grants the mode
-abbrev pub granting : Mode → Option Copy → Option Copy
-granting mode None = None
-granting mode (Some copy) = cond (grants copy.mode mode) (Some copy) None
-
 -- the copy of a line that grants a mode: None where an access in that mode misses
 abbrev pub granted_copy : ℕ → Cache → ℕ → Mode → Option Copy
-granted_copy sets cache line mode = granting mode (copy_at sets cache line)
+granted_copy sets cache line mode = kept_if (λ copy. grants copy.mode mode) (copy_at sets cache line)
 
 -- a Read-Write copy goes home as REPM; a Read-Only one is dropped silently
 abbrev pub give_up : ℕ → Mode → Line → Requests
@@ -66,10 +56,9 @@ abbrev pub evicted : Option Copy → Requests
 evicted None = []
 evicted (Some copy) = give_up copy.line copy.mode copy.body
 
--- the copy, where it is of another line than this
-abbrev pub replaced_by : ℕ → Option Copy → Option Copy
-replaced_by line None = None
-replaced_by line (Some copy) = cond (copy.line == line) None (Some copy)
+-- the copy of another line that stands in a line's set
+abbrev pub replaced : ℕ → Cache → ℕ → Option Copy
+replaced sets cache line = kept_if (λ copy. not (copy.line == line)) (value_at cache (set_of sets line))
 
 -- an eviction empties a set
 abbrev pub evict : Cache → ℕ → Cache × Requests
@@ -77,9 +66,7 @@ evict cache set = (without_value cache set, evicted (value_at cache set))
 
 -- a fill puts a copy into its line's set, and a copy of another line leaves it
 abbrev pub fill : ℕ → Cache → Copy → Cache × Requests
-fill sets cache copy =
-    let set = set_of sets copy.line in
-    (with_value cache set copy, evicted (replaced_by copy.line (value_at cache set)))
+fill sets cache copy = (with_value cache (set_of sets copy.line) copy, evicted (replaced sets cache copy.line))
 
 -- the answer to an INV from a copy: UPDATE where it is Read-Write, and else ACKC
 abbrev pub inv_answer : Mode → Line → ToMemory

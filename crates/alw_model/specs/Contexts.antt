@@ -8,6 +8,7 @@ use Rattle.alw_msg.specs.declared.contexts.Status.TheVariants.{Ready, Waiting, H
 use Rattle.alw_image.specs.declared.parts.Parts.{Parts}
 use Rattle.alw_image.specs.Images.{context_count}
 use Rattle.alw_image.specs.Images as images
+use Rattle.alw_model.specs.Maps.{passes}
 
 -- a slot of a node, which holds one context
 pub record Slot : Type 0 where
@@ -52,11 +53,6 @@ abbrev pub waits_on : ℕ → Status → Bool
 waits_on line (Waiting waited) = waited.0 == line
 waits_on line _ = false
 
--- the number is this line's
-abbrev pub is_line : ℕ → Option ℕ → Bool
-is_line line None = false
-is_line line (Some held) = held == line
-
 -- the slot with this number, or one that has halted where there is none
 abbrev pub no_slot : Slot
 no_slot = record { regs = start_of 0 0 0; status = Halted; hold = None }
@@ -90,7 +86,7 @@ give_hold line slot slots = slice_set slots slot (record (slot_at slots slot) { 
 
 -- a line is held at a node while it is the hold of one of its slots
 abbrev pub is_held : List Slot → ℕ → Bool
-is_held slots line = list_any (λ slot. is_line line slot.hold) slots
+is_held slots line = list_any (λ slot. passes (λ held. held == line) slot.hold) slots
 
 -- every context has halted
 abbrev pub all_halted : List Slot → Bool

@@ -10,4 +10,8 @@ pub mod Machine
 pub mod Flat
 pub mod Lines
 pub mod Runs
+pub mod Counts
+pub mod LineInvariant
+pub mod MachineInvariant
+pub mod Checks
 pub mod Rows

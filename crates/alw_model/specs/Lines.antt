@@ -1,6 +1,7 @@
 -- What a machine's state says of one line: its home's entry and pending packets, and each node's copy, transaction and messages; who carries its current value.
-use Rattle.std.specs.Prelude.{ℕ, cond, ◌==◌, Option, Some, None, List, [], ◌∷◌, ◌++◌, map, option_map, flat_map}
-use Rattle.std.specs.List.{range_with_len}
+use Rattle.std.specs.Prelude.{ℕ, Bool, true, false, cond, not, ◌&&◌, ◌||◌, ◌==◌, nat_lt, Option, Some, None, List, [], ◌∷◌, ◌++◌, option_map, flat_map, filter}
+use Rattle.std.specs.List.{list_any, range_with_len}
+use Rattle.alw_num.specs.Weights.{digit, weigh}
 use Rattle.alw_num.specs.declared.addresses.Line.{Line}
 use Rattle.alw_num.specs.declared.states.Mode.{Mode}
 use Rattle.alw_num.specs.declared.states.Mode.TheVariants.{Read, Write}
@@ -9,8 +10,8 @@ use Rattle.alw_image.specs.declared.parts.Parts.{Parts}
 use Rattle.alw_image.specs.Images.{node_count}
 use Rattle.alw_image.specs.Parameters.{Parameters}
 use Rattle.alw_model.specs.Maps.{value_at}
-use Rattle.alw_model.specs.FullMap.{ToMemory, REPM, UPDATE, ToCache, WDATA}
-use Rattle.alw_model.specs.LimitLess.{Directory}
+use Rattle.alw_model.specs.FullMap.{ToMemory, RREQ, WREQ, REPM, UPDATE, ACKC, ToCache, RDATA, WDATA, INV, BUSY, Home}
+use Rattle.alw_model.specs.LimitLess.{Directory, full_map_of}
 use Rattle.alw_model.specs.Caches.{Copy, Transaction, copy_at}
 use Rattle.alw_model.specs.Messages.{Content, ForMemory, ForCache, content, home_node}
 use Rattle.alw_model.specs.NodeStates.{home_at}
@@ -23,11 +24,16 @@ pub record LineNode : Type 0 where
   pub up : List ToMemory
   pub down : List ToCache
 
--- the line's entry, its packets in its home's queue, each with its sender, and what each node has of it
+-- the line's full-map entry, and what each node has of the line
 pub record LineState : Type 0 where
-  pub entry : Directory
-  pub packets : List (ℕ × ToMemory)
+  pub home : Home
   pub node : ℕ → LineNode
+
+-- a node that has nothing of the line
+abbrev pub absent : LineNode
+absent = record { copy = None; transaction = None; up = []; down = [] }
+
+-- ---- what one line has in a machine
 
 -- what a message says to memory, or to a cache
 abbrev pub request_in : Content → List ToMemory
@@ -46,13 +52,17 @@ ups line msgs = flat_map (λ msg. cond (msg.line.0 == line) (request_in (content
 abbrev pub downs : ℕ → List Msg → List ToCache
 downs line msgs = flat_map (λ msg. cond (msg.line.0 == line) (reply_in (content msg)) []) msgs
 
--- the packets of a line, each with its sender
-abbrev pub packets_of : ℕ → List Msg → List (ℕ × ToMemory)
-packets_of line msgs = flat_map (λ msg. map (λ said. (msg.src.0, said)) (cond (msg.line.0 == line) (request_in (content msg)) [])) msgs
+-- the messages that a node has sent
+abbrev pub sent_by : ℕ → List Msg → List Msg
+sent_by number msgs = filter (λ msg. msg.src.0 == number) msgs
 
--- those that a node has sent
-abbrev pub sent_by : ℕ → List (ℕ × ToMemory) → List ToMemory
-sent_by number packets = flat_map (λ packet. cond (packet.0 == number) (packet.1 ∷ []) []) packets
+-- a line's entry at its home
+abbrev pub entry_of : Parts → MachineState → ℕ → Directory
+entry_of parts machine line = home_at parts (node_at machine (home_node parts line)) line
+
+-- the packets in the queue of a line's home
+abbrev pub packets_at : Parts → MachineState → ℕ → List Msg
+packets_at parts machine line = (node_at machine (home_node parts line)).packets
 
 -- what a node has of a line: `up` is its pending packet and then what is on its link to the home
 abbrev pub line_node : Parts → Parameters → MachineState → ℕ → ℕ → LineNode
@@ -62,15 +72,18 @@ line_node parts parameters machine line number =
     record {
       copy = option_map (λ (copy : Copy). (copy.mode, copy.body)) (copy_at parameters.sets node.cache line);
       transaction = option_map (λ (transaction : Transaction). transaction.mode) (value_at node.transactions line);
-      up = sent_by number (packets_of line (node_at machine home).packets) ++ ups line (link_at parts machine number home);
+      up = ups line (sent_by number (packets_at parts machine line)) ++ ups line (link_at parts machine number home);
       down = downs line (link_at parts machine home number);
     }
 
--- the part of a machine's state that is one line's
+-- the part of a machine's state that is one line's: a number that no node has has nothing of it
 abbrev pub line_of : Parts → Parameters → MachineState → ℕ → LineState
-line_of parts parameters machine line =
-    let home = node_at machine (home_node parts line) in
-    record { entry = home_at parts home line; packets = packets_of line home.packets; node = line_node parts parameters machine line }
+line_of parts parameters machine line = record {
+  home = full_map_of (entry_of parts machine line);
+  node = λ number. cond (nat_lt number (node_count parts)) (line_node parts parameters machine line number) absent;
+}
+
+-- ---- carriers
 
 -- the value in a Read-Write copy
 abbrev pub copy_carried : Option (Mode × Line) → List Line
@@ -106,7 +119,55 @@ value_by (body ∷ []) home = body
 value_by _ home = home
 
 -- the current value of a line: its carrier's where there is exactly one, and else the home's
+abbrev pub line_value : ℕ → LineState → Line
+line_value count s = value_by (carriers count s) s.home.body
+
 abbrev pub current_value : Parts → Parameters → MachineState → ℕ → Line
-current_value parts parameters machine line =
-    let s = line_of parts parameters machine line in
-    value_by (carriers (node_count parts) s) s.entry.body
+current_value parts parameters machine line = line_value (node_count parts) (line_of parts parameters machine line)
+
+-- ---- words on messages
+
+-- which message to memory it is
+abbrev pub is_rreq : ToMemory → Bool
+is_rreq RREQ = true
+is_rreq _ = false
+abbrev pub is_wreq : ToMemory → Bool
+is_wreq WREQ = true
+is_wreq _ = false
+abbrev pub is_repm : ToMemory → Bool
+is_repm (REPM body) = true
+is_repm _ = false
+abbrev pub is_update : ToMemory → Bool
+is_update (UPDATE body) = true
+is_update _ = false
+abbrev pub is_ackc : ToMemory → Bool
+is_ackc ACKC = true
+is_ackc _ = false
+
+-- which message to a cache it is
+abbrev pub is_rdata : ToCache → Bool
+is_rdata (RDATA body) = true
+is_rdata _ = false
+abbrev pub is_wdata : ToCache → Bool
+is_wdata (WDATA body) = true
+is_wdata _ = false
+abbrev pub is_inv : ToCache → Bool
+is_inv INV = true
+is_inv _ = false
+abbrev pub is_busy : ToCache → Bool
+is_busy BUSY = true
+is_busy _ = false
+
+-- how many messages pass a test
+abbrev pub count_of : {M : Type 0} → (M → Bool) → List M → ℕ
+count_of test messages = weigh (λ message. digit (test message)) messages
+
+-- each message that passes the first test has one behind it that passes the second
+abbrev pub is_followed : {M : Type 0} → (M → Bool) → (M → Bool) → List M → Bool
+is_followed first second [] = true
+is_followed first second (message ∷ rest) = (not (first message) || list_any second rest) && is_followed first second rest
+
+-- no message that passes the second test stands behind one that passes the first
+abbrev pub is_clear_behind : {M : Type 0} → (M → Bool) → (M → Bool) → List M → Bool
+is_clear_behind first second [] = true
+is_clear_behind first second (message ∷ rest) = (not (first message) || not (list_any second rest)) && is_clear_behind first second rest

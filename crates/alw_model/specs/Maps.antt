@@ -1,7 +1,22 @@
 -- A finite map from numbers to values: its entries by ascending key, so that two maps that answer alike are equal.
-use Rattle.std.specs.Prelude.{ℕ, ◌+◌, ◌≤◌, Bool, true, cond, ◌&&◌, ◌==◌, nat_lt, nat_le, T, Option, Some, None, List, [], ◌∷◌}
+use Rattle.std.specs.Prelude.{ℕ, ◌+◌, ◌≤◌, Bool, true, false, cond, ◌&&◌, ◌==◌, nat_lt, nat_le, T, Option, Some, None, List, [], ◌∷◌}
 use Rattle.std.proofs.Common.{arith}
 use Rattle.std.proofs.lemmas.Bool.Decides.{nat_tests}
+
+-- the value, where it passes a test
+abbrev pub kept_if : {X : Type 0} → (X → Bool) → Option X → Option X
+kept_if test None = None
+kept_if test (Some x) = cond (test x) (Some x) None
+
+-- there is a value, and it passes a test
+abbrev pub passes : {X : Type 0} → (X → Bool) → Option X → Bool
+passes test None = false
+passes test (Some x) = test x
+
+-- a value, if there is one, passes a test
+abbrev pub passes_if_some : {X : Type 0} → (X → Bool) → Option X → Bool
+passes_if_some test None = true
+passes_if_some test (Some x) = test x
 
 -- each key is at least a number, and above the key before it
 abbrev pub ascends_from : {X : Type 0} → ℕ → List (ℕ × X) → Bool

@@ -7,10 +7,10 @@ use Rattle.alw_msg.specs.declared.events.Event.TheVariants.{Instr, Handle, Deliv
 use Rattle.alw_image.specs.declared.parts.Parts.{Parts}
 use Rattle.alw_image.specs.Images.{node_count, body_of, is_always, zero_line}
 use Rattle.alw_image.specs.Parameters.{Parameters}
-use Rattle.alw_model.specs.Maps.{empty_map, value_at}
+use Rattle.alw_model.specs.Maps.{passes, empty_map, value_at}
 use Rattle.alw_model.specs.FullMap.{ToCache, INV, BUSY}
 use Rattle.alw_model.specs.LimitLess.{Directory, directory_start, is_in_progress}
-use Rattle.alw_model.specs.Caches.{Copy, Cache, Transactions, set_of, replaced_by}
+use Rattle.alw_model.specs.Caches.{Cache, Transactions, replaced}
 use Rattle.alw_model.specs.Contexts.{Slot, slots_start, running, is_held}
 use Rattle.alw_model.specs.Messages.{Content, ForMemory, ForCache, content, is_fit}
 
@@ -55,42 +55,31 @@ node_of (Handle node) = node.0
 node_of (Deliver from to) = to.0
 node_of (Evict node set) = node.0
 
--- a copy that is held, where there is one
-abbrev pub is_held_copy : List Slot → Option Copy → Bool
-is_held_copy slots None = false
-is_held_copy slots (Some copy) = is_held slots copy.line
-
 -- what keeps a message to a cache on its link: an INV for a held line, and an RDATA or WDATA whose set holds another line that is held
 abbrev pub may_reach_cache : Parameters → NodeState → ℕ → ToCache → Bool
 may_reach_cache parameters node line INV = not (is_held node.slots line)
 may_reach_cache parameters node line BUSY = true
-may_reach_cache parameters node line _ = not (is_held_copy node.slots (replaced_by line (value_at node.cache (set_of parameters.sets line))))
+may_reach_cache parameters node line _ = not (passes (λ copy. is_held node.slots copy.line) (replaced parameters.sets node.cache line))
 
 -- what keeps a message on its link: one to memory waits while its line is Trans-In-Progress
 abbrev pub may_reach : Parts → Parameters → NodeState → ℕ → Content → Bool
 may_reach parts parameters node line (ForMemory said) = not (is_in_progress (home_at parts node line).meta)
 may_reach parts parameters node line (ForCache said) = may_reach_cache parameters node line said
 
--- the head of the link of two nodes can be delivered: there is one, it is fit, and nothing keeps it
-abbrev pub may_deliver : Parts → Parameters → ℕ → ℕ → NodeState → Option Msg → Bool
-may_deliver parts parameters from to node None = false
-may_deliver parts parameters from to node (Some msg) = is_fit parts from to msg && may_reach parts parameters node msg.line.0 (content msg)
-
--- a set's copy can be evicted: there is one, and it isn't held
-abbrev pub may_evict : List Slot → Option Copy → Bool
-may_evict slots None = false
-may_evict slots (Some copy) = not (is_held slots copy.line)
+-- the head of the link of two nodes can be delivered: it is fit, and nothing keeps it
+abbrev pub may_deliver : Parts → Parameters → ℕ → ℕ → NodeState → Msg → Bool
+may_deliver parts parameters from to node msg = is_fit parts from to msg && may_reach parts parameters node msg.line.0 (content msg)
 
 abbrev pub is_nonempty : {X : Type 0} → List X → Bool
 is_nonempty [] = false
 is_nonempty (x ∷ rest) = true
 
--- what an event wants of the node that it is of, and of the head of the link that it names
+-- what an event wants of the node that it is of, and of the head of the link that it names: a Ready slot, a packet, a head that can be delivered, or a set with a copy that isn't held
 abbrev pub may : Parts → Parameters → NodeState → Event → Option Msg → Bool
 may parts parameters node (Instr at) head = is_some (running node.slots node.current)
 may parts parameters node (Handle at) head = is_nonempty node.packets
-may parts parameters node (Deliver from to) head = nat_lt from.0 (node_count parts) && may_deliver parts parameters from.0 to.0 node head
-may parts parameters node (Evict at set) head = nat_lt set parameters.sets && may_evict node.slots (value_at node.cache set)
+may parts parameters node (Deliver from to) head = nat_lt from.0 (node_count parts) && passes (may_deliver parts parameters from.0 to.0 node) head
+may parts parameters node (Evict at set) head = nat_lt set parameters.sets && passes (λ copy. not (is_held node.slots copy.line)) (value_at node.cache set)
 
 -- an event is enabled at a node of this number, the limit aside: it is of that node, which exists and whose clock isn't the greatest
 abbrev pub is_enabled_at : Parts → Parameters → ℕ → NodeState → Event → Option Msg → Bool

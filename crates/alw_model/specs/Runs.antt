@@ -26,12 +26,12 @@ use Rattle.alw_model.specs.declared.steps.Did.TheVariants.{Turn, Missed, Took, H
 use Rattle.alw_model.specs.FullMap.{ToMemory, Home, home_start, act}
 use Rattle.alw_model.specs.LimitLess.{Directory, full_map_of}
 use Rattle.alw_model.specs.Contexts.{Slot, slot_at}
-use Rattle.alw_model.specs.Messages.{content, home_node}
-use Rattle.alw_model.specs.NodeStates.{NodeState, node_of, home_at}
+use Rattle.alw_model.specs.Messages.{content}
+use Rattle.alw_model.specs.NodeStates.{NodeState, node_of}
 use Rattle.alw_model.specs.NodeSteps.{Stepped}
 use Rattle.alw_model.specs.Machine.{MachineState, machine_start, node_at, taken_by, stepped_by, after_step}
 use Rattle.alw_model.specs.Flat.{Context, Flat, print_of}
-use Rattle.alw_model.specs.Lines.{request_in, current_value}
+use Rattle.alw_model.specs.Lines.{request_in, entry_of, current_value}
 
 -- one event of a run: its node's number, the node before it, the message that it took, and what it did
 pub record Moment : Type 0 where
@@ -111,18 +111,7 @@ acted_on home (message ∷ rest) = acted_on (act home message.0 message.1).0 res
 abbrev pub full_map_after : Parts → Parameters → List Entry → ℕ → Home
 full_map_after parts parameters journal line = acted_on (home_start (body_of parts line)) (acted_messages parts parameters journal line)
 
--- ---- memory and directory
-
--- the words of a line that aren't 0, each with its address
-abbrev pub words_of : ℕ → Line → List (ℕ × ℕ)
-words_of line body = flat_map (λ offset. word_unless_zero (SHARED_BASE + 16 * line + offset) (lane_of body offset Word)) (0 ∷ 4 ∷ 8 ∷ 12 ∷ [])
-  where
-    word_unless_zero : ℕ → ℕ → List (ℕ × ℕ)
-    word_unless_zero address word = cond (word == 0) [] ((address, word) ∷ [])
-
--- the words of shared data whose current value isn't 0, each with its address, ascending
-abbrev pub memory_words : Parts → Parameters → MachineState → List (ℕ × ℕ)
-memory_words parts parameters machine = flat_map (λ line. words_of line (current_value parts parameters machine line)) (range_with_len 0 (line_count parts))
+-- ---- as the flat machine sees it
 
 -- a slot as a context of the flat machine: one that waits counts as Ready
 abbrev pub flat_status : Status → Status
@@ -138,92 +127,3 @@ flat_view parts parameters machine = record {
   memory = map (current_value parts parameters machine) (range_with_len 0 (line_count parts));
   contexts = flat_map (λ node. map flat_context node.slots) machine.nodes;
 }
-
--- what the report says of an entry: line, state, meta state, H and S as ascending lists, and the counter
-pub record DirectoryLine : Type 0 where
-  pub line : ℕ
-  pub state : State
-  pub meta : Meta
-  pub hardware : List ℕ
-  pub software : List ℕ
-  pub acks : ℕ
-
--- an entry is listed where it isn't Read-Only or P isn't empty
-abbrev pub is_listed : State → Nodes → Bool
-is_listed RO pointers = not (count_nodes pointers == 0)
-is_listed _ pointers = true
-
-abbrev pub directory_line : ℕ → Directory → List DirectoryLine
-directory_line line entry = cond (is_listed entry.state (full_map_of entry).pointers) (record { line = line; state = entry.state; meta = entry.meta; hardware = members entry.hardware; software = members entry.software; acks = entry.acks } ∷ []) []
-
--- the listed entries, by line
-abbrev pub directory_lines : Parts → MachineState → List DirectoryLine
-directory_lines parts machine = flat_map (λ line. directory_line line (home_at parts (node_at machine (home_node parts line)) line)) (range_with_len 0 (line_count parts))
-
--- ---- counts
-
-abbrev pub is_turn : Did → Bool
-is_turn (Turn slot outcome) = true
-is_turn _ = false
-
-abbrev pub is_miss : Did → Bool
-is_miss (Missed slot) = true
-is_miss _ = false
-
-abbrev pub is_eviction : Did → Bool
-is_eviction Evicted = true
-is_eviction _ = false
-
-abbrev pub is_handling : Did → Bool
-is_handling (Handled kind state) = true
-is_handling _ = false
-
--- the packet was an RREQ for a line in Read-Only
-abbrev pub is_spill : Did → Bool
-is_spill (Handled kinds.RREQ RO) = true
-is_spill _ = false
-
--- a turn that ended a hold
-abbrev pub uses_hold : NodeState → Did → Bool
-uses_hold before (Turn slot outcome) = is_some (slot_at before.slots slot).hold
-uses_hold before _ = false
-
--- an RDATA or WDATA was delivered
-abbrev pub is_reply : Option Msg → Bool
-is_reply None = false
-is_reply (Some msg) = is_data msg.kind
-  where
-    is_data : Kind → Bool
-    is_data kinds.RDATA = true
-    is_data kinds.WDATA = true
-    is_data _ = false
-
-abbrev pub distance : ℕ → ℕ → ℕ
-distance a b = (a - b) + (b - a)
-
--- columns and rows between two nodes
-abbrev pub hops_between : Parts → ℕ → ℕ → ℕ
-hops_between parts from to = distance (from % parts.width) (to % parts.width) + distance (from / parts.width) (to / parts.width)
-
--- the number of events that pass a test of what they did
-abbrev pub count_did : (Did → Bool) → List Moment → ℕ
-count_did test run = weigh (λ moment. digit (test moment.stepped.did)) run
-
--- the number of messages of a kind that were sent
-abbrev pub count_sent : (Kind → ℕ) → List Moment → ℕ
-count_sent kind run = weigh (λ moment. weigh (λ send. kind send.1.kind) moment.stepped.sends) run
-
--- the hops of all messages that were sent
-abbrev pub count_hops : Parts → List Moment → ℕ
-count_hops parts run = weigh (λ moment. weigh (λ send. hops_between parts moment.number send.0) moment.stepped.sends) run
-
--- RDATA and WDATA delivered, and turns that ended a hold
-abbrev pub count_replies : List Moment → ℕ
-count_replies run = weigh (λ moment. digit (is_reply moment.taken)) run
-
-abbrev pub count_used : List Moment → ℕ
-count_used run = weigh (λ moment. digit (uses_hold moment.before moment.stepped.did)) run
-
--- slots with a hold
-abbrev pub count_holds : MachineState → ℕ
-count_holds machine = weigh (λ node. weigh (λ slot. digit (is_some slot.hold)) node.slots) machine.nodes

@@ -7,7 +7,8 @@ ghost use Rattle.sparc_table.specs.declared.outcomes.Outcome.TheVariants as ends
 ghost use Rattle.alw_model.specs.declared.steps.Did.TheVariants.{Turn, Missed, Took};
 ghost use Rattle.alw_model.specs.Maps.{value_at};
 ghost use Rattle.alw_model.specs.Machine.{state, node_at, link_at, is_legal, end_of, Halted, Trapped, Limit};
-ghost use Rattle.alw_model.specs.Runs.{turns_of, prints_of, moments, count_did, is_miss, memory_words, directory_lines};
+ghost use Rattle.alw_model.specs.Counts.{count_did, is_miss, memory_words, directory_lines};
+ghost use Rattle.alw_model.specs.Runs.{turns_of, prints_of, moments};
 ghost use Rattle.alw_model.specs.Rows.{is_flat, I, defaults, dids, sent};
 ghost use Rattle.alw_model.specs.Rows.OneNode.{itself_image, itself_journal, contexts_image, contexts_journal, set_image, four_sets, set_journal, trap_image, trap_journal, loop_image, limit_3, loop_journal};
 

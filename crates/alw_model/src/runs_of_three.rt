@@ -3,7 +3,8 @@ ghost use Rattle.alw_num.specs.declared.states.State.TheVariants.{RO, RW, WT};
 ghost use Rattle.alw_num.specs.declared.states.Meta.TheVariants.{Normal, TrapWrite};
 ghost use Rattle.alw_msg.specs.declared.messages.Kind.TheVariants as kinds;
 ghost use Rattle.alw_model.specs.Machine.{state, is_legal, end_of};
-ghost use Rattle.alw_model.specs.Runs.{turns_of, memory_words, directory_lines};
+ghost use Rattle.alw_model.specs.Counts.{memory_words, directory_lines};
+ghost use Rattle.alw_model.specs.Runs.{turns_of};
 ghost use Rattle.alw_model.specs.Rows.{is_flat, defaults, sent, entry_after};
 ghost use Rattle.alw_model.specs.Rows.ThreeNodes.{spill_image, one_pointer, spill_handled, spill_journal, all_in_software, in_both, both_journal, one_answer, silent_journal, crossing_image, crossing_stored, crossing_journal};
 

@@ -6,7 +6,8 @@ ghost use Rattle.alw_msg.specs.declared.messages.Kind.TheVariants as kinds;
 ghost use Rattle.sparc_table.specs.declared.outcomes.Outcome.TheVariants as ends;
 ghost use Rattle.alw_model.specs.declared.steps.Did.TheVariants.{Turn, Missed, Took, Packet, Handled, Evicted};
 ghost use Rattle.alw_model.specs.Machine.{state, is_legal, end_of, Halted};
-ghost use Rattle.alw_model.specs.Runs.{turns_of, prints_of, moments, count_did, count_hops, count_replies, count_used, count_holds, is_miss, is_spill, is_handling, is_eviction, memory_words, directory_lines};
+ghost use Rattle.alw_model.specs.Counts.{count_did, count_hops, count_replies, count_used, count_holds, is_miss, is_spill, is_handling, is_eviction, memory_words, directory_lines};
+ghost use Rattle.alw_model.specs.Runs.{turns_of, prints_of, moments};
 ghost use Rattle.alw_model.specs.Rows.{is_flat, I, H, D, defaults, dids, sent, is_enabled_after};
 ghost use Rattle.alw_model.specs.Rows.TwoNodes.{writers_image, writers_before, writers_journal, hold_before, hold_journal, always_image, always_journal, progress_before};
 

@@ -1,0 +1,137 @@
+-- What the report counts in a run, and what it lists of memory and directory at its end.
+use Rattle.std.specs.Prelude.{ℕ, ◌+◌, ◌-◌, ◌*◌, ◌/◌, ◌%◌, Bool, true, false, cond, not, ◌==◌, Option, Some, None, List, [], ◌∷◌, map, flat_map, is_some}
+use Rattle.std.specs.List.{range_with_len}
+use Rattle.alw_num.specs.Lanes.{lane_of}
+use Rattle.alw_num.specs.Weights.{digit, weigh}
+use Rattle.alw_num.specs.declared.addresses.TheConstants.{SHARED_BASE}
+use Rattle.alw_num.specs.declared.addresses.Line.{Line}
+use Rattle.alw_num.specs.declared.addresses.Width.TheVariants.{Word}
+use Rattle.alw_num.specs.declared.states.State.{State}
+use Rattle.alw_num.specs.declared.states.State.TheVariants.{RO}
+use Rattle.alw_num.specs.declared.states.Meta.{Meta}
+use Rattle.alw_num.specs.NodeSets.{Nodes, members, count_nodes}
+use Rattle.sparc_table.specs.declared.outcomes.Outcome.{Outcome}
+use Rattle.alw_msg.specs.declared.messages.Kind.{Kind}
+use Rattle.alw_msg.specs.declared.messages.Kind.TheVariants as kinds
+use Rattle.alw_msg.specs.declared.messages.Msg.{Msg}
+use Rattle.alw_msg.specs.declared.events.Event.{Event}
+use Rattle.alw_msg.specs.declared.events.Entry.{Entry}
+use Rattle.alw_msg.specs.declared.contexts.Status.{Status}
+use Rattle.alw_msg.specs.declared.contexts.Status.TheVariants.{Ready, Waiting}
+use Rattle.alw_image.specs.declared.parts.Parts.{Parts}
+use Rattle.alw_image.specs.Images.{body_of, line_count}
+use Rattle.alw_image.specs.Parameters.{Parameters}
+use Rattle.alw_model.specs.declared.steps.Did.{Did}
+use Rattle.alw_model.specs.declared.steps.Did.TheVariants.{Turn, Missed, Took, Handled, Evicted}
+use Rattle.alw_model.specs.FullMap.{ToMemory, Home, home_start, act}
+use Rattle.alw_model.specs.LimitLess.{Directory, full_map_of}
+use Rattle.alw_model.specs.Contexts.{Slot, slot_at}
+use Rattle.alw_model.specs.Messages.{content}
+use Rattle.alw_model.specs.NodeStates.{NodeState, node_of}
+use Rattle.alw_model.specs.NodeSteps.{Stepped}
+use Rattle.alw_model.specs.Machine.{MachineState, machine_start, node_at, taken_by, stepped_by, after_step}
+use Rattle.alw_model.specs.Flat.{Context, Flat, print_of}
+use Rattle.alw_model.specs.Lines.{request_in, entry_of, current_value}
+use Rattle.alw_model.specs.Runs.{Moment}
+
+-- ---- counts
+
+abbrev pub is_turn : Did → Bool
+is_turn (Turn slot outcome) = true
+is_turn _ = false
+
+abbrev pub is_miss : Did → Bool
+is_miss (Missed slot) = true
+is_miss _ = false
+
+abbrev pub is_eviction : Did → Bool
+is_eviction Evicted = true
+is_eviction _ = false
+
+abbrev pub is_handling : Did → Bool
+is_handling (Handled kind state) = true
+is_handling _ = false
+
+-- the packet was an RREQ for a line in Read-Only
+abbrev pub is_spill : Did → Bool
+is_spill (Handled kinds.RREQ RO) = true
+is_spill _ = false
+
+-- a turn that ended a hold
+abbrev pub uses_hold : NodeState → Did → Bool
+uses_hold before (Turn slot outcome) = is_some (slot_at before.slots slot).hold
+uses_hold before _ = false
+
+-- an RDATA or WDATA was delivered
+abbrev pub is_reply : Option Msg → Bool
+is_reply None = false
+is_reply (Some msg) = is_data msg.kind
+  where
+    is_data : Kind → Bool
+    is_data kinds.RDATA = true
+    is_data kinds.WDATA = true
+    is_data _ = false
+
+abbrev pub distance : ℕ → ℕ → ℕ
+distance a b = (a - b) + (b - a)
+
+-- columns and rows between two nodes
+abbrev pub hops_between : Parts → ℕ → ℕ → ℕ
+hops_between parts from to = distance (from % parts.width) (to % parts.width) + distance (from / parts.width) (to / parts.width)
+
+-- the number of events that pass a test of what they did
+abbrev pub count_did : (Did → Bool) → List Moment → ℕ
+count_did test run = weigh (λ moment. digit (test moment.stepped.did)) run
+
+-- the number of messages of a kind that were sent
+abbrev pub count_sent : (Kind → ℕ) → List Moment → ℕ
+count_sent kind run = weigh (λ moment. weigh (λ send. kind send.1.kind) moment.stepped.sends) run
+
+-- the hops of all messages that were sent
+abbrev pub count_hops : Parts → List Moment → ℕ
+count_hops parts run = weigh (λ moment. weigh (λ send. hops_between parts moment.number send.0) moment.stepped.sends) run
+
+-- RDATA and WDATA delivered, and turns that ended a hold
+abbrev pub count_replies : List Moment → ℕ
+count_replies run = weigh (λ moment. digit (is_reply moment.taken)) run
+
+abbrev pub count_used : List Moment → ℕ
+count_used run = weigh (λ moment. digit (uses_hold moment.before moment.stepped.did)) run
+
+-- slots with a hold
+abbrev pub count_holds : MachineState → ℕ
+count_holds machine = weigh (λ node. weigh (λ slot. digit (is_some slot.hold)) node.slots) machine.nodes
+
+-- ---- memory and directory
+
+-- the words of a line that aren't 0, each with its address
+abbrev pub words_of : ℕ → Line → List (ℕ × ℕ)
+words_of line body = flat_map (λ offset. word_unless_zero (SHARED_BASE + 16 * line + offset) (lane_of body offset Word)) (0 ∷ 4 ∷ 8 ∷ 12 ∷ [])
+  where
+    word_unless_zero : ℕ → ℕ → List (ℕ × ℕ)
+    word_unless_zero address word = cond (word == 0) [] ((address, word) ∷ [])
+
+-- the words of shared data whose current value isn't 0, each with its address, ascending
+abbrev pub memory_words : Parts → Parameters → MachineState → List (ℕ × ℕ)
+memory_words parts parameters machine = flat_map (λ line. words_of line (current_value parts parameters machine line)) (range_with_len 0 (line_count parts))
+
+-- what the report says of an entry: line, state, meta state, H and S as ascending lists, and the counter
+pub record DirectoryLine : Type 0 where
+  pub line : ℕ
+  pub state : State
+  pub meta : Meta
+  pub hardware : List ℕ
+  pub software : List ℕ
+  pub acks : ℕ
+
+-- an entry is listed where it isn't Read-Only or P isn't empty
+abbrev pub is_listed : State → Nodes → Bool
+is_listed RO pointers = not (count_nodes pointers == 0)
+is_listed _ pointers = true
+
+abbrev pub directory_line : ℕ → Directory → List DirectoryLine
+directory_line line entry = cond (is_listed entry.state (full_map_of entry).pointers) (record { line = line; state = entry.state; meta = entry.meta; hardware = members entry.hardware; software = members entry.software; acks = entry.acks } ∷ []) []
+
+-- the listed entries, by line
+abbrev pub directory_lines : Parts → MachineState → List DirectoryLine
+directory_lines parts machine = flat_map (λ line. directory_line line (entry_of parts machine line)) (range_with_len 0 (line_count parts))
