@@ -15,7 +15,7 @@ use Rattle.alw_model.specs.MachineInvariant.{points_rightly, slot_fits, transact
 abbrev pub is_sound_at : ℕ → LineState → ℕ → Bool
 is_sound_at count s i =
     line.transaction_fits s i && (line.debt_fits s i && (line.carrier_fits count s i && (line.current_fits count s i && (line.sharer_fits s i
-        && (line.order_fits (s.node i) && line.single_by (s.node i).transaction (s.node i))))))
+    && (line.order_fits (s.node i) && line.single_by (s.node i).transaction (s.node i))))))
 
 -- the line invariant
 abbrev pub is_sound_line : ℕ → LineState → Directory → ℕ → Bool
@@ -31,15 +31,15 @@ abbrev pub is_sound_node : Parts → Parameters → MachineState → ℕ → Boo
 is_sound_node parts parameters machine n =
     let node = node_at machine n in
     list_all (slot_fits parts parameters node) node.slots && (list_all (transaction_fits parts node) node.transactions.entries && (list_all (packed_rightly parts n node) node.packets
-        && (list_all (caches_rightly parts parameters) node.cache.entries && ((nat_le node.clock parameters.limit || has_halted machine) && (sizes_fit parts node
-        && list_all (λ to. list_all (links_rightly parts machine n to) (link_at parts machine n to)) (range_with_len 0 (node_count parts)))))))
+    && (list_all (caches_rightly parts parameters) node.cache.entries && ((nat_le node.clock parameters.limit || has_halted machine) && (sizes_fit parts node
+    && list_all (λ to. list_all (links_rightly parts machine n to) (link_at parts machine n to)) (range_with_len 0 (node_count parts)))))))
 
 -- the machine invariant
 abbrev pub is_sound : Parts → Parameters → MachineState → Bool
 is_sound parts parameters machine =
     list_all (is_sound_in parts parameters machine) (range_with_len 0 (line_count parts)) && (list_all (is_sound_node parts parameters machine) (range_with_len 0 (node_count parts))
-        && ((not (has_halted machine) || nat_le (left_to_do machine) (most_to_do parts parameters))
-        && (length machine.nodes == node_count parts && (length machine.links == node_count parts * node_count parts))))
+    && ((not (has_halted machine) || nat_le (left_to_do machine) (most_to_do parts parameters))
+    && (length machine.nodes == node_count parts && (length machine.links == node_count parts * node_count parts))))
 
 -- the machine invariant now, and after each of these entries
 abbrev pub is_sound_along : Parts → Parameters → MachineState → List Entry → Bool

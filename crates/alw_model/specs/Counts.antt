@@ -1,5 +1,5 @@
 -- What the report counts in a run, and what it lists of memory and directory at its end.
-use Rattle.std.specs.Prelude.{ℕ, ◌+◌, ◌-◌, ◌*◌, ◌/◌, ◌%◌, Bool, true, false, cond, not, ◌==◌, Option, Some, None, List, [], ◌∷◌, map, flat_map, is_some}
+use Rattle.std.specs.Prelude.{ℕ, ◌+◌, ◌-◌, ◌*◌, ◌/◌, ◌%◌, Bool, true, false, cond, not, ◌==◌, Option, Some, None, List, [], ◌∷◌, flat_map, is_some}
 use Rattle.std.specs.List.{range_with_len}
 use Rattle.alw_num.specs.Lanes.{lane_of}
 use Rattle.alw_num.specs.Weights.{digit, weigh}
@@ -10,29 +10,20 @@ use Rattle.alw_num.specs.declared.states.State.{State}
 use Rattle.alw_num.specs.declared.states.State.TheVariants.{RO}
 use Rattle.alw_num.specs.declared.states.Meta.{Meta}
 use Rattle.alw_num.specs.NodeSets.{Nodes, members, count_nodes}
-use Rattle.sparc_table.specs.declared.outcomes.Outcome.{Outcome}
 use Rattle.alw_msg.specs.declared.messages.Kind.{Kind}
 use Rattle.alw_msg.specs.declared.messages.Kind.TheVariants as kinds
 use Rattle.alw_msg.specs.declared.messages.Msg.{Msg}
-use Rattle.alw_msg.specs.declared.events.Event.{Event}
-use Rattle.alw_msg.specs.declared.events.Entry.{Entry}
-use Rattle.alw_msg.specs.declared.contexts.Status.{Status}
-use Rattle.alw_msg.specs.declared.contexts.Status.TheVariants.{Ready, Waiting}
 use Rattle.alw_image.specs.declared.parts.Parts.{Parts}
-use Rattle.alw_image.specs.Images.{body_of, line_count}
+use Rattle.alw_image.specs.Images.{line_count}
 use Rattle.alw_image.specs.Parameters.{Parameters}
 use Rattle.alw_model.specs.declared.steps.Did.{Did}
-use Rattle.alw_model.specs.declared.steps.Did.TheVariants.{Turn, Missed, Took, Handled, Evicted}
-use Rattle.alw_model.specs.FullMap.{ToMemory, Home, home_start, act}
+use Rattle.alw_model.specs.declared.steps.Did.TheVariants.{Turn, Missed, Handled, Evicted}
 use Rattle.alw_model.specs.LimitLess.{Directory, full_map_of}
-use Rattle.alw_model.specs.Contexts.{Slot, slot_at}
-use Rattle.alw_model.specs.Messages.{content}
-use Rattle.alw_model.specs.NodeStates.{NodeState, node_of}
-use Rattle.alw_model.specs.NodeSteps.{Stepped}
-use Rattle.alw_model.specs.Machine.{MachineState, machine_start, node_at, taken_by, stepped_by, after_step}
-use Rattle.alw_model.specs.Flat.{Context, Flat, print_of}
-use Rattle.alw_model.specs.Lines.{request_in, entry_of, current_value}
-use Rattle.alw_model.specs.Runs.{Moment}
+use Rattle.alw_model.specs.Contexts.{slot_at}
+use Rattle.alw_model.specs.NodeStates.{NodeState}
+use Rattle.alw_model.specs.Machine.{MachineState}
+use Rattle.alw_model.specs.Lines.{entry_of, current_value}
+use Rattle.alw_model.specs.Runs.{Moment, number_of}
 
 -- ---- counts
 
@@ -89,7 +80,7 @@ count_sent kind run = weigh (λ moment. weigh (λ send. kind send.1.kind) moment
 
 -- the hops of all messages that were sent
 abbrev pub count_hops : Parts → List Moment → ℕ
-count_hops parts run = weigh (λ moment. weigh (λ send. hops_between parts moment.number send.0) moment.stepped.sends) run
+count_hops parts run = weigh (λ moment. weigh (λ send. hops_between parts (number_of moment) send.0) moment.stepped.sends) run
 
 -- RDATA and WDATA delivered, and turns that ended a hold
 abbrev pub count_replies : List Moment → ℕ

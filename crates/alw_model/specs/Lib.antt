@@ -14,4 +14,5 @@ pub mod Counts
 pub mod LineInvariant
 pub mod MachineInvariant
 pub mod Checks
+pub mod Threads
 pub mod Rows

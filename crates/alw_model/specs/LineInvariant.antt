@@ -1,7 +1,7 @@
 -- The line invariant: what holds of one line after every event, in eight clauses (the protocol is that of ASPLOS 1991; the invariant is this project's).
-use Rattle.std.specs.Prelude.{ℕ, ◌+◌, ◌<◌, Bool, true, false, not, ◌&&◌, ◌||◌, ◌==◌, nat_le, Option, Some, None, is_some, List, [], ◌∷◌, length, IsTrue}
+use Rattle.std.specs.Prelude.{ℕ, ◌+◌, ◌<◌, Bool, true, false, not, ◌&&◌, ◌||◌, ◌==◌, nat_le, Option, Some, None, is_some, length, IsTrue}
 use Rattle.std.specs.List.{list_any, list_all}
-use Rattle.alw_num.specs.Weights.{digit, weigh, sum_below}
+use Rattle.alw_num.specs.Weights.{digit, sum_below}
 use Rattle.alw_num.specs.NodeSets.{has_node, count_nodes}
 use Rattle.alw_num.specs.declared.addresses.Line.{Line}
 use Rattle.alw_num.specs.declared.states.Mode.{Mode}
@@ -10,7 +10,7 @@ use Rattle.alw_num.specs.declared.states.State.{State}
 use Rattle.alw_num.specs.declared.states.State.TheVariants.{RO, RW, RT, WT}
 use Rattle.alw_num.specs.declared.states.Meta.{Meta}
 use Rattle.alw_num.specs.declared.states.Meta.TheVariants.{Normal, Progress, TrapWrite, TrapAlways}
-use Rattle.alw_model.specs.FullMap.{ToMemory, RREQ, WREQ, REPM, UPDATE, ACKC, ToCache, RDATA, WDATA, INV, BUSY, sole}
+use Rattle.alw_model.specs.FullMap.{ToMemory, ToCache, RDATA, sole}
 use Rattle.alw_model.specs.Maps.{passes}
 use Rattle.alw_model.specs.Caches.{grants}
 use Rattle.alw_model.specs.LimitLess.{Directory}
@@ -22,9 +22,11 @@ use Rattle.alw_model.specs.Lines.{LineNode, LineState, carried, line_value, is_r
 abbrev pub is_reading : State → Bool
 is_reading RT = true
 is_reading _ = false
+
 abbrev pub is_writing : State → Bool
 is_writing WT = true
 is_writing _ = false
+
 abbrev pub is_shared : State → Bool
 is_shared RO = true
 is_shared _ = false
@@ -97,7 +99,7 @@ debt_fits s i = nat_le (owes (s.node i)) 1 && (is_shared s.home.state || (not (i
 abbrev pub is_recalled : LineNode → ℕ → Bool
 is_recalled node acks =
     owes node == 1 && (acks == 1 && (is_followed is_wdata is_inv node.down && ((not (writes node) || list_any is_inv node.down)
-        && (list_any is_inv node.down || is_followed is_repm is_ackc node.up))))
+    && (list_any is_inv node.down || is_followed is_repm is_ackc node.up))))
 
 -- none in Read-Only; in Read-Write exactly one, at the node in P; in a transaction at most one, which is recalled
 abbrev pub carrier_by : State → Bool → ℕ → LineNode → ℕ → Bool
@@ -121,7 +123,7 @@ current_fits count s i =
     let node = s.node i in
     let value = line_value count s in
     (not (reads node) || passes (λ (copy : Mode × Line). same_line copy.1 value) node.copy) && (list_all (data_holds value) node.down && (all_carried count s == 0
-        || (not (list_any is_rdata node.down) && (not (reads node) || list_any is_wdata node.down))))
+    || (not (list_any is_rdata node.down) && (not (reads node) || list_any is_wdata node.down))))
 
 -- ---- sharers
 
@@ -130,9 +132,9 @@ abbrev pub sharer_fits : LineState → ℕ → Bool
 sharer_fits s i =
     let node = s.node i in
     not (reads node || list_any is_rdata node.down)
-        || ((is_shared s.home.state && has_node s.home.pointers i)
-        || ((list_any is_inv node.down && is_followed is_rdata is_inv node.down)
-        || (reads node && ((is_writing s.home.state && is_sole s i) || list_any is_wdata node.down))))
+    || ((is_shared s.home.state && has_node s.home.pointers i)
+    || ((list_any is_inv node.down && is_followed is_rdata is_inv node.down)
+    || (reads node && ((is_writing s.home.state && is_sole s i) || list_any is_wdata node.down))))
 
 -- ---- order
 

@@ -131,15 +131,19 @@ current_value parts parameters machine line = line_value (node_count parts) (lin
 abbrev pub is_rreq : ToMemory → Bool
 is_rreq RREQ = true
 is_rreq _ = false
+
 abbrev pub is_wreq : ToMemory → Bool
 is_wreq WREQ = true
 is_wreq _ = false
+
 abbrev pub is_repm : ToMemory → Bool
 is_repm (REPM body) = true
 is_repm _ = false
+
 abbrev pub is_update : ToMemory → Bool
 is_update (UPDATE body) = true
 is_update _ = false
+
 abbrev pub is_ackc : ToMemory → Bool
 is_ackc ACKC = true
 is_ackc _ = false
@@ -148,12 +152,15 @@ is_ackc _ = false
 abbrev pub is_rdata : ToCache → Bool
 is_rdata (RDATA body) = true
 is_rdata _ = false
+
 abbrev pub is_wdata : ToCache → Bool
 is_wdata (WDATA body) = true
 is_wdata _ = false
+
 abbrev pub is_inv : ToCache → Bool
 is_inv INV = true
 is_inv _ = false
+
 abbrev pub is_busy : ToCache → Bool
 is_busy BUSY = true
 is_busy _ = false

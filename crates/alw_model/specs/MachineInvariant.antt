@@ -1,19 +1,19 @@
 -- The machine invariant: what holds of a machine after every legal journal, the line invariant of each line included.
-use Rattle.std.specs.Prelude.{ℕ, ◌+◌, ◌*◌, ◌<◌, Bool, true, false, cond, ◌&&◌, ◌||◌, ◌==◌, nat_le, nat_lt, max, fold, map, Option, Some, None, is_some, List, length, IsTrue}
+use Rattle.std.specs.Prelude.{ℕ, ◌+◌, ◌*◌, ◌<◌, Bool, true, false, cond, ◌&&◌, ◌||◌, ◌==◌, nat_le, nat_lt, max, fold, map, Option, Some, None, is_some, length, IsTrue}
 use Rattle.std.specs.List.{list_all}
 use Rattle.alw_num.specs.Weights.{weigh}
-use Rattle.alw_num.specs.NodeSets.{Nodes, members, count_nodes}
+use Rattle.alw_num.specs.NodeSets.{members, count_nodes}
 use Rattle.alw_num.specs.declared.states.Mode.{Mode}
 use Rattle.sparc_table.specs.Turns.{need_of}
 use Rattle.sparc_table.specs.declared.outcomes.Need.{Need}
 use Rattle.sparc_table.specs.declared.outcomes.Need.TheVariants as needs
 use Rattle.alw_msg.specs.declared.messages.Msg.{Msg}
 use Rattle.alw_msg.specs.declared.contexts.Status.{Status}
-use Rattle.alw_msg.specs.declared.contexts.Status.TheVariants.{Ready, Waiting, Halted, Trapped}
+use Rattle.alw_msg.specs.declared.contexts.Status.TheVariants.{Waiting, Trapped}
 use Rattle.alw_image.specs.declared.parts.Parts.{Parts}
 use Rattle.alw_image.specs.Images.{node_count, line_count}
 use Rattle.alw_image.specs.Parameters.{Parameters}
-use Rattle.alw_model.specs.Maps.{kept_if, passes, passes_if_some, value_at}
+use Rattle.alw_model.specs.Maps.{passes, passes_if_some, value_at}
 use Rattle.alw_model.specs.LimitLess.{Directory}
 use Rattle.alw_model.specs.Caches.{Copy, Transaction, set_of, grants, granted_copy}
 use Rattle.alw_model.specs.Contexts.{Slot, slot_at, is_ready, waits_on}
@@ -89,7 +89,7 @@ caches_rightly parts parameters entry = nat_lt entry.1.line (line_count parts) &
 abbrev pub slot_fits : Parts → Parameters → NodeState → Slot → Bool
 slot_fits parts parameters node slot =
     waits_rightly node slot && (holds_rightly parts parameters node slot && (trapped_rightly slot.regs.pc slot.status
-        && (passes_if_some (λ line. nat_lt line (line_count parts)) (waited slot.status) && passes_if_some (λ line. nat_lt line (line_count parts)) slot.hold)))
+    && (passes_if_some (λ line. nat_lt line (line_count parts)) (waited slot.status) && passes_if_some (λ line. nat_lt line (line_count parts)) slot.hold)))
 
 -- a transaction by all of this; its line and its opener exist, so that a context waits on its line
 abbrev pub transaction_fits : Parts → NodeState → ℕ × Transaction → Bool
@@ -105,7 +105,7 @@ sizes_fit parts node = length node.slots == parts.contexts && (length node.homes
 abbrev pub left_to_do : MachineState → ℕ
 left_to_do machine =
     fold max 0 (map (λ (node : NodeState). node.clock) machine.nodes) + 3 * weigh (λ (node : NodeState). length node.cache.entries) machine.nodes
-        + 2 * weigh length machine.links + weigh (λ (node : NodeState). length node.packets) machine.nodes
+    + 2 * weigh length machine.links + weigh (λ (node : NodeState). length node.packets) machine.nodes
 
 -- what that is at most once every context has halted
 abbrev pub most_to_do : Parts → Parameters → ℕ

@@ -1,5 +1,8 @@
 -- Words that the worked runs share: entries as a trace writes them, and what a closed run computes with.
-use Rattle.std.specs.Prelude.{ℕ, Bool, ◌&&◌, List, [], ◌∷◌, ◌++◌, map, flat_map, bytes_eq}
+use Rattle.std.specs.Prelude.{ℕ, Bool, ◌&&◌, List, [], ◌∷◌, ◌++◌, map, filter, flat_map, bytes_eq, ◌==◌}
+use Rattle.std.specs.List.{range_with_len}
+use Rattle.alw_image.specs.Images.{node_count}
+use Rattle.alw_model.specs.Threads.{Logged, Logs, merged}
 use Rattle.alw_num.specs.NodeSets.{node_sets}
 use Rattle.sparc_table.specs.Table.{instr_of}
 use Rattle.sparc_table.specs.Arithmetic.{arithmetic, computed, shifted}
@@ -24,7 +27,7 @@ use Rattle.alw_model.specs.LimitLess.{Directory}
 use Rattle.alw_model.specs.NodeStates.{home_at}
 use Rattle.alw_model.specs.Machine.{MachineState, node_at, is_enabled, state, is_legal}
 use Rattle.alw_model.specs.Flat.{Context, Flat, flat_after, flat_prints, are_ready}
-use Rattle.alw_model.specs.Runs.{moments, turns_of, prints_of, flat_view}
+use Rattle.alw_model.specs.Runs.{Moment, number_of, moments, turns_of, prints_of, flat_view}
 pub mod OneNode
 pub mod TwoNodes
 pub mod ThreeNodes
@@ -103,7 +106,15 @@ is_flat parts parameters journal =
     && (bytes_eq (flat_numbers (flat_view parts parameters (state parts parameters journal))) (flat_numbers (flat_after parts turns))
     && bytes_eq (flat_map (λ (print : ℕ × ℕ). print.0 ∷ print.1 ∷ []) (prints_of parts parameters journal)) (flat_map (λ (print : ℕ × ℕ). print.0 ∷ print.1 ∷ []) (flat_prints parts turns)))
 
+-- the log of a node, of the entries of a run
+abbrev pub log_in : ℕ → List Moment → List Logged
+log_in number run = map (λ moment. record { entry = moment.entry; taken = moment.taken; sent = moment.stepped.sends }) (filter (λ moment. number_of moment == number) run)
+
+-- the logs of all nodes, of a journal
+abbrev pub logs_of : Parts → Parameters → List Entry → Logs
+logs_of parts parameters journal = map (λ number. log_in number (moments parts parameters journal)) (range_with_len 0 (node_count parts))
+
 -- To unfold this is to unfold all that a closed run computes with.
 unfoldable pub closed_runs : Unit {0}
-unfolding node_sets instr_of arithmetic computed shifted holds loaded stored need effect fetched need_of turn_of empty_map value_at with_value without_value state is_legal flat_after flat_prints are_ready moments
+unfolding node_sets instr_of arithmetic computed shifted holds loaded stored need effect fetched need_of turn_of empty_map value_at with_value without_value state is_legal flat_after flat_prints are_ready moments merged
 closed_runs = tt

@@ -1,20 +1,8 @@
 -- What is read off a journal: turns and prints, the messages that a line's home acted on, the full map that they leave, and the counts of the report.
-use Rattle.std.specs.Prelude.{ℕ, ◌+◌, ◌-◌, ◌*◌, ◌/◌, ◌%◌, Bool, true, false, cond, not, ◌==◌, Option, Some, None, List, [], ◌∷◌, map, flat_map, is_some}
+use Rattle.std.specs.Prelude.{ℕ, ◌+◌, ◌*◌, cond, ◌==◌, Option, Some, None, List, [], ◌∷◌, map, flat_map}
 use Rattle.std.specs.List.{range_with_len}
-use Rattle.alw_num.specs.Lanes.{lane_of}
-use Rattle.alw_num.specs.Weights.{digit, weigh}
-use Rattle.alw_num.specs.declared.addresses.TheConstants.{SHARED_BASE}
-use Rattle.alw_num.specs.declared.addresses.Line.{Line}
-use Rattle.alw_num.specs.declared.addresses.Width.TheVariants.{Word}
-use Rattle.alw_num.specs.declared.states.State.{State}
-use Rattle.alw_num.specs.declared.states.State.TheVariants.{RO}
-use Rattle.alw_num.specs.declared.states.Meta.{Meta}
-use Rattle.alw_num.specs.NodeSets.{Nodes, members, count_nodes}
 use Rattle.sparc_table.specs.declared.outcomes.Outcome.{Outcome}
-use Rattle.alw_msg.specs.declared.messages.Kind.{Kind}
-use Rattle.alw_msg.specs.declared.messages.Kind.TheVariants as kinds
 use Rattle.alw_msg.specs.declared.messages.Msg.{Msg}
-use Rattle.alw_msg.specs.declared.events.Event.{Event}
 use Rattle.alw_msg.specs.declared.events.Entry.{Entry}
 use Rattle.alw_msg.specs.declared.contexts.Status.{Status}
 use Rattle.alw_msg.specs.declared.contexts.Status.TheVariants.{Ready, Waiting}
@@ -22,32 +10,35 @@ use Rattle.alw_image.specs.declared.parts.Parts.{Parts}
 use Rattle.alw_image.specs.Images.{body_of, line_count}
 use Rattle.alw_image.specs.Parameters.{Parameters}
 use Rattle.alw_model.specs.declared.steps.Did.{Did}
-use Rattle.alw_model.specs.declared.steps.Did.TheVariants.{Turn, Missed, Took, Handled, Evicted}
+use Rattle.alw_model.specs.declared.steps.Did.TheVariants.{Turn, Took, Handled}
 use Rattle.alw_model.specs.FullMap.{ToMemory, Home, home_start, act}
-use Rattle.alw_model.specs.LimitLess.{Directory, full_map_of}
-use Rattle.alw_model.specs.Contexts.{Slot, slot_at}
+use Rattle.alw_model.specs.Contexts.{Slot}
 use Rattle.alw_model.specs.Messages.{content}
 use Rattle.alw_model.specs.NodeStates.{NodeState, node_of}
 use Rattle.alw_model.specs.NodeSteps.{Stepped}
 use Rattle.alw_model.specs.Machine.{MachineState, machine_start, node_at, taken_by, stepped_by, after_step}
 use Rattle.alw_model.specs.Flat.{Context, Flat, print_of}
-use Rattle.alw_model.specs.Lines.{request_in, entry_of, current_value}
+use Rattle.alw_model.specs.Lines.{request_in, current_value}
 
--- one event of a run: its node's number, the node before it, the message that it took, and what it did
+-- one entry of a run: its node before it, the message that it took, and what it did
 pub record Moment : Type 0 where
-  pub number : ℕ
+  pub entry : Entry
   pub before : NodeState
   pub taken : Option Msg
   pub stepped : Stepped
 
-abbrev pub moment_of : Parts → Parameters → MachineState → Event → Moment
-moment_of parts parameters machine event = record { number = node_of event; before = node_at machine (node_of event); taken = taken_by parts machine event; stepped = stepped_by parts parameters machine event }
+abbrev pub moment_of : Parts → Parameters → MachineState → Entry → Moment
+moment_of parts parameters machine entry = record { entry = entry; before = node_at machine (node_of entry.event); taken = taken_by parts machine entry.event; stepped = stepped_by parts parameters machine entry.event }
+
+-- the number of the node that it is of
+abbrev pub number_of : Moment → ℕ
+number_of moment = node_of moment.entry.event
 
 -- the events of a run from a state on
 abbrev pub moments_from : Parts → Parameters → MachineState → List Entry → List Moment
 moments_from parts parameters machine [] = []
 moments_from parts parameters machine (entry ∷ rest) =
-    let moment = moment_of parts parameters machine entry.event in
+    let moment = moment_of parts parameters machine entry in
     moment ∷ moments_from parts parameters (after_step parts machine entry.event moment.stepped) rest
 
 -- the events of a journal
@@ -72,11 +63,11 @@ print_in parts number (Some turn) = print_of (number * parts.contexts + turn.0) 
 
 -- the contexts that took turns, in order
 abbrev pub turns_of : Parts → Parameters → List Entry → List ℕ
-turns_of parts parameters journal = flat_map (λ moment. context_in parts moment.number (turn_in moment.stepped.did)) (moments parts parameters journal)
+turns_of parts parameters journal = flat_map (λ moment. context_in parts (number_of moment) (turn_in moment.stepped.did)) (moments parts parameters journal)
 
 -- the words that they printed, each with its context, in order
 abbrev pub prints_of : Parts → Parameters → List Entry → List (ℕ × ℕ)
-prints_of parts parameters journal = flat_map (λ moment. print_in parts moment.number (turn_in moment.stepped.did)) (moments parts parameters journal)
+prints_of parts parameters journal = flat_map (λ moment. print_in parts (number_of moment) (turn_in moment.stepped.did)) (moments parts parameters journal)
 
 -- ---- acted messages
 

@@ -6,6 +6,7 @@ ghost use Rattle.alw_msg.specs.declared.messages.Kind.TheVariants as kinds;
 ghost use Rattle.sparc_table.specs.declared.outcomes.Outcome.TheVariants as ends;
 ghost use Rattle.alw_model.specs.declared.steps.Did.TheVariants.{Turn, Missed, Took};
 ghost use Rattle.alw_model.specs.Maps.{value_at};
+ghost use Rattle.alw_model.specs.Checks.{stays_sound};
 ghost use Rattle.alw_model.specs.Machine.{state, node_at, link_at, is_legal, end_of, Halted, Trapped, Limit};
 ghost use Rattle.alw_model.specs.Counts.{count_did, is_miss, memory_words, directory_lines};
 ghost use Rattle.alw_model.specs.Runs.{turns_of, prints_of, moments};
@@ -16,6 +17,7 @@ ghost use Rattle.alw_model.specs.Rows.OneNode.{itself_image, itself_journal, con
 #[tactic(auto, unfolding(crate::specs::Rows::closed_runs, crate::specs::Rows::OneNode::one_node_runs))]
 pub fn link_to_itself()
     ensures legal { is_legal itself_image defaults itself_journal ≡ true }
+    ensures sound { stays_sound itself_image defaults itself_journal ≡ true }
     ensures ends { end_of itself_image defaults (state itself_image defaults itself_journal) ≡ Some Halted }
     ensures did { dids itself_image defaults itself_journal
         ≡ Turn 0 ends.Done ∷ Turn 0 ends.Done ∷ Missed 0 ∷ Took ∷ Took ∷ Turn 0 ends.Done ∷ Turn 0 ends.Done ∷ Turn 0 ends.Done ∷ Turn 0 (ends.Out 5) ∷ Turn 0 ends.Halt ∷ [] }
@@ -34,6 +36,7 @@ pub fn link_to_itself()
 #[tactic(auto, unfolding(crate::specs::Rows::closed_runs, crate::specs::Rows::OneNode::one_node_runs))]
 pub fn two_contexts_one_line()
     ensures legal { is_legal contexts_image defaults contexts_journal ≡ true }
+    ensures sound { stays_sound contexts_image defaults contexts_journal ≡ true }
     ensures ends { end_of contexts_image defaults (state contexts_image defaults contexts_journal) ≡ Some Halted }
     ensures sends { sent contexts_image defaults contexts_journal
         ≡ [] ∷ ((0, kinds.RREQ, 0) ∷ []) ∷ [] ∷ [] ∷ ((0, kinds.RDATA, 0) ∷ []) ∷ [] ∷ ((0, kinds.WREQ, 0) ∷ []) ∷ [] ∷ [] ∷ ((0, kinds.WDATA, 0) ∷ []) ∷ [] ∷ [] ∷ [] ∷ [] }
@@ -47,6 +50,7 @@ pub fn two_contexts_one_line()
 #[tactic(auto, unfolding(crate::specs::Rows::closed_runs, crate::specs::Rows::OneNode::one_node_runs))]
 pub fn one_set()
     ensures legal { is_legal set_image four_sets set_journal ≡ true }
+    ensures sound { stays_sound set_image four_sets set_journal ≡ true }
     ensures cached { value_at (node_at (state set_image four_sets set_journal) 0).cache 0
         ≡ Some (record { line = 4; mode = Write; body = record { a = 0; b = 0; c = 0; d = 0 } }) }
     ensures link { link_at set_image (state set_image four_sets set_journal) 0 0
@@ -57,6 +61,7 @@ pub fn one_set()
 #[tactic(auto, unfolding(crate::specs::Rows::closed_runs, crate::specs::Rows::OneNode::one_node_runs))]
 pub fn trap_ends()
     ensures legal { is_legal trap_image defaults trap_journal ≡ true }
+    ensures sound { stays_sound trap_image defaults trap_journal ≡ true }
     ensures did { dids trap_image defaults trap_journal ≡ Turn 0 ends.Done ∷ Turn 0 (ends.Trap 0x07) ∷ [] }
     ensures ends { end_of trap_image defaults (state trap_image defaults trap_journal) ≡ Some Trapped }
 {}
@@ -65,6 +70,7 @@ pub fn trap_ends()
 #[tactic(auto, unfolding(crate::specs::Rows::closed_runs, crate::specs::Rows::OneNode::one_node_runs))]
 pub fn limit_ends()
     ensures legal { is_legal loop_image limit_3 loop_journal ≡ true }
+    ensures sound { stays_sound loop_image limit_3 loop_journal ≡ true }
     ensures ends { end_of loop_image limit_3 (state loop_image limit_3 loop_journal) ≡ Some Limit }
     ensures further { is_legal loop_image limit_3 (loop_journal ++ I 4 0 ∷ []) ≡ false }
 {}

@@ -2,6 +2,7 @@ ghost use Rattle.std.specs.Prelude.{◌≡◌, ◌∷◌, [], true, None};
 ghost use Rattle.alw_num.specs.declared.states.State.TheVariants.{RO, RW, WT};
 ghost use Rattle.alw_num.specs.declared.states.Meta.TheVariants.{Normal, TrapWrite};
 ghost use Rattle.alw_msg.specs.declared.messages.Kind.TheVariants as kinds;
+ghost use Rattle.alw_model.specs.Checks.{stays_sound};
 ghost use Rattle.alw_model.specs.Machine.{state, is_legal, end_of};
 ghost use Rattle.alw_model.specs.Counts.{memory_words, directory_lines};
 ghost use Rattle.alw_model.specs.Runs.{turns_of};
@@ -13,6 +14,7 @@ ghost use Rattle.alw_model.specs.Rows.ThreeNodes.{spill_image, one_pointer, spil
 #[tactic(auto, unfolding(crate::specs::Rows::closed_runs, crate::specs::Rows::ThreeNodes::three_node_runs))]
 pub fn spill()
     ensures legal { is_legal spill_image one_pointer spill_journal ≡ true }
+    ensures sound { stays_sound spill_image one_pointer spill_journal ≡ true }
     ensures software { directory_lines spill_image (state spill_image one_pointer spill_handled)
         ≡ record { line = 0; state = RO; meta = TrapWrite; hardware = []; software = 0 ∷ 1 ∷ []; acks = 0 } ∷ [] }
     ensures hardware { directory_lines spill_image (state spill_image one_pointer spill_journal)
@@ -24,6 +26,7 @@ pub fn spill()
 #[tactic(auto, unfolding(crate::specs::Rows::closed_runs, crate::specs::Rows::ThreeNodes::three_node_runs))]
 pub fn one_node_in_both_sets()
     ensures legal { is_legal spill_image one_pointer both_journal ≡ true }
+    ensures sound { stays_sound spill_image one_pointer both_journal ≡ true }
     ensures software { directory_lines spill_image (state spill_image one_pointer all_in_software)
         ≡ record { line = 0; state = RO; meta = TrapWrite; hardware = []; software = 0 ∷ 1 ∷ 2 ∷ []; acks = 0 } ∷ [] }
     ensures both { directory_lines spill_image (state spill_image one_pointer in_both)
@@ -36,6 +39,7 @@ pub fn one_node_in_both_sets()
 #[tactic(auto, unfolding(crate::specs::Rows::closed_runs, crate::specs::Rows::ThreeNodes::three_node_runs))]
 pub fn silent_drop()
     ensures legal { is_legal spill_image one_pointer silent_journal ≡ true }
+    ensures sound { stays_sound spill_image one_pointer silent_journal ≡ true }
     ensures sends { sent spill_image one_pointer silent_journal
         ≡ [] ∷ ((0, kinds.RREQ, 0) ∷ []) ∷ ((0, kinds.RDATA, 0) ∷ []) ∷ [] ∷ [] ∷ ((0, kinds.RREQ, 0) ∷ []) ∷ [] ∷ ((1, kinds.RDATA, 0) ∷ []) ∷
         [] ∷ ((0, kinds.RREQ, 0) ∷ []) ∷ ((2, kinds.RDATA, 0) ∷ []) ∷
@@ -54,6 +58,7 @@ pub fn silent_drop()
 #[tactic(auto, unfolding(crate::specs::Rows::closed_runs, crate::specs::Rows::ThreeNodes::three_node_runs))]
 pub fn crossing_messages()
     ensures legal { is_legal crossing_image defaults crossing_journal ≡ true }
+    ensures sound { stays_sound crossing_image defaults crossing_journal ≡ true }
     ensures stored { entry_after crossing_image defaults crossing_stored
         ≡ record (entry_after crossing_image defaults crossing_stored) { state = WT; acks = 1; body = record { a = 1; b = 0; c = 0; d = 0 } } }
     ensures sends { sent crossing_image defaults crossing_journal

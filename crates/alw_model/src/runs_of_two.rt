@@ -5,10 +5,12 @@ ghost use Rattle.alw_msg.specs.declared.events.Event.TheVariants.{Deliver, Evict
 ghost use Rattle.alw_msg.specs.declared.messages.Kind.TheVariants as kinds;
 ghost use Rattle.sparc_table.specs.declared.outcomes.Outcome.TheVariants as ends;
 ghost use Rattle.alw_model.specs.declared.steps.Did.TheVariants.{Turn, Missed, Took, Packet, Handled, Evicted};
+ghost use Rattle.alw_model.specs.Checks.{stays_sound};
 ghost use Rattle.alw_model.specs.Machine.{state, is_legal, end_of, Halted};
 ghost use Rattle.alw_model.specs.Counts.{count_did, count_hops, count_replies, count_used, count_holds, is_miss, is_spill, is_handling, is_eviction, memory_words, directory_lines};
 ghost use Rattle.alw_model.specs.Runs.{turns_of, prints_of, moments};
-ghost use Rattle.alw_model.specs.Rows.{is_flat, I, H, D, defaults, dids, sent, is_enabled_after};
+ghost use Rattle.alw_model.specs.Threads.{merged, LinksAgree};
+ghost use Rattle.alw_model.specs.Rows.{is_flat, I, H, D, defaults, dids, sent, is_enabled_after, logs_of};
 ghost use Rattle.alw_model.specs.Rows.TwoNodes.{writers_image, writers_before, writers_journal, hold_before, hold_journal, always_image, always_journal, progress_before};
 
 /// Two nodes store in one line in turn, and the first then loads it: INV takes the line from its
@@ -16,6 +18,7 @@ ghost use Rattle.alw_model.specs.Rows.TwoNodes.{writers_image, writers_before, w
 #[tactic(auto, unfolding(crate::specs::Rows::closed_runs, crate::specs::Rows::TwoNodes::two_node_runs))]
 pub fn two_writers()
     ensures legal { is_legal writers_image defaults writers_journal ≡ true }
+    ensures sound { stays_sound writers_image defaults writers_journal ≡ true }
     ensures ends { end_of writers_image defaults (state writers_image defaults writers_journal) ≡ Some Halted }
     ensures did { dids writers_image defaults writers_journal
         ≡ Turn 0 ends.Done ∷ Missed 0 ∷ Took ∷ Took ∷ Turn 0 ends.Done ∷ Turn 0 ends.Done ∷ Missed 0 ∷ Took ∷ Took ∷ Took ∷ Took ∷
@@ -37,6 +40,17 @@ pub fn two_writers()
     ensures stamped { is_legal writers_image defaults (I 1 0 ∷ I 2 0 ∷ D 4 0 0 ∷ []) ≡ false }
 {}
 
+/// The logs of the two nodes of that run merge into another journal of it, by stamp and then by node.
+#[tactic(auto, unfolding(crate::specs::Rows::closed_runs, crate::specs::Rows::TwoNodes::two_node_runs))]
+pub fn two_logs_merge()
+    ensures merge { merged (logs_of writers_image defaults writers_journal)
+        ≡ I 1 0 ∷ I 1 1 ∷ I 2 0 ∷ I 2 1 ∷ D 3 0 0 ∷ D 4 0 0 ∷ I 5 0 ∷ D 6 1 0 ∷ D 7 0 0 ∷ D 8 0 0 ∷ I 9 0 ∷ D 9 0 1 ∷ D 10 0 0 ∷ I 10 1 ∷
+        I 11 1 ∷ D 12 0 1 ∷ D 13 1 0 ∷ D 14 0 0 ∷ I 15 0 ∷ I 16 0 ∷ I 17 0 ∷ [] }
+    ensures legal { is_legal writers_image defaults (merged (logs_of writers_image defaults writers_journal)) ≡ true }
+    ensures turns { turns_of writers_image defaults (merged (logs_of writers_image defaults writers_journal)) ≡ 0 ∷ 1 ∷ 0 ∷ 1 ∷ 1 ∷ 0 ∷ 0 ∷ 0 ∷ [] }
+    ensures agree { LinksAgree (logs_of writers_image defaults writers_journal) }
+{}
+
 /// A line that arrived for a context stays until that context has used it: the INV for it waits, and
 /// so does an eviction.
 #[tactic(auto, unfolding(crate::specs::Rows::closed_runs, crate::specs::Rows::TwoNodes::two_node_runs))]
@@ -46,6 +60,7 @@ pub fn hold_until_used()
     ensures inv_waits { is_enabled_after writers_image defaults hold_before (Deliver (record { 0 = 0 }) (record { 0 = 0 })) ≡ false }
     ensures evict_waits { is_enabled_after writers_image defaults hold_before (Evict (record { 0 = 0 }) 0) ≡ false }
     ensures legal { is_legal writers_image defaults hold_journal ≡ true }
+    ensures sound { stays_sound writers_image defaults hold_journal ≡ true }
     ensures sends { sent writers_image defaults hold_journal
         ≡ [] ∷ ((0, kinds.WREQ, 0) ∷ []) ∷ ((0, kinds.WDATA, 0) ∷ []) ∷ [] ∷ ((0, kinds.WREQ, 0) ∷ []) ∷ ((0, kinds.INV, 0) ∷ []) ∷ [] ∷ [] ∷ ((0, kinds.UPDATE, 2) ∷ []) ∷ [] }
     ensures replies { count_replies (moments writers_image defaults hold_journal) ≡ 1 }
@@ -57,6 +72,7 @@ pub fn hold_until_used()
 #[tactic(auto, unfolding(crate::specs::Rows::closed_runs, crate::specs::Rows::TwoNodes::two_node_runs))]
 pub fn trap_always()
     ensures legal { is_legal always_image defaults always_journal ≡ true }
+    ensures sound { stays_sound always_image defaults always_journal ≡ true }
     ensures ends { end_of always_image defaults (state always_image defaults always_journal) ≡ Some Halted }
     ensures did { dids always_image defaults always_journal
         ≡ Turn 0 ends.Done ∷ Missed 0 ∷ Packet ∷ Handled kinds.RREQ RO ∷ Took ∷ Turn 0 ends.Done ∷ Turn 0 ends.Done ∷ Missed 0 ∷ Packet ∷ Handled kinds.WREQ RO ∷
@@ -75,6 +91,7 @@ pub fn trap_always()
 #[tactic(auto, unfolding(crate::specs::Rows::closed_runs, crate::specs::Rows::TwoNodes::two_node_runs))]
 pub fn progress_blocks()
     ensures legal { is_legal always_image defaults progress_before ≡ true }
+    ensures sound { stays_sound always_image defaults progress_before ≡ true }
     ensures waits { is_enabled_after always_image defaults progress_before (Deliver (record { 0 = 0 }) (record { 0 = 0 })) ≡ false }
     ensures handled { is_legal always_image defaults (progress_before ++ H 6 0 ∷ D 7 0 0 ∷ []) ≡ true }
 {}
