@@ -1,5 +1,5 @@
 -- What threads leave: the log of each node as a run of its own, links that agree between logs, and the merge of logs into one journal (stamps after Lamport 1978).
-use Rattle.std.specs.Prelude.{◌≡◌, ℕ, ◌<◌, ◌≤◌, Bool, true, false, cond, not, ◌&&◌, ◌||◌, ◌==◌, nat_lt, Option, is_some, option_to_list, List, [], ◌∷◌, ◌++◌, map, filter, flat_map, length, slice_index_or, IsTrue}
+use Rattle.std.specs.Prelude.{◌≡◌, ℕ, ◌<◌, ◌≤◌, Bool, true, false, cond, not, ◌&&◌, ◌||◌, ◌==◌, nat_lt, Option, is_some, option_to_list, List, [], ◌∷◌, ◌++◌, map, filter, flat_map, length, slice_index_or, IsTrue, IfSome}
 use Rattle.alw_msg.specs.declared.messages.Msg.{Msg}
 use Rattle.alw_msg.specs.declared.events.Event.{Event}
 use Rattle.alw_msg.specs.declared.events.Event.TheVariants.{Deliver, Evict}
@@ -45,6 +45,11 @@ IsRunFrom parts parameters number node (logged ∷ rest) = IsNextLogged parts pa
 -- a local run of the node of this number, from its start
 abbrev pub IsLocalRun : Parts → Parameters → ℕ → List Logged → Type 0
 IsLocalRun parts parameters number log = IsRunFrom parts parameters number (node_start parts number) log
+
+-- stamps above a clock rise strictly, and a message taken has a stamp below that of the entry that takes it
+abbrev pub StampsRise : ℕ → List Logged → Type 0
+StampsRise clock [] = Unit {0}
+StampsRise clock (logged ∷ rest) = (clock < logged.entry.stamp) × IfSome logged.taken (λ msg. msg.stamp < logged.entry.stamp) × StampsRise logged.entry.stamp rest
 
 -- the node after a log
 abbrev pub node_after : Parts → Parameters → ℕ → NodeState → List Logged → NodeState
