@@ -1,8 +1,10 @@
 //! Messages of the coherence protocol, events of the machine and lists of them.
 #![tactic(auto)]
 
+mod contexts;
 mod events;
 mod messages;
 
+pub use contexts::Status;
 pub use events::{Entry, Event, Journal, Prints, Turns, Words};
 pub use messages::{Kind, Msg};
