@@ -1,0 +1,4 @@
+pub mod Protocol
+pub mod Combinations
+pub mod Census
+pub mod Sound

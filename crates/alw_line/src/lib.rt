@@ -1,0 +1,6 @@
+//! One line.
+#![tactic(auto)]
+
+mod laws;
+
+pub use laws::line_invariant;
