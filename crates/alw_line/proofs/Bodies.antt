@@ -1,50 +1,44 @@
 -- Bodies that are a line's value: the test of two lines, and the number of bodies that are off.
-use Rattle.std.proofs.Common.{◌≡◌, ◌+◌, ◌≤◌, Bool, true, false, not, ◌&&◌, Option, Some, None, List, [], ◌∷◌, refl, ap, arith}
-use Rattle.std.proofs.lemmas.Bool.{eqb-true, eq-eqb}
+use Rattle.std.proofs.Common.{◌≡◌, ◌+◌, ◌≤◌, Bool, true, false, not, ◌==◌, Option, Some, None, List, [], ◌∷◌, refl, ap, arith}
+use Rattle.std.proofs.lemmas.Bool.{eqb-true, eq-eqb, and_parts}
 use Rattle.alw_num.specs.declared.addresses.Line.{Line}
 use Rattle.alw_num.specs.declared.states.Mode.{Mode}
 use Rattle.alw_num.specs.declared.states.Mode.TheVariants.{Read, Write}
 use Rattle.alw_num.specs.Weights.{digit, weigh}
 use Rattle.alw_num.proofs.Weigh.{digit_le}
 use Rattle.alw_model.specs.FullMap.{ToMemory, RREQ, WREQ, REPM, UPDATE, ACKC, ToCache, RDATA, WDATA, INV, BUSY}
+use Rattle.alw_model.specs.LineInvariant.{same_line}
 use Rattle.alw_model.specs.Lines.{LineNode, is_repm, is_update, is_rdata, is_wdata, count_of}
-use Rattle.alw_line.specs.Census.{is_read, is_write, copies_of, lines_equal, off, off_copy, off_up, off_down, census, carries}
-
-first_true : (a b : Bool) → (a && b) ≡ true → a ≡ true
-first_true true b e = refl
-first_true false b e = e
-
-second_true : (a b : Bool) → (a && b) ≡ true → b ≡ true
-second_true true b e = e
-second_true false b e = absurd (cc)
+use Rattle.alw_line.specs.Census.{is_read, is_write, copies_of, off, off_copy, off_up, off_down, census, carries}
 
 -- lines that the test calls equal are one
-pub equal_lines : (one other : Line) → lines_equal one other ≡ true → one ≡ other
+pub equal_lines : (one other : Line) → same_line one other ≡ true → one ≡ other
 equal_lines one other e =
-    let abc = first_true _ _ e in
-    let ab = first_true _ _ abc in
-    let a : one.a ≡ other.a = eqb-true _ _ (first_true _ _ ab) in
-    let b : one.b ≡ other.b = eqb-true _ _ (second_true _ _ ab) in
-    let c : one.c ≡ other.c = eqb-true _ _ (second_true _ _ abc) in
-    let d : one.d ≡ other.d = eqb-true _ _ (second_true _ _ e) in
+    let p = and_parts (one.a == other.a) _ e in
+    let q = and_parts (one.b == other.b) _ p.1 in
+    let r = and_parts (one.c == other.c) _ q.1 in
+    let a : one.a ≡ other.a = eqb-true _ _ p.0 in
+    let b : one.b ≡ other.b = eqb-true _ _ q.0 in
+    let c : one.c ≡ other.c = eqb-true _ _ r.0 in
+    let d : one.d ≡ other.d = eqb-true _ _ r.1 in
     λ i. record { a = a i; b = b i; c = c i; d = d i }
 
 -- a line is equal to itself
-pub line_equals : (one : Line) → lines_equal one one ≡ true
+pub line_equals : (one : Line) → same_line one one ≡ true
 line_equals one = rw (eq-eqb one.a one.a refl, eq-eqb one.b one.b refl, eq-eqb one.c one.c refl, eq-eqb one.d one.d refl)
 
 pub off_same : (value : Line) → off value value ≡ 0
 off_same value = ap (λ b. digit (not b)) (line_equals value)
 
 pub same_of_off : (value body : Line) → off value body ≡ 0 → body ≡ value
-same_of_off value body none = go (lines_equal body value) refl none
+same_of_off value body none = go (same_line body value) refl none
   where
-    go : (b : Bool) → lines_equal body value ≡ b → digit (not b) ≡ 0 → body ≡ value
+    go : (b : Bool) → same_line body value ≡ b → digit (not b) ≡ 0 → body ≡ value
     go true e zero = equal_lines body value e
     go false e zero = absurd (omega arith)
 
 pub off_le : (value body : Line) → off value body ≤ 1
-off_le value body = digit_le (not (lines_equal body value))
+off_le value body = digit_le (not (same_line body value))
 
 -- no more bodies are off than there are messages with a body
 ups_off : (value : Line) (up : List ToMemory) → weigh (off_up value) up ≤ count_of is_repm up + count_of is_update up

@@ -7,3 +7,7 @@ pub mod Recalls
 pub mod Ends
 pub mod Unlisted
 pub mod Steps
+pub mod Tests
+pub mod Clauses
+pub mod Consequences
+pub mod Always

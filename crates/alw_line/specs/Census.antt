@@ -1,10 +1,11 @@
 -- The census of a node's part of a line: how many messages of each kind are on their way, which copy and which transaction there is, how much stands in a wrong order, and how many bodies aren't the line's value.
-use Rattle.std.specs.Prelude.{ℕ, ◌+◌, Bool, not, ◌==◌, ◌&&◌, Option, Some, None, List, [], ◌∷◌}
+use Rattle.std.specs.Prelude.{ℕ, ◌+◌, not, Option, Some, None, List, [], ◌∷◌}
 use Rattle.alw_num.specs.declared.addresses.Line.{Line}
 use Rattle.alw_num.specs.declared.states.Mode.{Mode}
 use Rattle.alw_num.specs.declared.states.Mode.TheVariants.{Read, Write}
 use Rattle.alw_num.specs.Weights.{digit, weigh}
 use Rattle.alw_model.specs.FullMap.{ToMemory, RREQ, WREQ, REPM, UPDATE, ACKC, ToCache, RDATA, WDATA, INV, BUSY}
+use Rattle.alw_model.specs.LineInvariant.{same_line}
 use Rattle.alw_model.specs.Lines.{LineNode, is_rreq, is_wreq, is_repm, is_update, is_ackc, is_rdata, is_wdata, is_inv, is_busy, count_of}
 
 -- ---- 1 for a copy or a transaction of a mode, and 0 else
@@ -46,12 +47,9 @@ wrong_up (ACKC ∷ rest) = count_of is_repm rest + wrong_up rest
 
 -- ---- bodies that aren't a value
 
-abbrev pub lines_equal : Line → Line → Bool
-lines_equal one other = one.a == other.a && one.b == other.b && one.c == other.c && one.d == other.d
-
 -- 0 for the value, and 1 for another line
 abbrev pub off : Line → Line → ℕ
-off value body = digit (not (lines_equal body value))
+off value body = digit (not (same_line body value))
 
 abbrev pub off_copy : Line → Option (Mode × Line) → ℕ
 off_copy value None = 0

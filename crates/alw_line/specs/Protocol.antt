@@ -128,3 +128,7 @@ value_after value _ = value
 abbrev pub last_stored : Line → List LineEvent → Line
 last_stored value [] = value
 last_stored value (e ∷ es) = last_stored (value_after value e) es
+
+-- a fact of n nodes, a value and a line holds after every legal run from every start, with the value that was stored last
+abbrev pub AfterEveryRun : (ℕ → Line → LineState → Type 0) → Type 0
+AfterEveryRun Fact = (n : ℕ) → (first : Line) → (es : List LineEvent) → IsLegalRun n (start first) es → Fact n (last_stored first es) (run (start first) es)
