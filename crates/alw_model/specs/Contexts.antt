@@ -1,5 +1,5 @@
 -- The contexts of a node: registers, status and hold of each slot, which slot runs, and what wakes those that wait (the papers on Alewife: up to four contexts per processor, and a switch to another on a remote miss).
-use Rattle.std.specs.Prelude.{ℕ, ◌+◌, ◌*◌, ◌%◌, Bool, true, false, cond, ◌==◌, Option, Some, None, List, map, find, length, slice_index_or, slice_set}
+use Rattle.std.specs.Prelude.{ℕ, ◌+◌, ◌*◌, ◌%◌, Bool, true, false, cond, ◌==◌, Option, Some, None, List, map, find, length, slice_index_or, slice_set, unwrap_or, is_some}
 use Rattle.std.specs.List.{list_any, list_all, range_with_len}
 use Rattle.sparc_table.specs.Registers.{start_of}
 use Rattle.sparc_table.specs.declared.registers.Regs.{Regs}
@@ -18,13 +18,11 @@ pub record Slot : Type 0 where
 
 -- the registers of a context at the start: PC is the image's start, or 0 where it has none
 abbrev pub regs_start : Parts → ℕ → Option ℕ → Regs
-regs_start parts context None = start_of 0 context (context_count parts)
-regs_start parts context (Some address) = start_of address context (context_count parts)
+regs_start parts context start = start_of (unwrap_or start 0) context (context_count parts)
 
 -- a context without a start in the image is halted from the beginning
 abbrev pub status_start : Option ℕ → Status
-status_start None = Halted
-status_start (Some address) = Ready
+status_start start = cond (is_some start) Ready Halted
 
 -- a slot at the start
 abbrev pub slot_start : Parts → ℕ → ℕ → Slot

@@ -1,5 +1,5 @@
 -- What the report counts in a run, and what it lists of memory and directory at its end.
-use Rattle.std.specs.Prelude.{ℕ, ◌+◌, ◌-◌, ◌*◌, ◌/◌, ◌%◌, Bool, true, false, cond, not, ◌==◌, Option, Some, None, List, [], ◌∷◌, flat_map, is_some}
+use Rattle.std.specs.Prelude.{ℕ, ◌+◌, ◌-◌, ◌*◌, ◌/◌, ◌%◌, Bool, true, false, cond, not, ◌==◌, List, [], ◌∷◌, length, map, filter, flat_map, is_some}
 use Rattle.std.specs.List.{range_with_len}
 use Rattle.alw_num.specs.Lanes.{lane_of}
 use Rattle.alw_num.specs.Weights.{digit, weigh}
@@ -12,14 +12,17 @@ use Rattle.alw_num.specs.declared.states.Meta.{Meta}
 use Rattle.alw_num.specs.NodeSets.{Nodes, members, count_nodes}
 use Rattle.alw_msg.specs.declared.messages.Kind.{Kind}
 use Rattle.alw_msg.specs.declared.messages.Kind.TheVariants as kinds
-use Rattle.alw_msg.specs.declared.messages.Msg.{Msg}
 use Rattle.alw_image.specs.declared.parts.Parts.{Parts}
 use Rattle.alw_image.specs.Images.{line_count}
 use Rattle.alw_image.specs.Parameters.{Parameters}
+use Rattle.alw_model.specs.declared.steps.Counts.{Counts}
 use Rattle.alw_model.specs.declared.steps.Did.{Did}
 use Rattle.alw_model.specs.declared.steps.Did.TheVariants.{Turn, Missed, Handled, Evicted}
+use Rattle.alw_model.specs.Maps.{passes}
 use Rattle.alw_model.specs.LimitLess.{Directory, full_map_of}
+use Rattle.alw_model.specs.Caches.{brings_line}
 use Rattle.alw_model.specs.Contexts.{slot_at}
+use Rattle.alw_model.specs.Messages.{Content, ForMemory, ForCache, content}
 use Rattle.alw_model.specs.NodeStates.{NodeState}
 use Rattle.alw_model.specs.Machine.{MachineState}
 use Rattle.alw_model.specs.Lines.{entry_of, current_value}
@@ -27,6 +30,7 @@ use Rattle.alw_model.specs.Runs.{Moment, number_of}
 
 -- ---- counts
 
+-- the event was a turn, a miss, an eviction, an action of the handler, or one on an RREQ for a line in Read-Only
 abbrev pub is_turn : Did → Bool
 is_turn (Turn slot outcome) = true
 is_turn _ = false
@@ -43,51 +47,69 @@ abbrev pub is_handling : Did → Bool
 is_handling (Handled kind state) = true
 is_handling _ = false
 
--- the packet was an RREQ for a line in Read-Only
 abbrev pub is_spill : Did → Bool
 is_spill (Handled kinds.RREQ RO) = true
 is_spill _ = false
 
--- a turn that ended a hold
+-- the event was a turn that ended a hold
 abbrev pub uses_hold : NodeState → Did → Bool
 uses_hold before (Turn slot outcome) = is_some (slot_at before.slots slot).hold
 uses_hold before _ = false
 
--- an RDATA or WDATA was delivered
-abbrev pub is_reply : Option Msg → Bool
-is_reply None = false
-is_reply (Some msg) = is_data msg.kind
-  where
-    is_data : Kind → Bool
-    is_data kinds.RDATA = true
-    is_data kinds.WDATA = true
-    is_data _ = false
+-- the message brings a line to a cache: RDATA or WDATA
+abbrev pub is_data : Content → Bool
+is_data (ForCache said) = brings_line said
+is_data (ForMemory said) = false
 
-abbrev pub distance : ℕ → ℕ → ℕ
-distance a b = (a - b) + (b - a)
+-- kinds by number
+abbrev pub kind_number : Kind → ℕ
+kind_number kinds.RREQ = 0
+kind_number kinds.WREQ = 1
+kind_number kinds.REPM = 2
+kind_number kinds.UPDATE = 3
+kind_number kinds.ACKC = 4
+kind_number kinds.RDATA = 5
+kind_number kinds.WDATA = 6
+kind_number kinds.INV = 7
+kind_number kinds.BUSY = 8
 
 -- columns and rows between two nodes
 abbrev pub hops_between : Parts → ℕ → ℕ → ℕ
 hops_between parts from to = distance (from % parts.width) (to % parts.width) + distance (from / parts.width) (to / parts.width)
+  where
+    distance : ℕ → ℕ → ℕ
+    distance a b = (a - b) + (b - a)
 
--- the number of events that pass a test of what they did
+-- events that pass a test of what they did
 abbrev pub count_did : (Did → Bool) → List Moment → ℕ
 count_did test run = weigh (λ moment. digit (test moment.stepped.did)) run
 
--- the number of messages of a kind that were sent
-abbrev pub count_sent : (Kind → ℕ) → List Moment → ℕ
-count_sent kind run = weigh (λ moment. weigh (λ send. kind send.1.kind) moment.stepped.sends) run
+-- messages sent, of a kind
+abbrev pub count_sent : Kind → List Moment → ℕ
+count_sent kind run = weigh (λ moment. weigh (λ send. digit (kind_number send.1.kind == kind_number kind)) moment.stepped.sends) run
 
--- the hops of all messages that were sent
-abbrev pub count_hops : Parts → List Moment → ℕ
-count_hops parts run = weigh (λ moment. weigh (λ send. hops_between parts (number_of moment) send.0) moment.stepped.sends) run
-
--- RDATA and WDATA delivered, and turns that ended a hold
-abbrev pub count_replies : List Moment → ℕ
-count_replies run = weigh (λ moment. digit (is_reply moment.taken)) run
-
-abbrev pub count_used : List Moment → ℕ
-count_used run = weigh (λ moment. digit (uses_hold moment.before moment.stepped.did)) run
+-- all counts of a run
+abbrev pub counts_of : Parts → List Moment → Counts
+counts_of parts run = record {
+  entries = length run;
+  turns = count_did is_turn run;
+  misses = count_did is_miss run;
+  evicts = count_did is_eviction run;
+  rreq = count_sent kinds.RREQ run;
+  wreq = count_sent kinds.WREQ run;
+  repm = count_sent kinds.REPM run;
+  update = count_sent kinds.UPDATE run;
+  ackc = count_sent kinds.ACKC run;
+  rdata = count_sent kinds.RDATA run;
+  wdata = count_sent kinds.WDATA run;
+  inv = count_sent kinds.INV run;
+  busy = count_sent kinds.BUSY run;
+  hops = weigh (λ moment. weigh (λ send. hops_between parts (number_of moment) send.0) moment.stepped.sends) run;
+  handlers = count_did is_handling run;
+  spills = count_did is_spill run;
+  replies = weigh (λ moment. digit (passes (λ msg. is_data (content msg)) moment.taken)) run;
+  used = weigh (λ moment. digit (uses_hold moment.before moment.stepped.did)) run;
+}
 
 -- slots with a hold
 abbrev pub count_holds : MachineState → ℕ
@@ -97,10 +119,7 @@ count_holds machine = weigh (λ node. weigh (λ slot. digit (is_some slot.hold))
 
 -- the words of a line that aren't 0, each with its address
 abbrev pub words_of : ℕ → Line → List (ℕ × ℕ)
-words_of line body = flat_map (λ offset. word_unless_zero (SHARED_BASE + 16 * line + offset) (lane_of body offset Word)) (0 ∷ 4 ∷ 8 ∷ 12 ∷ [])
-  where
-    word_unless_zero : ℕ → ℕ → List (ℕ × ℕ)
-    word_unless_zero address word = cond (word == 0) [] ((address, word) ∷ [])
+words_of line body = filter (λ (word : ℕ × ℕ). not (word.1 == 0)) (map (λ offset. (SHARED_BASE + 16 * line + offset, lane_of body offset Word)) (0 ∷ 4 ∷ 8 ∷ 12 ∷ []))
 
 -- the words of shared data whose current value isn't 0, each with its address, ascending
 abbrev pub memory_words : Parts → Parameters → MachineState → List (ℕ × ℕ)

@@ -91,7 +91,7 @@ counter_fits count s = counter_by s.home.state (sole s.home.pointers) s.home.ack
 
 -- a node owes 0 or 1 answers, and 0 where a transaction is for it
 abbrev pub debt_fits : LineState → ℕ → Bool
-debt_fits s i = nat_le (owes (s.node i)) 1 && (is_shared s.home.state || (not (is_sole s i) || (owes (s.node i) == 0)))
+debt_fits s i = nat_le (owes (s.node i)) 1 && (not ((is_reading s.home.state || is_writing s.home.state) && is_sole s i) || (owes (s.node i) == 0))
 
 -- ---- carrier
 
@@ -104,7 +104,7 @@ is_recalled node acks =
 -- none in Read-Only; in Read-Write exactly one, at the node in P; in a transaction at most one, which is recalled
 abbrev pub carrier_by : State → Bool → ℕ → LineNode → ℕ → Bool
 carrier_by RO owner acks node total = carries node == 0
-carrier_by RW owner acks node total = carries node == digit owner
+carrier_by RW owner acks node total = total == 1 && (carries node == digit owner)
 carrier_by _ owner acks node total = nat_le total 1 && (carries node == 0 || is_recalled node acks)
 
 abbrev pub carrier_fits : ℕ → LineState → ℕ → Bool

@@ -1,18 +1,18 @@
 -- What a machine's state says of one line: its home's entry and pending packets, and each node's copy, transaction and messages; who carries its current value.
-use Rattle.std.specs.Prelude.{ℕ, Bool, true, false, cond, not, ◌&&◌, ◌||◌, ◌==◌, nat_lt, Option, Some, None, List, [], ◌∷◌, ◌++◌, option_map, flat_map, filter}
+use Rattle.std.specs.Prelude.{ℕ, Bool, true, false, cond, not, ◌&&◌, ◌||◌, ◌==◌, nat_lt, Option, None, List, [], ◌∷◌, ◌++◌, option_map, flat_map, filter, option_to_list, map}
 use Rattle.std.specs.List.{list_any, range_with_len}
 use Rattle.alw_num.specs.Weights.{digit, weigh}
 use Rattle.alw_num.specs.declared.addresses.Line.{Line}
 use Rattle.alw_num.specs.declared.states.Mode.{Mode}
-use Rattle.alw_num.specs.declared.states.Mode.TheVariants.{Read, Write}
+use Rattle.alw_num.specs.declared.states.Mode.TheVariants.{Write}
 use Rattle.alw_msg.specs.declared.messages.Msg.{Msg}
 use Rattle.alw_image.specs.declared.parts.Parts.{Parts}
 use Rattle.alw_image.specs.Images.{node_count}
 use Rattle.alw_image.specs.Parameters.{Parameters}
-use Rattle.alw_model.specs.Maps.{value_at}
+use Rattle.alw_model.specs.Maps.{kept_if, value_at}
 use Rattle.alw_model.specs.FullMap.{ToMemory, RREQ, WREQ, REPM, UPDATE, ACKC, ToCache, RDATA, WDATA, INV, BUSY, Home}
 use Rattle.alw_model.specs.LimitLess.{Directory, full_map_of}
-use Rattle.alw_model.specs.Caches.{Copy, Transaction, copy_at}
+use Rattle.alw_model.specs.Caches.{Copy, Transaction, grants, copy_at}
 use Rattle.alw_model.specs.Messages.{Content, ForMemory, ForCache, content, home_node}
 use Rattle.alw_model.specs.NodeStates.{home_at}
 use Rattle.alw_model.specs.Machine.{MachineState, node_at, link_at}
@@ -87,12 +87,7 @@ line_of parts parameters machine line = record {
 
 -- the value in a Read-Write copy
 abbrev pub copy_carried : Option (Mode × Line) → List Line
-copy_carried None = []
-copy_carried (Some copy) = owned copy.0 copy.1
-  where
-    owned : Mode → Line → List Line
-    owned Read body = []
-    owned Write body = body ∷ []
+copy_carried copy = map (λ (owned : Mode × Line). owned.1) (option_to_list (kept_if (λ (held : Mode × Line). grants held.0 Write) copy))
 
 -- the value in a REPM or UPDATE
 abbrev pub up_carried : ToMemory → List Line

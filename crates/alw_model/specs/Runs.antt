@@ -1,5 +1,5 @@
 -- What is read off a journal: turns and prints, the messages that a line's home acted on, the full map that they leave, and the counts of the report.
-use Rattle.std.specs.Prelude.{ℕ, ◌+◌, ◌*◌, cond, ◌==◌, Option, Some, None, List, [], ◌∷◌, map, flat_map}
+use Rattle.std.specs.Prelude.{ℕ, ◌+◌, ◌*◌, cond, ◌==◌, Option, List, [], ◌∷◌, map, flat_map, option_to_list, take}
 use Rattle.std.specs.List.{range_with_len}
 use Rattle.sparc_table.specs.declared.outcomes.Outcome.{Outcome}
 use Rattle.alw_msg.specs.declared.messages.Msg.{Msg}
@@ -47,27 +47,22 @@ moments parts parameters journal = moments_from parts parameters (machine_start 
 
 -- ---- turns and prints
 
--- the slot and the outcome, where the event was a turn
-abbrev pub turn_in : Did → Option (ℕ × Outcome)
-turn_in (Turn slot outcome) = Some (slot, outcome)
-turn_in _ = None
+-- the turn that an event of a node was, as its context and its outcome
+abbrev pub turn_in : Parts → ℕ → Did → List (ℕ × Outcome)
+turn_in parts number (Turn slot outcome) = (number * parts.contexts + slot, outcome) ∷ []
+turn_in parts number _ = []
 
--- the context that took a turn, and what it printed
-abbrev pub context_in : Parts → ℕ → Option (ℕ × Outcome) → List ℕ
-context_in parts number None = []
-context_in parts number (Some turn) = (number * parts.contexts + turn.0) ∷ []
+-- the turns of a journal, in order
+abbrev pub turns_in : Parts → Parameters → List Entry → List (ℕ × Outcome)
+turns_in parts parameters journal = flat_map (λ moment. turn_in parts (number_of moment) moment.stepped.did) (moments parts parameters journal)
 
-abbrev pub print_in : Parts → ℕ → Option (ℕ × Outcome) → List (ℕ × ℕ)
-print_in parts number None = []
-print_in parts number (Some turn) = print_of (number * parts.contexts + turn.0) turn.1
-
--- the contexts that took turns, in order
+-- the contexts that took them
 abbrev pub turns_of : Parts → Parameters → List Entry → List ℕ
-turns_of parts parameters journal = flat_map (λ moment. context_in parts (number_of moment) (turn_in moment.stepped.did)) (moments parts parameters journal)
+turns_of parts parameters journal = map (λ turn. turn.0) (turns_in parts parameters journal)
 
--- the words that they printed, each with its context, in order
+-- the words that they printed, each with its context
 abbrev pub prints_of : Parts → Parameters → List Entry → List (ℕ × ℕ)
-prints_of parts parameters journal = flat_map (λ moment. print_in parts (number_of moment) (turn_in moment.stepped.did)) (moments parts parameters journal)
+prints_of parts parameters journal = flat_map (λ turn. print_of turn.0 turn.1) (turns_in parts parameters journal)
 
 -- ---- acted messages
 
@@ -75,18 +70,10 @@ prints_of parts parameters journal = flat_map (λ moment. print_in parts (number
 abbrev pub acted_message : ℕ → Msg → List (ℕ × ToMemory)
 acted_message line msg = map (λ said. (msg.src.0, said)) (cond (msg.line.0 == line) (request_in (content msg)) [])
 
-abbrev pub acted_front : ℕ → List Msg → List (ℕ × ToMemory)
-acted_front line [] = []
-acted_front line (packet ∷ rest) = acted_message line packet
-
-abbrev pub acted_taken : ℕ → Option Msg → List (ℕ × ToMemory)
-acted_taken line None = []
-acted_taken line (Some msg) = acted_message line msg
-
 -- what an event acted on: the message that it took without a trap, or the packet that it handled
 abbrev pub acted_by : ℕ → Moment → Did → List (ℕ × ToMemory)
-acted_by line moment Took = acted_taken line moment.taken
-acted_by line moment (Handled kind state) = acted_front line moment.before.packets
+acted_by line moment Took = flat_map (acted_message line) (option_to_list moment.taken)
+acted_by line moment (Handled kind state) = flat_map (acted_message line) (take 1 moment.before.packets)
 acted_by line moment _ = []
 
 -- the messages to memory of a line that a journal delivers without a trap or handles, in order, each with its sender

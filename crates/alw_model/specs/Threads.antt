@@ -1,5 +1,5 @@
 -- What threads leave: the log of each node as a run of its own, links that agree between logs, and the merge of logs into one journal (stamps after Lamport 1978).
-use Rattle.std.specs.Prelude.{◌≡◌, ℕ, ◌<◌, ◌≤◌, Bool, true, false, cond, not, ◌&&◌, ◌||◌, ◌==◌, nat_lt, Option, is_some, option_to_list, List, [], ◌∷◌, ◌++◌, map, filter, flat_map, length, slice_index_or, IsTrue}
+use Rattle.std.specs.Prelude.{◌≡◌, ℕ, ◌<◌, ◌≤◌, Bool, true, false, cond, not, ◌&&◌, ◌||◌, ◌==◌, nat_lt, Option, is_some, option_to_list, List, [], ◌∷◌, ◌++◌, map, filter, flat_map, length, slice_index_or, IsTrue, IfSome}
 use Rattle.alw_msg.specs.declared.messages.Msg.{Msg}
 use Rattle.alw_msg.specs.declared.events.Event.{Event}
 use Rattle.alw_msg.specs.declared.events.Event.TheVariants.{Deliver, Evict}
@@ -24,9 +24,9 @@ abbrev pub takes_rightly : Event → Option Msg → Bool
 takes_rightly (Deliver from to) taken = is_some taken
 takes_rightly _ taken = not (is_some taken)
 
-abbrev pub is_eviction : Event → Bool
-is_eviction (Evict node set) = true
-is_eviction _ = false
+abbrev pub is_evict : Event → Bool
+is_evict (Evict node set) = true
+is_evict _ = false
 
 -- a log's entry is the node's step on a message that is fit, with its stamp, within the limit, and no eviction where none is wanted
 pub record IsNextLogged (parts : Parts) (parameters : Parameters) (number : ℕ) (node : NodeState) (logged : Logged) : Type 0 where
@@ -34,7 +34,7 @@ pub record IsNextLogged (parts : Parts) (parameters : Parameters) (number : ℕ)
   pub enabled : IsTrue (is_enabled_at parts parameters number node logged.entry.event logged.taken)
   pub stamp : logged.entry.stamp ≡ stamp_of node.clock logged.taken
   pub within : logged.entry.stamp ≤ parameters.limit
-  pub evicts : parameters.evict ≡ 0 → is_eviction logged.entry.event ≡ false
+  pub evicts : parameters.evict ≡ 0 → is_evict logged.entry.event ≡ false
   pub sent : logged.sent ≡ (node_step parts parameters number node logged.entry.event logged.taken).sends
 
 -- each entry is the node's next one in its turn
@@ -45,6 +45,11 @@ IsRunFrom parts parameters number node (logged ∷ rest) = IsNextLogged parts pa
 -- a local run of the node of this number, from its start
 abbrev pub IsLocalRun : Parts → Parameters → ℕ → List Logged → Type 0
 IsLocalRun parts parameters number log = IsRunFrom parts parameters number (node_start parts number) log
+
+-- stamps above a clock rise strictly, and a message taken has a stamp below that of the entry that takes it
+abbrev pub StampsRise : ℕ → List Logged → Type 0
+StampsRise clock [] = Unit {0}
+StampsRise clock (logged ∷ rest) = (clock < logged.entry.stamp) × IfSome logged.taken (λ msg. msg.stamp < logged.entry.stamp) × StampsRise logged.entry.stamp rest
 
 -- the node after a log
 abbrev pub node_after : Parts → Parameters → ℕ → NodeState → List Logged → NodeState

@@ -5,6 +5,7 @@ ghost use Rattle.alw_msg.specs.declared.events.Entry.{Entry};
 ghost use Rattle.alw_model.specs.Machine.{MachineState, state, step, IsNext, IsLegal, is_legal};
 ghost use Rattle.alw_model.specs.Runs.{moments, moment_of};
 ghost use Rattle.alw_model.specs.MachineInvariant.{MachineInvariant};
+ghost use Rattle.alw_model.specs.Threads.{Logged, IsLocalRun, StampsRise};
 ghost use Rattle.alw_model.specs.Checks.{is_sound};
 
 /// A journal is legal exactly where each entry passes its test in its turn.
@@ -17,6 +18,12 @@ pub fn legal_as_tested()
 #[tactic(auto, using(crate::proofs::Soundness::tested_sound))]
 pub fn sound_as_tested()
     ensures { (parts : Parts) → (parameters : Parameters) → (machine : MachineState) → IsTrue (is_sound parts parameters machine) ↔ MachineInvariant parts parameters machine }
+{}
+
+/// In a node's local run stamps rise strictly, and a message taken has a stamp below its entry's.
+#[tactic(auto, using(crate::proofs::Logs::stamps_rise))]
+pub fn log_stamps_rise()
+    ensures { (parts : Parts) → (parameters : Parameters) → (number : ℕ) → (log : List Logged) → IsLocalRun parts parameters number log → StampsRise 0 log }
 {}
 
 /// One more entry: the next state, one more event, and a legal journal where the entry is the next.

@@ -8,7 +8,7 @@ ghost use Rattle.alw_model.specs.declared.steps.Did.TheVariants.{Turn, Missed, T
 ghost use Rattle.alw_model.specs.Maps.{value_at};
 ghost use Rattle.alw_model.specs.Checks.{stays_sound};
 ghost use Rattle.alw_model.specs.Machine.{state, node_at, link_at, is_legal, end_of, Halted, Trapped, Limit};
-ghost use Rattle.alw_model.specs.Counts.{count_did, is_miss, memory_words, directory_lines};
+ghost use Rattle.alw_model.specs.Counts.{counts_of, memory_words, directory_lines};
 ghost use Rattle.alw_model.specs.Runs.{turns_of, prints_of, moments};
 ghost use Rattle.alw_model.specs.Rows.{is_flat, I, defaults, dids, sent};
 ghost use Rattle.alw_model.specs.Rows.OneNode.{itself_image, itself_journal, contexts_image, contexts_journal, set_image, four_sets, set_journal, trap_image, trap_journal, loop_image, limit_3, loop_journal};
@@ -24,7 +24,27 @@ pub fn link_to_itself()
     ensures sends { sent itself_image defaults itself_journal
         ≡ [] ∷ [] ∷ ((0, kinds.WREQ, 0) ∷ []) ∷ ((0, kinds.WDATA, 0) ∷ []) ∷ [] ∷ [] ∷ [] ∷ [] ∷ [] ∷ [] ∷ [] }
     ensures turns { turns_of itself_image defaults itself_journal ≡ 0 ∷ 0 ∷ 0 ∷ 0 ∷ 0 ∷ 0 ∷ 0 ∷ [] }
-    ensures misses { count_did is_miss (moments itself_image defaults itself_journal) ≡ 1 }
+    ensures counts { counts_of itself_image (moments itself_image defaults itself_journal)
+        ≡ record {
+          entries = 10;
+          turns = 7;
+          misses = 1;
+          evicts = 0;
+          rreq = 0;
+          wreq = 1;
+          repm = 0;
+          update = 0;
+          ackc = 0;
+          rdata = 0;
+          wdata = 1;
+          inv = 0;
+          busy = 0;
+          hops = 0;
+          handlers = 0;
+          spills = 0;
+          replies = 1;
+          used = 1;
+        } }
     ensures prints { prints_of itself_image defaults itself_journal ≡ (0, 5) ∷ [] }
     ensures flat { is_flat itself_image defaults itself_journal ≡ true }
     ensures memory { memory_words itself_image defaults (state itself_image defaults itself_journal) ≡ (0x40000000, 5) ∷ [] }
@@ -42,7 +62,27 @@ pub fn two_contexts_one_line()
         ≡ [] ∷ ((0, kinds.RREQ, 0) ∷ []) ∷ [] ∷ [] ∷ ((0, kinds.RDATA, 0) ∷ []) ∷ [] ∷ ((0, kinds.WREQ, 0) ∷ []) ∷ [] ∷ [] ∷ ((0, kinds.WDATA, 0) ∷ []) ∷ [] ∷ [] ∷ [] ∷ [] }
     ensures flat { is_flat contexts_image defaults contexts_journal ≡ true }
     ensures turns { turns_of contexts_image defaults contexts_journal ≡ 0 ∷ 1 ∷ 0 ∷ 0 ∷ 1 ∷ 1 ∷ [] }
-    ensures misses { count_did is_miss (moments contexts_image defaults contexts_journal) ≡ 3 }
+    ensures counts { counts_of contexts_image (moments contexts_image defaults contexts_journal)
+        ≡ record {
+          entries = 13;
+          turns = 6;
+          misses = 3;
+          evicts = 0;
+          rreq = 1;
+          wreq = 1;
+          repm = 0;
+          update = 0;
+          ackc = 0;
+          rdata = 1;
+          wdata = 1;
+          inv = 0;
+          busy = 0;
+          hops = 0;
+          handlers = 0;
+          spills = 0;
+          replies = 2;
+          used = 2;
+        } }
     ensures memory { memory_words contexts_image defaults (state contexts_image defaults contexts_journal) ≡ (0x40000000, 2) ∷ [] }
 {}
 

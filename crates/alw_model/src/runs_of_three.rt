@@ -1,11 +1,13 @@
 ghost use Rattle.std.specs.Prelude.{◌≡◌, ◌∷◌, [], true, None};
+ghost use Rattle.alw_num.specs.NodeSets.{add_node, one_node};
+ghost use Rattle.alw_image.specs.Images.{zero_line};
 ghost use Rattle.alw_num.specs.declared.states.State.TheVariants.{RO, RW, WT};
 ghost use Rattle.alw_num.specs.declared.states.Meta.TheVariants.{Normal, TrapWrite};
 ghost use Rattle.alw_msg.specs.declared.messages.Kind.TheVariants as kinds;
 ghost use Rattle.alw_model.specs.Checks.{stays_sound};
 ghost use Rattle.alw_model.specs.Machine.{state, is_legal, end_of};
 ghost use Rattle.alw_model.specs.Counts.{memory_words, directory_lines};
-ghost use Rattle.alw_model.specs.Runs.{turns_of};
+ghost use Rattle.alw_model.specs.Runs.{full_map_after};
 ghost use Rattle.alw_model.specs.Rows.{is_flat, defaults, sent, entry_after};
 ghost use Rattle.alw_model.specs.Rows.ThreeNodes.{spill_image, one_pointer, spill_handled, spill_journal, all_in_software, in_both, both_journal, one_answer, silent_journal, crossing_image, crossing_stored, crossing_journal};
 
@@ -17,6 +19,8 @@ pub fn spill()
     ensures sound { stays_sound spill_image one_pointer spill_journal ≡ true }
     ensures software { directory_lines spill_image (state spill_image one_pointer spill_handled)
         ≡ record { line = 0; state = RO; meta = TrapWrite; hardware = []; software = 0 ∷ 1 ∷ []; acks = 0 } ∷ [] }
+    ensures full_map { full_map_after spill_image one_pointer spill_journal 0
+        ≡ record { state = RO; pointers = add_node (add_node (one_node 0) 1) 2; acks = 0; body = zero_line } }
     ensures hardware { directory_lines spill_image (state spill_image one_pointer spill_journal)
         ≡ record { line = 0; state = RO; meta = TrapWrite; hardware = 2 ∷ []; software = 0 ∷ 1 ∷ []; acks = 0 } ∷ [] }
 {}
@@ -31,6 +35,7 @@ pub fn one_node_in_both_sets()
         ≡ record { line = 0; state = RO; meta = TrapWrite; hardware = []; software = 0 ∷ 1 ∷ 2 ∷ []; acks = 0 } ∷ [] }
     ensures both { directory_lines spill_image (state spill_image one_pointer in_both)
         ≡ record { line = 0; state = RO; meta = TrapWrite; hardware = 1 ∷ []; software = 0 ∷ 1 ∷ 2 ∷ []; acks = 0 } ∷ [] }
+    ensures full_map { full_map_after spill_image one_pointer both_journal 0 ≡ record { state = WT; pointers = one_node 0; acks = 2; body = zero_line } }
     ensures write { directory_lines spill_image (state spill_image one_pointer both_journal)
         ≡ record { line = 0; state = WT; meta = Normal; hardware = 0 ∷ []; software = []; acks = 2 } ∷ [] }
 {}
@@ -65,6 +70,8 @@ pub fn crossing_messages()
         ≡ [] ∷ ((0, kinds.WREQ, 0) ∷ []) ∷ ((1, kinds.WDATA, 0) ∷ []) ∷ [] ∷ [] ∷ ((0, kinds.REPM, 1) ∷ []) ∷ ((0, kinds.RREQ, 0) ∷ []) ∷
         [] ∷ ((0, kinds.WREQ, 0) ∷ []) ∷ ((1, kinds.INV, 0) ∷ []) ∷ [] ∷
         ((1, kinds.BUSY, 0) ∷ []) ∷ ((0, kinds.ACKC, 0) ∷ []) ∷ [] ∷ ((2, kinds.WDATA, 1) ∷ []) ∷ [] ∷ [] ∷ ((0, kinds.RREQ, 0) ∷ []) ∷ [] }
+    ensures full_map { full_map_after crossing_image defaults crossing_stored 0
+        ≡ record { state = WT; pointers = one_node 2; acks = 1; body = record { a = 1; b = 0; c = 0; d = 0 } } }
     ensures memory { memory_words crossing_image defaults (state crossing_image defaults crossing_journal) ≡ (0x40000000, 2) ∷ [] }
     ensures flat { is_flat crossing_image defaults crossing_journal ≡ true }
     ensures unfinished { end_of crossing_image defaults (state crossing_image defaults crossing_journal) ≡ None }

@@ -7,7 +7,8 @@ ghost use Rattle.sparc_table.specs.declared.outcomes.Outcome.TheVariants as ends
 ghost use Rattle.alw_model.specs.declared.steps.Did.TheVariants.{Turn, Missed, Took, Packet, Handled, Evicted};
 ghost use Rattle.alw_model.specs.Checks.{stays_sound};
 ghost use Rattle.alw_model.specs.Machine.{state, is_legal, end_of, Halted};
-ghost use Rattle.alw_model.specs.Counts.{count_did, count_hops, count_replies, count_used, count_holds, is_miss, is_spill, is_handling, is_eviction, memory_words, directory_lines};
+ghost use Rattle.alw_model.specs.Flat.{AreReady};
+ghost use Rattle.alw_model.specs.Counts.{counts_of, count_holds, memory_words, directory_lines};
 ghost use Rattle.alw_model.specs.Runs.{turns_of, prints_of, moments};
 ghost use Rattle.alw_model.specs.Threads.{merged, LinksAgree};
 ghost use Rattle.alw_model.specs.Rows.{is_flat, I, H, D, defaults, dids, sent, is_enabled_after, logs_of};
@@ -28,9 +29,29 @@ pub fn two_writers()
         ((0, kinds.INV, 0) ∷ []) ∷ ((0, kinds.UPDATE, 2) ∷ []) ∷ ((1, kinds.WDATA, 2) ∷ []) ∷ [] ∷ [] ∷ [] ∷ ((0, kinds.RREQ, 0) ∷ []) ∷
         ((1, kinds.INV, 0) ∷ []) ∷ ((0, kinds.UPDATE, 1) ∷ []) ∷ ((0, kinds.RDATA, 1) ∷ []) ∷ [] ∷ [] ∷ [] ∷ [] ∷ [] }
     ensures turns { turns_of writers_image defaults writers_journal ≡ 0 ∷ 0 ∷ 1 ∷ 1 ∷ 1 ∷ 0 ∷ 0 ∷ 0 ∷ [] }
-    ensures misses { count_did is_miss (moments writers_image defaults writers_journal) ≡ 3 }
-    ensures hops { count_hops writers_image (moments writers_image defaults writers_journal) ≡ 4 }
+    ensures counts { counts_of writers_image (moments writers_image defaults writers_journal)
+        ≡ record {
+          entries = 21;
+          turns = 8;
+          misses = 3;
+          evicts = 0;
+          rreq = 1;
+          wreq = 2;
+          repm = 0;
+          update = 2;
+          ackc = 0;
+          rdata = 1;
+          wdata = 2;
+          inv = 2;
+          busy = 0;
+          hops = 4;
+          handlers = 0;
+          spills = 0;
+          replies = 3;
+          used = 3;
+        } }
     ensures prints { prints_of writers_image defaults writers_journal ≡ (0, 1) ∷ [] }
+    ensures ready { AreReady writers_image (turns_of writers_image defaults writers_journal) }
     ensures flat { is_flat writers_image defaults writers_journal ≡ true }
     ensures directory { directory_lines writers_image (state writers_image defaults writers_journal)
         ≡ record { line = 0; state = RO; meta = Normal; hardware = 0 ∷ []; software = []; acks = 0 } ∷ [] }
@@ -63,8 +84,8 @@ pub fn hold_until_used()
     ensures sound { stays_sound writers_image defaults hold_journal ≡ true }
     ensures sends { sent writers_image defaults hold_journal
         ≡ [] ∷ ((0, kinds.WREQ, 0) ∷ []) ∷ ((0, kinds.WDATA, 0) ∷ []) ∷ [] ∷ ((0, kinds.WREQ, 0) ∷ []) ∷ ((0, kinds.INV, 0) ∷ []) ∷ [] ∷ [] ∷ ((0, kinds.UPDATE, 2) ∷ []) ∷ [] }
-    ensures replies { count_replies (moments writers_image defaults hold_journal) ≡ 1 }
-    ensures used { count_used (moments writers_image defaults hold_journal) ≡ 1 }
+    ensures replies { (counts_of writers_image (moments writers_image defaults hold_journal)).replies ≡ 1 }
+    ensures used { (counts_of writers_image (moments writers_image defaults hold_journal)).used ≡ 1 }
     ensures none { count_holds (state writers_image defaults hold_journal) ≡ 0 }
 {}
 
@@ -77,10 +98,27 @@ pub fn trap_always()
     ensures did { dids always_image defaults always_journal
         ≡ Turn 0 ends.Done ∷ Missed 0 ∷ Packet ∷ Handled kinds.RREQ RO ∷ Took ∷ Turn 0 ends.Done ∷ Turn 0 ends.Done ∷ Missed 0 ∷ Packet ∷ Handled kinds.WREQ RO ∷
         Took ∷ Packet ∷ Handled kinds.ACKC WT ∷ Took ∷ Turn 0 ends.Done ∷ Evicted ∷ Packet ∷ Handled kinds.REPM RW ∷ Turn 0 ends.Halt ∷ Turn 0 ends.Halt ∷ [] }
-    ensures handlers { count_did is_handling (moments always_image defaults always_journal) ≡ 4 }
-    ensures spills { count_did is_spill (moments always_image defaults always_journal) ≡ 1 }
-    ensures evicts { count_did is_eviction (moments always_image defaults always_journal) ≡ 1 }
-    ensures hops { count_hops always_image (moments always_image defaults always_journal) ≡ 4 }
+    ensures counts { counts_of always_image (moments always_image defaults always_journal)
+        ≡ record {
+          entries = 20;
+          turns = 6;
+          misses = 2;
+          evicts = 1;
+          rreq = 1;
+          wreq = 1;
+          repm = 1;
+          update = 0;
+          ackc = 1;
+          rdata = 1;
+          wdata = 1;
+          inv = 1;
+          busy = 0;
+          hops = 4;
+          handlers = 4;
+          spills = 1;
+          replies = 2;
+          used = 2;
+        } }
     ensures turns { turns_of always_image defaults always_journal ≡ 1 ∷ 1 ∷ 0 ∷ 0 ∷ 0 ∷ 1 ∷ [] }
     ensures flat { is_flat always_image defaults always_journal ≡ true }
     ensures memory { memory_words always_image defaults (state always_image defaults always_journal) ≡ (0x40000000, 2) ∷ [] }

@@ -1,5 +1,5 @@
 -- What the two words of a set say, for the functions over them.
-use Rattle.std.proofs.Common.{◌≡◌, ℕ, ◌+◌, ◌-◌, ◌*◌, ◌/◌, ◌%◌, ◌^◌, ◌<◌, ◌≤◌, ◌≢◌, ◌==◌, true, false, ◌∷◌, refl, sym, ap, ◌∙◌, arith, bit_and, bit_or, count_ones, ⊎_elim}
+use Rattle.std.proofs.Common.{◌≡◌, ℕ, ◌+◌, ◌-◌, ◌*◌, ◌/◌, ◌%◌, ◌^◌, ◌<◌, ◌≤◌, ◌≢◌, ◌==◌, true, false, [], ◌∷◌, refl, sym, ap, ◌∙◌, arith, bit_and, bit_or, count_ones, ⊎_elim}
 use Rattle.std.specs.Int.{bit_at, bit_not, w128, trailing_zeros}
 use Rattle.std.proofs.Math.Nat.{mod-eq_of_lt}
 use Rattle.std.proofs.lemmas.Nat.{shr_split, mod_below, ones_cat}
@@ -8,7 +8,7 @@ use Rattle.std.proofs.lemmas.Bool.{cases_lt, true≢false}
 use Rattle.std.proofs.lemmas.Nat.Bits.{shr_and_one, bit_at-lt, bit_at-zero, bit_at_or, bit_at_above, bit_at_cat_low, bit_at_cat_high, bit_at_set_same, bit_at_set_other, bit_at_clear_same, bit_at_clear_other, bit_at-trailing_zeros}
 use Rattle.alw_num.specs.declared.node_sets.NodeSet.{NodeSet}
 use Rattle.alw_num.specs.NodeSets.{Nodes, no_nodes, has_node, add_node, drop_node, join_nodes, members, count_nodes, nodes_of}
-use Rattle.alw_num.proofs.Sets.{same_nodes, has-none, has-add, has-drop, has-join, members-least, count-bits}
+use Rattle.alw_num.proofs.Sets.{same_nodes, has-none, has-add, has-drop, has-join, members-least, members-none, count-bits, count_below}
 
 bit_at-mod : (n w k : ℕ) → k < w → bit_at (n % 2 ^ w) k ≡ bit_at n k
 bit_at-mod n w k l = sym (bit_at_cat_low (n / 2 ^ w) w (n % 2 ^ w) k l) ∙ ap (λ m. bit_at m k) (shr_split n w)
@@ -30,6 +30,13 @@ has-high s k l m = ap (λ b. b == 1) (bit_at_cat_high (s.high % 2 ^ 128) 128 (s.
 pub has-past : (s : NodeSet) (k : ℕ) → 256 ≤ k → has_node (nodes_of s) k ≡ false
 unfolding has_node nodes_of
 has-past s k l = ap (λ b. b == 1) (bit_at_cat_high (s.high % 2 ^ 128) 128 (s.low % 2 ^ 128) k (low_below s) (omega arith) ∙ bit_at_above (s.high % 2 ^ 128) 128 (k - 128) (high_below s) (omega arith))
+
+-- the nodes of two words are below 256
+pub nodes_below : (s : NodeSet) (k : ℕ) → has_node (nodes_of s) k ≡ true → k < 256
+nodes_below s k here = ⊎_elim (λ l. l) (λ l. absurd (true≢false (sym here ∙ has-past s k l))) (cases_lt k 256)
+
+pub count_at_most : (s : NodeSet) → count_nodes (nodes_of s) ≤ 256
+count_at_most s = count_below (nodes_of s) 256 (has-past s)
 
 -- the set with the members that the words say
 spelled : (s : NodeSet) (P : Nodes) → ((k : ℕ) → k < 128 → (bit_at s.low k == 1) ≡ has_node P k) → ((k : ℕ) → 128 ≤ k → k < 256 → (bit_at s.high (k - 128) == 1) ≡ has_node P k) → ((k : ℕ) → 256 ≤ k → has_node P k ≡ false) → nodes_of s ≡ P
@@ -126,3 +133,9 @@ first_high s none some l = (lowest_high s none some l).1
 pub none_here : (s : NodeSet) → s.low ≡ 0 → s.high ≡ 0 → nodes_of s ≡ no_nodes
 unfolding nodes_of no_nodes
 none_here s l h = rw (l, h)
+
+pub no_members : (s : NodeSet) → s.low ≡ 0 → s.high ≡ 0 → members (nodes_of s) ≡ []
+no_members s l h = ap members (none_here s l h) ∙ members-none
+
+-- what the functions over the two words are proved by
+pub ruleset words = (nothing, has_low, has_high, with_low, with_high, without_low, without_high, without_past, joined, counted, some_low, first_low, some_high, first_high, none_here, no_members)

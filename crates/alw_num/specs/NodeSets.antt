@@ -4,6 +4,7 @@ use Rattle.std.specs.Int.{bit_at}
 use Rattle.std.specs.Coded.{Coded, code_by, coded_ℕ}
 use Rattle.alw_num.specs.declared.node_sets.NodeSet.{NodeSet}
 
+-- a set of nodes
 pub record Nodes : Type 0 where
   pub bits : ℕ
 
@@ -54,7 +55,7 @@ members set = places set.bits (set.bits == 0) 0 set.bits
 abbrev pub count_nodes : Nodes → ℕ
 count_nodes set = length (members set)
 
--- the set that the two words of 128 bits spell
+-- the set that two words of 128 bits spell: node n is digit n of `low` below 128, and digit n - 128 of `high` from there on
 unfoldable pub nodes_of : NodeSet → Nodes
 nodes_of set = record { bits = set.high % 2 ^ 128 * 2 ^ 128 + set.low % 2 ^ 128 }
 

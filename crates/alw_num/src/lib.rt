@@ -14,3 +14,6 @@ pub use memory::NoMemory;
 pub use node_sets::{MOST_NODES, NodeSet};
 pub use sequences::Sequence;
 pub use states::{Meta, Mode, State};
+
+#[cfg(test)]
+mod tests;

@@ -1,4 +1,4 @@
-ghost use Rattle.std.specs.Prelude.{◌≡◌, ◌<◌, ◌↔◌, ◌∷◌, IsTrue, IsNone, IfSome};
+ghost use Rattle.std.specs.Prelude.{◌≡◌, ◌<◌, ◌↔◌, [], ◌∷◌, IsTrue, IsNone, IfNone, IfSome};
 ghost use Rattle.alw_num.specs.NodeSets.{no_nodes, has_node, add_node, drop_node, join_nodes, count_nodes, members, nodes_of};
 
 use crate::addresses::NodeNo;
@@ -17,9 +17,9 @@ pub struct NodeSet {
     pub high: u128,
 }
 
+#[tactic(auto, using(crate::proofs::Words::words))]
 impl NodeSet {
     /// The set without a member.
-    #[tactic(auto, using(crate::proofs::Words::nothing))]
     pub fn empty() -> NodeSet
         ensures { nodes_of result ≡ no_nodes }
     {
@@ -27,7 +27,6 @@ impl NodeSet {
     }
 
     /// Whether a node is a member.
-    #[tactic(auto, using(crate::proofs::Words::has_low, crate::proofs::Words::has_high))]
     pub fn has(&self, n: NodeNo) -> bool
         requires { n.0 < MOST_NODES }
         ensures { result ≡ has_node (nodes_of self.now) n.0 }
@@ -40,7 +39,6 @@ impl NodeSet {
     }
 
     /// The set and a node.
-    #[tactic(auto, using(crate::proofs::Words::with_low, crate::proofs::Words::with_high))]
     pub fn with(self, n: NodeNo) -> NodeSet
         requires { n.0 < MOST_NODES }
         ensures { nodes_of result ≡ add_node (nodes_of self) n.0 }
@@ -60,7 +58,6 @@ impl NodeSet {
     }
 
     /// The set without a node.
-    #[tactic(auto, using(crate::proofs::Words::without_low, crate::proofs::Words::without_high, crate::proofs::Words::without_past))]
     pub fn without(self, n: NodeNo) -> NodeSet
         ensures { nodes_of result ≡ drop_node (nodes_of self) n.0 }
     {
@@ -81,7 +78,6 @@ impl NodeSet {
     }
 
     /// The nodes of both sets.
-    #[tactic(auto, using(crate::proofs::Words::joined))]
     pub fn union(self, o: NodeSet) -> NodeSet
         ensures { nodes_of result ≡ join_nodes (nodes_of self) (nodes_of o) }
     {
@@ -92,7 +88,6 @@ impl NodeSet {
     }
 
     /// The number of members.
-    #[tactic(auto, using(crate::proofs::Words::counted))]
     pub fn count(&self) -> u32
         ensures { result ≡ count_nodes (nodes_of self.now) }
     {
@@ -100,9 +95,9 @@ impl NodeSet {
     }
 
     /// The least member. With `without` it goes over a set in ascending order.
-    #[tactic(auto, using(crate::proofs::Words::some_low, crate::proofs::Words::first_low, crate::proofs::Words::some_high, crate::proofs::Words::first_high, crate::proofs::Words::none_here))]
     pub fn lowest(&self) -> Option<NodeNo>
         ensures none { IsNone result ↔ (nodes_of self.now ≡ no_nodes) }
+        ensures no_members { IfNone result (members (nodes_of self.now) ≡ []) }
         ensures lowest { IfSome result (λ n. members (nodes_of self.now) ≡ n.0 ∷ members (drop_node (nodes_of self.now) n.0)) }
         ensures within { IfSome result (λ n. n.0 < MOST_NODES) }
     {

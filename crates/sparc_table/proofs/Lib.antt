@@ -1,1 +1,3 @@
 mod Examples
+pub mod Effects
+pub mod Rows

@@ -1,5 +1,5 @@
 -- The meaning of an instruction: what it needs, and what it then does to the registers and the line (SPARC V8 manual, appendix B).
-use Rattle.std.specs.Prelude.{ℕ, ◌+◌, ◌*◌, ◌%◌, ◌^◌, Bool, cond, ◌==◌, [], ◌∷◌, bit_xor}
+use Rattle.std.specs.Prelude.{ℕ, ◌+◌, ◌*◌, ◌%◌, ◌^◌, Bool, false, cond, not, ◌==◌, [], ◌∷◌, bit_xor, ⊤}
 use Rattle.alw_num.specs.declared.addresses.Line.{Line}
 use Rattle.sparc_table.specs.Registers.{register, with_register}
 use Rattle.sparc_table.specs.Operands.{operand_of, address_of}
@@ -13,7 +13,7 @@ use Rattle.sparc_table.specs.declared.instructions.Instr.TheVariants.{Call, Seth
 use Rattle.sparc_table.specs.declared.outcomes.Need.{Need}
 use Rattle.sparc_table.specs.declared.outcomes.Need.TheVariants.{Nothing}
 use Rattle.sparc_table.specs.declared.outcomes.Outcome.{Outcome}
-use Rattle.sparc_table.specs.declared.outcomes.Outcome.TheVariants.{Done, Out, Halt, Trap}
+use Rattle.sparc_table.specs.declared.outcomes.Outcome.TheVariants.{Done, Miss, Out, Halt, Trap}
 
 -- what an instruction needs, where shared data has this number of lines
 unfoldable pub need : Instr → Regs → ℕ → Need
@@ -56,3 +56,15 @@ effect (WriteY rs1 operand) regs line = done line (next (record regs { y = bit_x
 effect (Jmpl rd rs1 operand) regs line = beside line (jumped rd (address_of rs1 operand regs) regs)
 effect (TrapOn condition rs1 operand) regs line = beside line (trap_on (holds condition regs) (address_of rs1 operand regs % 2 ^ 7) regs)
 effect (Memory op3 rd rs1 operand) regs line = accessed op3 rd (address_of rs1 operand regs) regs line
+
+-- stores, LDSTUB and SWAP
+abbrev pub writes : Instr → Bool
+writes (Memory op3 rd rs1 operand) = not (is_load op3)
+writes _ = false
+
+-- the outcomes with which a turn changes nothing
+abbrev pub IsStill : Outcome → Type 0
+IsStill (Miss line mode) = ⊤
+IsStill Halt = ⊤
+IsStill (Trap tt) = ⊤
+IsStill _ = ⊥

@@ -1,4 +1,4 @@
--- A turn on a list of code words: the fetch at PC, and then the instruction there (SPARC V8 manual, section 7.1 and table 7-1).
+-- A turn on a list of code words: the fetch at PC, and then the instruction there (SPARC V8 manual, chapter 7, table 7-1).
 use Rattle.std.specs.Prelude.{ℕ, ◌/◌, List, Option, Some, None, Result, Ok, Err, slice_get}
 use Rattle.alw_num.specs.declared.addresses.Line.{Line}
 use Rattle.sparc_table.specs.Table.{instr_of}
@@ -34,9 +34,13 @@ abbrev pub run_at : Need → Instr → Regs → Line → Regs × Line × Outcome
 run_at (needs.Trap tt) instr regs line = (regs, line, Trap tt)
 run_at _ instr regs line = effect instr regs line
 
+-- what one instruction does, where shared data has this number of lines
+abbrev pub run_of : Instr → Regs → ℕ → Line → Regs × Line × Outcome
+run_of instr regs lines line = run_at (need instr regs lines) instr regs line
+
 -- what a turn does, given what was fetched
 abbrev pub turn_at : Result Instr ℕ → Regs → ℕ → Line → Regs × Line × Outcome
-turn_at (Ok instr) regs lines line = run_at (need instr regs lines) instr regs line
+turn_at (Ok instr) regs lines line = run_of instr regs lines line
 turn_at (Err tt) regs lines line = (regs, line, Trap tt)
 
 -- what the turn of these registers needs, where shared data has this number of lines

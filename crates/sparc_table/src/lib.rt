@@ -2,9 +2,16 @@
 #![tactic(auto)]
 
 mod instructions;
+mod laws;
 mod outcomes;
 mod registers;
+mod words;
 
 pub use instructions::{Instr, Operand};
+pub use laws::{one_table, orderly_effects, orderly_turns};
 pub use outcomes::{Need, Outcome};
 pub use registers::Regs;
+pub use words::{decode, encode};
+
+#[cfg(test)]
+mod tests;

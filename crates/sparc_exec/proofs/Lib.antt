@@ -1,0 +1,4 @@
+mod Products
+mod Lanes
+mod Lines
+pub mod Outcomes
