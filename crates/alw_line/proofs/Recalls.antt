@@ -1,12 +1,13 @@
 -- The rows of Read-Write and the refusals keep a line sound: the owner is recalled, or gives its copy back, and a request that comes during a transaction is refused.
-use Rattle.std.proofs.Common.{◌≡◌, ◌≢◌, ℕ, ◌<◌, ◌≤◌, true, false, Option, Some, List, [], ◌∷◌, refl, sym, subst, ◌∙◌, arith}
+use Rattle.std.proofs.Common.{◌≡◌, ◌≢◌, ℕ, ◌+◌, ◌*◌, ◌==◌, ◌<◌, ◌≤◌, true, false, Option, Some, List, [], ◌∷◌, refl, sym, subst, ◌∙◌, arith}
 use Rattle.alw_num.specs.declared.addresses.Line.{Line}
 use Rattle.alw_num.specs.declared.states.State.TheVariants.{RO, RW, RT, WT}
 use Rattle.alw_num.specs.NodeSets.{no_nodes, has_node, one_node}
+use Rattle.alw_num.specs.Weights.{digit}
 use Rattle.alw_num.proofs.Weigh.{digit_same, true_of_digit}
 use Rattle.alw_num.proofs.Sets.{has-none}
-use Rattle.alw_model.specs.FullMap.{Home, Sends, sole, ToMemory, RREQ, WREQ, REPM, INV, BUSY}
-use Rattle.alw_model.specs.Lines.{LineState}
+use Rattle.alw_model.specs.FullMap.{Home, Sends, sole, ToMemory, RREQ, WREQ, REPM, UPDATE, ACKC, INV, BUSY}
+use Rattle.alw_model.specs.Lines.{LineState, is_rreq, is_wreq, is_repm, is_update, is_ackc}
 use Rattle.alw_line.specs.Protocol.{sent_to, acted}
 use Rattle.alw_line.specs.Census.{off, off_up, census, carries}
 use Rattle.alw_line.specs.Sound.{CounterFits, Sound}
@@ -125,56 +126,49 @@ owner_returns n x s i rest body here before e st p =
       members = λ k is. absurd (let f : false ≡ true = sym (has-none k) ∙ is in cc);
     }
 
--- RREQ during a transaction: refused
-pub refused_read : (n : ℕ) (x : Line) (s : LineState) (i : ℕ) (rest : List ToMemory) → i < n → Sound n x s → (s.node i).up ≡ RREQ ∷ rest → Sound n x (acted s i rest (s.home, (i, BUSY) ∷ []))
-refused_read n x s i rest here before e =
-    let sends : Sends = (i, BUSY) ∷ [] in
-    let dests : DestsBelow n sends = (here, tt) in
-    let total = debt_total n x s i RREQ rest (s.home, sends) before here e dests in
-    record {
-      each = λ k.
-          let c = before.each k in
-          let a = afterwards x s i RREQ rest (s.home, sends) e k in
-          let z = sent_one x k i BUSY in
-          let o = wrong_down_none (s.node k).down (sent_to k sends) (omega arith) (omega arith) z.wrong in
-          search arith;
-      counter = before.counter;
-      total = omega arith;
-      alone = λ l k some.
-          let al = afterwards x s i RREQ rest (s.home, sends) e l in
-          let zl = sent_one x l i BUSY in
-          let a = afterwards x s i RREQ rest (s.home, sends) e k in
-          let z = sent_one x k i BUSY in
-          let f = before.alone l k (omega arith) in
-          search arith;
-      home_value = λ none. before.home_value (λ k. let a = afterwards x s i RREQ rest (s.home, sends) e k in let z = sent_one x k i BUSY in let q = none k in omega arith);
-      beyond = absent_after n x s i rest (s.home, sends) before here dests;
-      members = before.members;
-    }
+-- a request that is taken d times: no message of another kind is
+record Asked (m : ToMemory) (d : ℕ) : Type 0 where
+  asks : digit (is_rreq m) * d + digit (is_wreq m) * d ≡ d
+  returns : digit (is_repm m) * d ≡ 0
+  updates : digit (is_update m) * d ≡ 0
+  acknowledges : digit (is_ackc m) * d ≡ 0
+  answers : digit (is_ackc m) + digit (is_update m) ≡ 0
 
--- WREQ during a transaction: refused
-pub refused_write : (n : ℕ) (x : Line) (s : LineState) (i : ℕ) (rest : List ToMemory) → i < n → Sound n x s → (s.node i).up ≡ WREQ ∷ rest → Sound n x (acted s i rest (s.home, (i, BUSY) ∷ []))
-refused_write n x s i rest here before e =
+asked : (m : ToMemory) (d : ℕ) → digit (is_rreq m) + digit (is_wreq m) ≡ 1 → Asked m d
+asked RREQ d one = search arith
+asked WREQ d one = search arith
+asked (REPM body) d one = absurd (omega arith)
+asked (UPDATE body) d one = absurd (omega arith)
+asked ACKC d one = absurd (omega arith)
+
+-- RREQ or WREQ during a transaction: refused
+pub refused : (n : ℕ) (x : Line) (s : LineState) (i : ℕ) (m : ToMemory) (rest : List ToMemory) → i < n → Sound n x s → (s.node i).up ≡ m ∷ rest → digit (is_rreq m) + digit (is_wreq m) ≡ 1 → Sound n x (acted s i rest (s.home, (i, BUSY) ∷ []))
+refused n x s i m rest here before e one =
     let sends : Sends = (i, BUSY) ∷ [] in
     let dests : DestsBelow n sends = (here, tt) in
-    let total = debt_total n x s i WREQ rest (s.home, sends) before here e dests in
+    let total = debt_total n x s i m rest (s.home, sends) before here e dests in
+    let none = asked m 0 one in
+    let same : (k : ℕ) → carries (census x ((acted s i rest (s.home, sends)).node k)) ≡ carries (census x (s.node k)) = λ k.
+    let a = afterwards x s i m rest (s.home, sends) e k in
+    let z = sent_one x k i BUSY in
+    let t = asked m (digit (k == i)) one in
+    omega arith in
     record {
       each = λ k.
           let c = before.each k in
-          let a = afterwards x s i WREQ rest (s.home, sends) e k in
+          let a = afterwards x s i m rest (s.home, sends) e k in
           let z = sent_one x k i BUSY in
+          let t = asked m (digit (k == i)) one in
           let o = wrong_down_none (s.node k).down (sent_to k sends) (omega arith) (omega arith) z.wrong in
           search arith;
       counter = before.counter;
       total = omega arith;
       alone = λ l k some.
-          let al = afterwards x s i WREQ rest (s.home, sends) e l in
-          let zl = sent_one x l i BUSY in
-          let a = afterwards x s i WREQ rest (s.home, sends) e k in
+          let a = afterwards x s i m rest (s.home, sends) e k in
           let z = sent_one x k i BUSY in
-          let f = before.alone l k (omega arith) in
+          let f = before.alone l k (omega (arith, same l)) in
           search arith;
-      home_value = λ none. before.home_value (λ k. let a = afterwards x s i WREQ rest (s.home, sends) e k in let z = sent_one x k i BUSY in let q = none k in omega arith);
+      home_value = λ free. before.home_value (λ k. sym (same k) ∙ free k);
       beyond = absent_after n x s i rest (s.home, sends) before here dests;
       members = before.members;
     }

@@ -15,7 +15,7 @@ use Rattle.alw_line.specs.Sound.{Sound}
 use Rattle.alw_line.proofs.Nodes.{opens_keeps, stores_keeps, leaves_keeps, comes_keeps}
 use Rattle.alw_line.proofs.Homes.{counts}
 use Rattle.alw_line.proofs.ReadOnly.{shared_read, sole_write, shared_write}
-use Rattle.alw_line.proofs.Recalls.{recall_read, recall_write, owner_returns, refused_read, refused_write}
+use Rattle.alw_line.proofs.Recalls.{recall_read, recall_write, owner_returns, refused}
 use Rattle.alw_line.proofs.Ends.{reading, writing, late_return, counted, read_acked, write_acked, read_updated, write_updated}
 use Rattle.alw_line.proofs.Unlisted.{shared_asks, owned_asks, owner_waits, owner_gives}
 
@@ -81,13 +81,13 @@ module _ (n : ℕ) (x : Line) (s : LineState) (i : ℕ) (rest : List ToMemory) (
   by_row RW (REPM body) st e = given_by_owner body (sole s.home.pointers) refl st e
   by_row RW (UPDATE body) st e = absurd (unanswered (UPDATE body) e st (sole s.home.pointers) refl (omega arith))
   by_row RW ACKC st e = absurd (unanswered ACKC e st (sole s.home.pointers) refl (omega arith))
-  by_row RT RREQ st e = refused_read n x s i rest here before e
-  by_row RT WREQ st e = refused_write n x s i rest here before e
+  by_row RT RREQ st e = refused n x s i RREQ rest here before e refl
+  by_row RT WREQ st e = refused n x s i WREQ rest here before e refl
   by_row RT (REPM body) st e = late_return n x s i rest body here before e (reading st)
   by_row RT (UPDATE body) st e = read_update_by body (sole s.home.pointers) refl st e
   by_row RT ACKC st e = read_ack_by s.home.acks (sole s.home.pointers) refl refl st e
-  by_row WT RREQ st e = refused_read n x s i rest here before e
-  by_row WT WREQ st e = refused_write n x s i rest here before e
+  by_row WT RREQ st e = refused n x s i RREQ rest here before e refl
+  by_row WT WREQ st e = refused n x s i WREQ rest here before e refl
   by_row WT (REPM body) st e = late_return n x s i rest body here before e (writing st)
   by_row WT (UPDATE body) st e = write_update_by body (sole s.home.pointers) refl st e
   by_row WT ACKC st e = write_ack_by s.home.acks (sole s.home.pointers) refl refl st e

@@ -2,3 +2,4 @@ pub mod Protocol
 pub mod Combinations
 pub mod Census
 pub mod Sound
+pub mod Worked

@@ -6,6 +6,7 @@
 mod copies;
 mod invariant;
 mod messages;
+mod worked;
 
 pub use copies::{copies_hold_the_value, writers_are_alone};
 pub use invariant::{each_event_keeps_it, line_invariant};
@@ -13,3 +14,4 @@ pub use messages::{
     answers_are_owed, at_rest, no_unlisted_combination, replies_end_transactions,
     transactions_go_on,
 };
+pub use worked::{line_crosses_its_recall, line_is_handed_over, two_answers_are_awaited};
