@@ -9,7 +9,7 @@ use Rattle.alw_num.specs.declared.states.State.{State}
 use Rattle.alw_num.specs.declared.states.State.TheVariants.{RO, RW, RT, WT}
 use Rattle.alw_num.specs.NodeSets.{has_node}
 use Rattle.alw_num.specs.Weights.{digit, sum_below}
-use Rattle.alw_num.proofs.Weigh.{sum_same, sum_none, le_sum, cases_lt_then}
+use Rattle.alw_num.proofs.Weigh.{digit_same, true_of_digit, sum_same, sum_none, le_sum, cases_lt_then}
 use Rattle.alw_model.specs.FullMap.{sole, ToCache}
 use Rattle.alw_model.specs.Maps.{passes}
 use Rattle.alw_model.specs.LimitLess.{Directory}
@@ -20,7 +20,7 @@ use Rattle.alw_line.specs.Census.{is_read, is_write, copies_of, transactions_of,
 use Rattle.alw_line.specs.Sound.{points, in_read_transaction, in_write_transaction, in_read_write, in_read_only, role, CounterFits, Sound}
 use Rattle.alw_line.proofs.Bodies.{line_equals, same_of_off}
 use Rattle.alw_line.proofs.Nodes.{debts, owner_owes, one_carrier}
-use Rattle.alw_line.proofs.Homes.{counts}
+use Rattle.alw_line.proofs.Homes.{roles, counts, sole_is}
 use Rattle.alw_line.proofs.Tests.{or_left, or_right, not_true, by_test, any_some, any_none, rdata_followed, wdata_followed, repm_followed, down_clear, up_clear, reads_count, writes_count, carried_length, data_all_hold, carriers_length, current_is}
 
 -- ---- the part of a node, by tests
@@ -49,12 +49,12 @@ sharing_digit RW b = refl
 sharing_digit RT b = refl
 sharing_digit WT b = refl
 
--- outside Read-Only the one member has one part
-part_of_one : (st : State) (o : Option ℕ) (i : ℕ) → is_shared st ≡ false → passes (λ j. i == j) o ≡ true → in_read_transaction st (points o i) + in_write_transaction st (points o i) + in_read_write st (points o i) ≡ 1
-part_of_one RO o i e is = absurd (cc)
-part_of_one RW o i e is = omega (arith, sym (owning_digit o i) ∙ ap digit is)
-part_of_one RT o i e is = omega (arith, sym (owning_digit o i) ∙ ap digit is)
-part_of_one WT o i e is = omega (arith, sym (owning_digit o i) ∙ ap digit is)
+-- the node of a transaction has that part
+moving_part : (st : State) (o : Option ℕ) (i : ℕ) → ((is_reading st || is_writing st) && passes (λ j. i == j) o) ≡ true → in_read_transaction st (points o i) + in_write_transaction st (points o i) ≡ 1
+moving_part RO o i is = absurd (cc)
+moving_part RW o i is = absurd (cc)
+moving_part RT o i is = omega (arith, sym (owning_digit o i) ∙ ap digit is)
+moving_part WT o i is = omega (arith, sym (owning_digit o i) ∙ ap digit is)
 
 -- ---- the tests, by numbers
 
@@ -63,10 +63,9 @@ by_mode None reads writes busy all r w one = eq-eqb (reads + writes + busy) 0 al
 by_mode (Some Read) reads writes busy all r w one = and_from (reads + busy == 1) (writes == 0) (eq-eqb (reads + busy) 1 (omega arith)) (eq-eqb writes 0 (omega arith))
 by_mode (Some Write) reads writes busy all r w one = and_from (writes + busy == 1) (reads == 0) (eq-eqb (writes + busy) 1 (omega arith)) (eq-eqb reads 0 (omega arith))
 
-by_debt : (owed : ℕ) (shared one : Bool) → owed ≤ 1 → (shared ≡ false → one ≡ true → owed ≡ 0) → (nat_le owed 1 && (shared || (not one || (owed == 0)))) ≡ true
-by_debt owed true one few none = and_from (nat_le owed 1) true (le-leb owed 1 few) refl
-by_debt owed false false few none = and_from (nat_le owed 1) true (le-leb owed 1 few) refl
-by_debt owed false true few none = and_from (nat_le owed 1) (owed == 0) (le-leb owed 1 few) (eq-eqb owed 0 (none refl refl))
+by_debt : (owed : ℕ) (moving : Bool) → owed ≤ 1 → (moving ≡ true → owed ≡ 0) → (nat_le owed 1 && (not moving || (owed == 0))) ≡ true
+by_debt owed false few none = and_from (nat_le owed 1) true (le-leb owed 1 few) refl
+by_debt owed true few none = and_from (nat_le owed 1) (owed == 0) (le-leb owed 1 few) (eq-eqb owed 0 (none refl))
 
 by_recall : (owed acks : ℕ) (behind writing coming back : Bool) → owed ≡ 1 → acks ≡ 1 → behind ≡ true → (writing ≡ true → coming ≡ true) → (coming ≡ false → back ≡ true) → (owed == 1 && (acks == 1 && (behind && ((not writing || coming) && (coming || back))))) ≡ true
 by_recall owed acks behind writing coming back o a d w b = and_from (owed == 1) _ (eq-eqb owed 1 o) (and_from (acks == 1) _ (eq-eqb acks 1 a) (and_from behind _ d (both writing coming back w b)))
@@ -167,8 +166,7 @@ module _ (n : ℕ) (x : Line) (s : LineState) (sound : Sound n x s) where
   debt_holds i =
       let c = sound.each i in
       let q = owner_owes n x s sound i in
-      by_debt (words.owes (s.node i)) (is_shared s.home.state) (is_sole s i) (omega arith)
-      (λ e is. let p = part_of_one s.home.state (sole s.home.pointers) i e is in omega arith)
+      by_debt (words.owes (s.node i)) ((is_reading s.home.state || is_writing s.home.state) && is_sole s i) (omega arith) (λ is. let p = moving_part s.home.state (sole s.home.pointers) i is in omega arith)
 
   carries_is : (i : ℕ) → words.carries (s.node i) ≡ carries (census x (s.node i))
   carries_is i = carried_length x (s.node i)
@@ -179,6 +177,15 @@ module _ (n : ℕ) (x : Line) (s : LineState) (sound : Sound n x s) where
   -- there is one carrier at most
   few_carried : all_carried n s ≤ 1
   few_carried = sum_few n (λ i. words.carries (s.node i)) (λ i. omega (arith, carries_is i, carries_few i)) (λ i j apart. omega (arith, carries_is i, carries_is j, one_carrier n x s i j sound apart))
+
+  -- the owner carries
+  owned : (j : ℕ) → sole s.home.pointers ≡ Some j → s.home.state ≡ RW → 1 ≤ all_carried n s
+  owned j p st =
+      let d = digit_same j j refl in
+      let here : j < n = sound.members j (true_of_digit (has_node s.home.pointers j) (omega (arith, sole_is s.home.pointers j j p))) in
+      let c = sound.each j in
+      let r = roles s.home RW (Some j) j st p in
+      omega (arith, le_sum n (λ k. words.carries (s.node k)) j here, carries_is j)
 
   -- a carrier in a transaction is recalled
   recalled : (i : ℕ) → (role s.home i).owns ≡ 0 → 1 ≤ carries (census x (s.node i)) → is_recalled (s.node i) s.home.acks ≡ true
@@ -208,16 +215,18 @@ module _ (n : ℕ) (x : Line) (s : LineState) (sound : Sound n x s) where
           let idle : (role s.home i).owns ≡ 0 = ap (λ (t : State). in_read_write t (points (sole s.home.pointers) i)) st in
           let quiet : s.home.acks ≡ 0 = counts s.home RO (sole s.home.pointers) st refl sound.counter in
           eq-eqb _ _ (omega (arith, carries_is i))
-      by_state RW st =
-          let c = sound.each i in
-          let q = debts n x s sound i in
-          let owns : (role s.home i).owns ≡ points (sole s.home.pointers) i = ap (λ (t : State). in_read_write t (points (sole s.home.pointers) i)) st in
-          let quiet : s.home.acks ≡ 0 = quiet_owner (sole s.home.pointers) (counts s.home RW (sole s.home.pointers) st refl sound.counter) in
-          eq-eqb _ _ (omega (arith, carries_is i, owning_digit (sole s.home.pointers) i))
+      by_state RW st = by_owner (sole s.home.pointers) refl st (counts s.home RW (sole s.home.pointers) st refl sound.counter)
         where
-          quiet_owner : (o : Option ℕ) → CounterFits RW o s.home.acks → s.home.acks ≡ 0
-          quiet_owner None fits = absurd fits
-          quiet_owner (Some k) fits = fits
+          by_owner : (o : Option ℕ) → sole s.home.pointers ≡ o → s.home.state ≡ RW → CounterFits RW o s.home.acks → (all_carried n s == 1 && (words.carries (s.node i) == digit (passes (λ j. i == j) o))) ≡ true
+          by_owner None p st fits = absurd fits
+          by_owner (Some j) p st quiet =
+              let c = sound.each i in
+              let q = debts n x s sound i in
+              let r = roles s.home RW (Some j) i st p in
+              let mine = carries_is i in
+              let few = few_carried in
+              let some = owned j p st in
+              and_from (all_carried n s == 1) _ (eq-eqb (all_carried n s) 1 (omega arith)) (eq-eqb (words.carries (s.node i)) (digit (i == j)) (omega arith))
       by_state RT st = moving (ap (λ (t : State). in_read_write t (points (sole s.home.pointers) i)) st)
       by_state WT st = moving (ap (λ (t : State). in_read_write t (points (sole s.home.pointers) i)) st)
 
