@@ -23,11 +23,11 @@ start body = record { home = home_start body; node = λ i. absent }
 
 -- a transaction is opened, and its request is sent
 abbrev pub opened : LineNode → Mode → LineNode
-opened v mode = record { copy = v.copy; transaction = Some mode; up = v.up ++ request mode ∷ []; down = v.down }
+opened v mode = record v { transaction = Some mode; up = v.up ++ request mode ∷ [] }
 
 -- a value is stored in the copy, which is Read-Write
 abbrev pub stored : LineNode → Line → LineNode
-stored v body = record { copy = Some (Write, body); transaction = v.transaction; up = v.up; down = v.down }
+stored v body = record v { copy = Some (Write, body) }
 
 -- what is sent where a copy is given up: REPM from a Read-Write one
 abbrev pub given_up : Option (Mode × Line) → List ToMemory
@@ -40,7 +40,7 @@ given_up (Some copy) = given copy.0 copy.1
 
 -- the copy is given up
 abbrev pub left : LineNode → LineNode
-left v = record { copy = None; transaction = v.transaction; up = v.up ++ given_up v.copy; down = v.down }
+left v = record v { copy = None; up = v.up ++ given_up v.copy }
 
 -- the answer to an INV
 abbrev pub answer : Option (Mode × Line) → ToMemory
@@ -50,18 +50,18 @@ answer (Some copy) = inv_answer copy.0 copy.1
 -- the front message of `down`, given `down`, has been received: RDATA and WDATA end the transaction and bring a copy, BUSY ends the transaction, and an INV takes the copy and is answered
 abbrev pub received : LineNode → List ToCache → LineNode
 received v [] = v
-received v (RDATA body ∷ rest) = record { copy = Some (Read, body); transaction = None; up = v.up; down = rest }
-received v (WDATA body ∷ rest) = record { copy = Some (Write, body); transaction = None; up = v.up; down = rest }
-received v (BUSY ∷ rest) = record { copy = v.copy; transaction = None; up = v.up; down = rest }
-received v (INV ∷ rest) = record { copy = None; transaction = v.transaction; up = v.up ++ answer v.copy ∷ []; down = rest }
+received v (RDATA body ∷ rest) = record v { copy = Some (Read, body); transaction = None; down = rest }
+received v (WDATA body ∷ rest) = record v { copy = Some (Write, body); transaction = None; down = rest }
+received v (BUSY ∷ rest) = record v { transaction = None; down = rest }
+received v (INV ∷ rest) = record v { copy = None; up = v.up ++ answer v.copy ∷ []; down = rest }
 
 -- messages have been sent to the node
 abbrev pub receives : LineNode → List ToCache → LineNode
-receives v messages = record { copy = v.copy; transaction = v.transaction; up = v.up; down = v.down ++ messages }
+receives v messages = record v { down = v.down ++ messages }
 
 -- the home has taken the front message, which leaves the rest
 abbrev pub taken_from : LineNode → List ToMemory → LineNode
-taken_from v rest = record { copy = v.copy; transaction = v.transaction; up = rest; down = v.down }
+taken_from v rest = record v { up = rest }
 
 -- ---- what an event makes of the line
 
@@ -72,7 +72,7 @@ sent_to k (x ∷ xs) = cond (k == x.0) (x.1 ∷ sent_to k xs) (sent_to k xs)
 
 -- one node's part changes
 abbrev pub changed : LineState → ℕ → LineNode → LineState
-changed s i v = record { home = s.home; node = λ k. cond (k == i) v (s.node k) }
+changed s i v = record s { node = λ k. cond (k == i) v (s.node k) }
 
 -- the home has acted on a message of a node, with what that leaves of its entry and what it sends
 abbrev pub acted : LineState → ℕ → List ToMemory → Home × Sends → LineState
