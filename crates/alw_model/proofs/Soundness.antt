@@ -9,7 +9,7 @@ use Rattle.alw_model.specs.Machine.{MachineState, node_at, link_at, has_halted}
 use Rattle.alw_model.specs.Lines.{LineState}
 use Rattle.alw_model.specs.LineInvariant as line
 use Rattle.alw_model.specs.LineInvariant.{LineInvariant}
-use Rattle.alw_model.specs.MachineInvariant.{MachineInvariant, slot_fits, transaction_fits, links_rightly, packed_rightly, caches_rightly, sizes_fit, left_to_do, most_to_do}
+use Rattle.alw_model.specs.MachineInvariant.{MachineInvariant, slot_fits, transaction_stands, links_rightly, packed_rightly, caches_rightly, sizes_fit, left_to_do, most_to_do}
 use Rattle.alw_model.specs.Checks.{is_sound_at, is_sound_line, is_sound_in, is_sound_node, is_sound}
 use Rattle.alw_num.proofs.Weigh.{is_node}
 use Rattle.std.proofs.lemmas.Bool.{false≢true}
@@ -92,7 +92,7 @@ module _ (parts : Parts) (parameters : Parameters) (machine : MachineState) wher
   -- the clauses of the machine invariant at a node
   record AtNode (n : ℕ) : Type 0 where
     slots : IsTrue (list_all (slot_fits parts parameters (node_at machine n)) (node_at machine n).slots)
-    transactions : IsTrue (list_all (transaction_fits parts (node_at machine n)) (node_at machine n).transactions.entries)
+    transactions : IsTrue (list_all (transaction_stands parts (node_at machine n)) (node_at machine n).transactions.entries)
     packets : IsTrue (list_all (packed_rightly parts n (node_at machine n)) (node_at machine n).packets)
     caches : IsTrue (list_all (caches_rightly parts parameters) (node_at machine n).cache.entries)
     clock : IsTrue (nat_le (node_at machine n).clock parameters.limit || has_halted machine)
@@ -102,7 +102,7 @@ module _ (parts : Parts) (parameters : Parameters) (machine : MachineState) wher
   at_node_by_test : (n : ℕ) → IsTrue (is_sound_node parts parameters machine n) → AtNode n
   at_node_by_test n is =
       let node = node_at machine n in
-      let p = seven (list_all (slot_fits parts parameters node) node.slots) (list_all (transaction_fits parts node) node.transactions.entries) (list_all (packed_rightly parts n node) node.packets) (list_all (caches_rightly parts parameters) node.cache.entries) (nat_le node.clock parameters.limit || has_halted machine) (sizes_fit parts node) (list_all (λ to. list_all (links_rightly parts machine n to) (link_at parts machine n to)) (range_with_len 0 (node_count parts))) is in
+      let p = seven (list_all (slot_fits parts parameters node) node.slots) (list_all (transaction_stands parts node) node.transactions.entries) (list_all (packed_rightly parts n node) node.packets) (list_all (caches_rightly parts parameters) node.cache.entries) (nat_le node.clock parameters.limit || has_halted machine) (sizes_fit parts node) (list_all (λ to. list_all (links_rightly parts machine n to) (link_at parts machine n to)) (range_with_len 0 (node_count parts))) is in
       record { slots = p.0; transactions = p.1; packets = p.2; caches = p.3; clock = p.4; sizes = p.5; links = p.6 }
 
   sound_by_test : IsTrue (is_sound parts parameters machine) → MachineInvariant parts parameters machine

@@ -9,7 +9,7 @@ use Rattle.alw_model.specs.LimitLess.{Directory}
 use Rattle.alw_model.specs.Machine.{MachineState, machine_start, node_at, link_at, has_halted, step}
 use Rattle.alw_model.specs.Lines.{LineState, line_of, entry_of, packets_at, ups}
 use Rattle.alw_model.specs.LineInvariant as line
-use Rattle.alw_model.specs.MachineInvariant.{points_rightly, slot_fits, transaction_fits, links_rightly, packed_rightly, caches_rightly, sizes_fit, left_to_do, most_to_do}
+use Rattle.alw_model.specs.MachineInvariant.{points_rightly, slot_fits, transaction_stands, links_rightly, packed_rightly, caches_rightly, sizes_fit, left_to_do, most_to_do}
 
 -- the clauses of the line invariant at a node
 abbrev pub is_sound_at : ℕ → LineState → ℕ → Bool
@@ -30,7 +30,7 @@ is_sound_in parts parameters machine l =
 abbrev pub is_sound_node : Parts → Parameters → MachineState → ℕ → Bool
 is_sound_node parts parameters machine n =
     let node = node_at machine n in
-    list_all (slot_fits parts parameters node) node.slots && (list_all (transaction_fits parts node) node.transactions.entries && (list_all (packed_rightly parts n node) node.packets
+    list_all (slot_fits parts parameters node) node.slots && (list_all (transaction_stands parts node) node.transactions.entries && (list_all (packed_rightly parts n node) node.packets
     && (list_all (caches_rightly parts parameters) node.cache.entries && ((nat_le node.clock parameters.limit || has_halted machine) && (sizes_fit parts node
     && list_all (λ to. list_all (links_rightly parts machine n to) (link_at parts machine n to)) (range_with_len 0 (node_count parts)))))))
 

@@ -138,8 +138,8 @@ abbrev pub main_events : Parts → List Event
 main_events parts = flat_map (λ at. Instr (record { 0 = at }) ∷ Handle (record { 0 = at }) ∷ map (λ from. Deliver (record { 0 = from }) (record { 0 = at })) (range_with_len 0 (node_count parts))) (range_with_len 0 (node_count parts))
 
 -- a context is trapped
-abbrev pub is_trapped : MachineState → Bool
-is_trapped machine = list_any (λ node. list_any (λ slot. has_trapped slot.status) node.slots) machine.nodes
+abbrev pub any_trapped : MachineState → Bool
+any_trapped machine = list_any (λ node. list_any (λ slot. has_trapped slot.status) node.slots) machine.nodes
 
 -- all links and packet queues are empty
 abbrev pub is_settled : MachineState → Bool
@@ -157,6 +157,6 @@ pub data End : Type 0 where
 -- the end of a run that holds, the first of the three: a context is trapped; every context has halted and the machine is settled; no main event within the limit is enabled
 abbrev pub end_of : Parts → Parameters → MachineState → Option End
 end_of parts parameters machine =
-    cond (is_trapped machine) (Some Trapped)
+    cond (any_trapped machine) (Some Trapped)
     (cond (has_halted machine && is_settled machine) (Some Halted)
     (cond (goes_on parts parameters machine) None (Some Limit)))

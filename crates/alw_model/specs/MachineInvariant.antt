@@ -92,8 +92,8 @@ slot_fits parts parameters node slot =
     && (passes_if_some (λ line. nat_lt line (line_count parts)) (waited slot.status) && passes_if_some (λ line. nat_lt line (line_count parts)) slot.hold)))
 
 -- a transaction by all of this; its line and its opener exist, so that a context waits on its line
-abbrev pub transaction_fits : Parts → NodeState → ℕ × Transaction → Bool
-transaction_fits parts node entry = opens_rightly parts node entry && (nat_lt entry.0 (line_count parts) && nat_lt entry.1.opener parts.contexts)
+abbrev pub transaction_stands : Parts → NodeState → ℕ × Transaction → Bool
+transaction_stands parts node entry = opens_rightly parts node entry && (nat_lt entry.0 (line_count parts) && nat_lt entry.1.opener parts.contexts)
 
 -- a node has its contexts and its home lines, and its current slot exists
 abbrev pub sizes_fit : Parts → NodeState → Bool
@@ -116,7 +116,7 @@ pub record MachineInvariant (parts : Parts) (parameters : Parameters) (machine :
   pub lines : (line : ℕ) → line < line_count parts → LineInvariant (node_count parts) (line_of parts parameters machine line) (entry_of parts machine line) (length (ups line (packets_at parts machine line)))
   pub entries : (line : ℕ) → line < line_count parts → IsTrue (points_rightly parts parameters (entry_of parts machine line))
   pub slots : (n : ℕ) → n < node_count parts → IsTrue (list_all (slot_fits parts parameters (node_at machine n)) (node_at machine n).slots)
-  pub transactions : (n : ℕ) → n < node_count parts → IsTrue (list_all (transaction_fits parts (node_at machine n)) (node_at machine n).transactions.entries)
+  pub transactions : (n : ℕ) → n < node_count parts → IsTrue (list_all (transaction_stands parts (node_at machine n)) (node_at machine n).transactions.entries)
   pub links : (from to : ℕ) → from < node_count parts → to < node_count parts → IsTrue (list_all (links_rightly parts machine from to) (link_at parts machine from to))
   pub packets : (n : ℕ) → n < node_count parts → IsTrue (list_all (packed_rightly parts n (node_at machine n)) (node_at machine n).packets)
   pub caches : (n : ℕ) → n < node_count parts → IsTrue (list_all (caches_rightly parts parameters) (node_at machine n).cache.entries)

@@ -31,6 +31,7 @@ use Rattle.alw_model.specs.Runs.{Moment, number_of, moments, turns_of, prints_of
 pub mod OneNode
 pub mod TwoNodes
 pub mod ThreeNodes
+pub mod Recorded
 
 -- an instruction of a node
 abbrev pub I : ℕ → ℕ → Entry

@@ -24,9 +24,9 @@ abbrev pub takes_rightly : Event → Option Msg → Bool
 takes_rightly (Deliver from to) taken = is_some taken
 takes_rightly _ taken = not (is_some taken)
 
-abbrev pub is_eviction : Event → Bool
-is_eviction (Evict node set) = true
-is_eviction _ = false
+abbrev pub is_evict : Event → Bool
+is_evict (Evict node set) = true
+is_evict _ = false
 
 -- a log's entry is the node's step on a message that is fit, with its stamp, within the limit, and no eviction where none is wanted
 pub record IsNextLogged (parts : Parts) (parameters : Parameters) (number : ℕ) (node : NodeState) (logged : Logged) : Type 0 where
@@ -34,7 +34,7 @@ pub record IsNextLogged (parts : Parts) (parameters : Parameters) (number : ℕ)
   pub enabled : IsTrue (is_enabled_at parts parameters number node logged.entry.event logged.taken)
   pub stamp : logged.entry.stamp ≡ stamp_of node.clock logged.taken
   pub within : logged.entry.stamp ≤ parameters.limit
-  pub evicts : parameters.evict ≡ 0 → is_eviction logged.entry.event ≡ false
+  pub evicts : parameters.evict ≡ 0 → is_evict logged.entry.event ≡ false
   pub sent : logged.sent ≡ (node_step parts parameters number node logged.entry.event logged.taken).sends
 
 -- each entry is the node's next one in its turn

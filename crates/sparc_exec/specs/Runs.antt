@@ -17,6 +17,7 @@ pub record Seen : Type 0 where
   pub copies : Copies
   pub calls : Option (List Access)
 
+-- the same, from its parts
 abbrev pub seen : Regs → Copies → Option (List Access) → Seen
 seen regs copies calls = record { regs = regs; copies = copies; calls = calls }
 
@@ -41,7 +42,7 @@ abbrev pub IsRunOn : Option Line → LineNo → Mode → (Line → Regs × Line 
 IsRunOn None line mode effect before after outcome = Missed line mode before after outcome
 IsRunOn (Some value) line mode effect before after outcome = Completed line mode (effect value) before after outcome
 
--- an instruction with this need and this effect, which is on no line where it needs no copy
+-- an instruction with this need and this effect. Where it needs no copy, its effect is the same on every line and leaves the line
 abbrev pub IsRun : Need → (Line → Regs × Line × Outcome) → Seen → Seen → Outcome → Type 0
 IsRun (needs.Copy line mode) effect before after outcome = IsRunOn (granted mode (before.copies line.0)) line mode effect before after outcome
 IsRun _ effect before after outcome = ((line : Line) → effect line ≡ (after.regs, line, outcome)) × Same before.copies after.copies × (after.calls ≡ before.calls)

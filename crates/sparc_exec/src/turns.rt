@@ -22,7 +22,7 @@ use sparc_table::{Instr, Operand, Outcome, Regs, decode};
 /// Runs one turn: fetches the word at PC, decodes it and runs its instruction over a port.
 ///
 /// `code` holds the words from address 0 on. A PC at or past the end of the code traps with type 01, a
-/// word outside the instruction table with type 02 (SPARC V8 manual, section 7.5).
+/// word outside the instruction table with type 02 (SPARC V8 manual, table 7-1).
 #[tactic(auto, unfolding(sparc_table::specs::Turns::need_of, sparc_table::specs::Turns::turn_of))]
 pub fn turn<P: Port>(code: &[u32], regs: &mut Regs, port: &mut P) -> Outcome
     ensures run { IsRun (need_of code.now regs.old (P.lines port.old)) (turn_of code.now regs.old (P.lines port.old)) (seen regs.old (P.copy port.old) (P.calls port.old)) (seen regs.new (P.copy port.new) (P.calls port.new)) result }

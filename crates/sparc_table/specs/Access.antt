@@ -1,4 +1,4 @@
--- What loads, stores, LDSTUB and SWAP need, read and write (SPARC V8 manual, appendix B.2, B.4, B.7 and B.8).
+-- What loads, stores, LDSTUB and SWAP need, read and write (SPARC V8 manual, appendix B.1, B.4, B.7 and B.8).
 use Rattle.std.specs.Prelude.{ℕ, ◌-◌, ◌/◌, ◌%◌, Bool, cond, ◌&&◌, ◌==◌, nat_le, nat_lt, [], ◌∷◌}
 use Rattle.alw_num.specs.Lanes.{bytes_in, lane_of, with_lane_of}
 use Rattle.alw_num.specs.declared.addresses.TheConstants.{SHARED_BASE}

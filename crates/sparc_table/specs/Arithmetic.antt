@@ -1,4 +1,4 @@
--- What arithmetic, logic and shifts leave in the registers (SPARC V8 manual, appendix B.11 to B.14 and B.18).
+-- What arithmetic, logic and shifts leave in the registers (SPARC V8 manual, appendix B.11 to B.13, B.15 and B.18).
 use Rattle.std.specs.Prelude.{ℕ, ◌+◌, ◌-◌, ◌*◌, ◌/◌, ◌%◌, ◌^◌, Bool, false, cond, not, ◌&&◌, ◌==◌, nat_le, nat_lt, bit_and, bit_or, bit_xor, ◌*ℤ◌}
 use Rattle.std.specs.Int.{w32, w64, bit_not, cast_signed, cast_unsigned, from_bool, int_shr}
 use Rattle.sparc_table.specs.Fields.{bits_of}

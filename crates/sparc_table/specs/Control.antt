@@ -1,16 +1,18 @@
--- Where a turn goes on: conditions, delayed transfers and annulling (SPARC V8 manual, section 5.1 and appendix B.21, B.24, B.25 and B.27).
+-- Where a turn goes on: conditions, delayed transfers and annulling (SPARC V8 manual, chapter 5, control transfers, and appendix B.21, B.24, B.25 and B.27).
 use Rattle.std.specs.Prelude.{ℕ, ◌+◌, ◌*◌, ◌%◌, ◌^◌, Bool, true, false, cond, not, ◌&&◌, ◌||◌, ◌==◌, List, [], ◌∷◌, get_or}
 use Rattle.sparc_table.specs.Registers.{differ}
 use Rattle.sparc_table.specs.Operands.{sign_extended}
 use Rattle.sparc_table.specs.declared.registers.Regs.{Regs}
 
--- signed less or equal, signed less, unsigned less or equal, after a comparison
+-- after a comparison: signed less or equal
 abbrev pub is_le : Regs → Bool
 is_le regs = regs.z || differ regs.n regs.v
 
+-- signed less
 abbrev pub is_less : Regs → Bool
 is_less regs = differ regs.n regs.v
 
+-- unsigned less or equal
 abbrev pub is_leu : Regs → Bool
 is_leu regs = regs.c || regs.z
 

@@ -1,4 +1,4 @@
--- The fields of an instruction word (SPARC V8 manual, section 5.1, instruction formats).
+-- The fields of an instruction word (SPARC V8 manual, chapter 5, instruction formats).
 use Rattle.std.specs.Prelude.{ℕ, ◌/◌, ◌%◌, ◌^◌}
 
 -- the bits of a word from bit `low` on, as many as `width`

@@ -1,4 +1,4 @@
--- What an instruction reads: the two operands of format 3, and the sum that JMPL, Ticc and the accesses take (SPARC V8 manual, section 5.1 and appendix B).
+-- What an instruction reads: the two operands of format 3, and the sum that JMPL, Ticc and the accesses take (SPARC V8 manual, chapter 5, instruction formats).
 use Rattle.std.specs.Prelude.{ℕ, ◌+◌, ◌-◌, ◌%◌, ◌^◌, cond, nat_lt}
 use Rattle.sparc_table.specs.Registers.{register}
 use Rattle.sparc_table.specs.declared.registers.Regs.{Regs}

@@ -13,7 +13,7 @@ abbrev pub is_in : List ℕ → ℕ → Bool
 is_in [] n = false
 is_in (x ∷ xs) n = (n == x) || is_in xs n
 
--- ADD, AND, OR, XOR, SUB, ANDN, ORN, XNOR, ADDX, UMUL, SMUL, SUBX (B.11 to B.14, B.18), then the forms that
+-- ADD, AND, OR, XOR, SUB, ANDN, ORN, XNOR, ADDX, UMUL, SMUL, SUBX (B.11, B.13, B.15, B.18), then the forms that
 -- set codes: ADDcc, ANDcc, ORcc, XORcc, SUBcc, ANDNcc, ORNcc, XNORcc, ADDXcc, SUBXcc
 abbrev pub arithmetic : List ℕ
 arithmetic =
@@ -24,7 +24,7 @@ arithmetic =
 abbrev pub shifts : List ℕ
 shifts = 0x25 ∷ 0x26 ∷ 0x27 ∷ []
 
--- LD, LDUB, LDUH, ST, STB, STH, LDSB, LDSH, LDSTUB, SWAP (B.2, B.4, B.7, B.8)
+-- LD, LDUB, LDUH, ST, STB, STH, LDSB, LDSH, LDSTUB, SWAP (B.1, B.4, B.7, B.8)
 abbrev pub accesses : List ℕ
 accesses = 0x00 ∷ 0x01 ∷ 0x02 ∷ 0x04 ∷ 0x05 ∷ 0x06 ∷ 0x09 ∷ 0x0A ∷ 0x0D ∷ 0x0F ∷ []
 
@@ -80,7 +80,7 @@ format_2 word =
     cond (op2_of word == 4) (Some (Sethi (rd_of word) (bits_of 0 22 word)))
     (only_if (op2_of word == 2) (Some (Branch (annul_of word == 1) (cond_of word) (bits_of 0 22 word))))
 
--- arithmetic and logic, shifts (B.12), RDY (B.28), WRY (B.29), JMPL (B.25) and Ticc (B.27), by op3
+-- arithmetic and logic (B.11, B.13, B.15, B.18), shifts (B.12), RDY (B.28), WRY (B.29), JMPL (B.25) and Ticc (B.27), by op3
 abbrev pub format_3 : ℕ → ℕ → Option Instr
 format_3 op3 word =
     cond (is_in arithmetic op3) (option_map (Arith op3 (rd_of word) (rs1_of word)) (operand_in word))
@@ -90,7 +90,7 @@ format_3 op3 word =
     (cond (op3 == 0x38) (option_map (Jmpl (rd_of word) (rs1_of word)) (operand_in word))
     (only_if (op3 == 0x3A) (only_if (annul_of word == 0) (option_map (TrapOn (cond_of word) (rs1_of word)) (short_operand_in 7 word))))))))
 
--- loads and stores (B.2, B.4), LDSTUB (B.7) and SWAP (B.8), by op3
+-- loads and stores (B.1, B.4), LDSTUB (B.7) and SWAP (B.8), by op3
 abbrev pub memory : ℕ → ℕ → Option Instr
 memory op3 word = only_if (is_in accesses op3) (option_map (Memory op3 (rd_of word) (rs1_of word)) (operand_in word))
 

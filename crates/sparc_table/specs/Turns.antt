@@ -1,4 +1,4 @@
--- A turn on a list of code words: the fetch at PC, and then the instruction there (SPARC V8 manual, section 7.1 and table 7-1).
+-- A turn on a list of code words: the fetch at PC, and then the instruction there (SPARC V8 manual, chapter 7, table 7-1).
 use Rattle.std.specs.Prelude.{ℕ, ◌/◌, List, Option, Some, None, Result, Ok, Err, slice_get}
 use Rattle.alw_num.specs.declared.addresses.Line.{Line}
 use Rattle.sparc_table.specs.Table.{instr_of}

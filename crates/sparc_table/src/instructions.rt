@@ -1,5 +1,5 @@
 /// The second operand of a format 3 instruction: a register where bit 13 of the word is 0, and
-/// bits 12 to 0 of the word where it is 1 (SPARC V8 manual, section 5.1, instruction formats).
+/// bits 12 to 0 of the word where it is 1 (SPARC V8 manual, chapter 5, instruction formats).
 #[derive(Clone, Copy, Debug, PartialEq, Eq)]
 pub enum Operand {
     Reg { rs2: u8 },

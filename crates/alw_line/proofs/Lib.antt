@@ -1,0 +1,13 @@
+pub mod Bodies
+pub mod Orders
+pub mod Nodes
+pub mod Homes
+pub mod ReadOnly
+pub mod Recalls
+pub mod Ends
+pub mod Unlisted
+pub mod Steps
+pub mod Tests
+pub mod Clauses
+pub mod Consequences
+pub mod Always
