@@ -25,17 +25,17 @@ pub length-hex_digits : (n : ℕ) → length (hex_digits n) ≡ 8
 unfolding hex_digits
 length-hex_digits n = length-low_digits 8 n
 
-digit_below : (bytes : List ℕ) (i : ℕ) → AllDigits 10 bytes → i < length bytes → digit_value (get_or bytes i 0) < 10
-digit_below [] i all l = absurd (omega arith)
-digit_below (b ∷ bs) zero all l = all.0
-digit_below (b ∷ bs) (suc i) all l = digit_below bs i all.1 (omega arith)
+digit_below : (base : ℕ) (bytes : List ℕ) (i : ℕ) → AllDigits base bytes → i < length bytes → digit_value (get_or bytes i 0) < base
+digit_below base [] i all l = absurd (omega arith)
+digit_below base (b ∷ bs) zero all l = all.0
+digit_below base (b ∷ bs) (suc i) all l = digit_below base bs i all.1 (omega arith)
 
 -- where one more digit can't be read, the whole is no number below the bound
-pub stops : (bytes : List ℕ) (i number : ℕ) → i < length bytes → number ≡ digits_value 10 (take i bytes) → ¬ ((digit_value (get_or bytes i 0) < 10) × (number * 10 + digit_value (get_or bytes i 0) < 2 ^ 64)) → ¬ (IsNumeral 10 bytes × (digits_value 10 bytes < 2 ^ 64))
-stops bytes i number l is stop whole =
-    let e = digits_value_more 10 bytes i l in
-    let le = digits_value-take-le 10 bytes (i + 1) (omega arith) in
-    stop (digit_below bytes i whole.0.1 l, omega (arith, whole.1))
+pub stops : (base : ℕ) (bytes : List ℕ) (i number : ℕ) → 2 ≤ base → i < length bytes → number ≡ digits_value base (take i bytes) → ¬ ((digit_value (get_or bytes i 0) < base) × (number * base + digit_value (get_or bytes i 0) < 2 ^ 64)) → ¬ (IsNumeral base bytes × (digits_value base bytes < 2 ^ 64))
+stops base bytes i number low l is stop whole =
+    let e : digits_value base (take (i + 1) bytes) ≡ number * base + digit_value (get_or bytes i 0) = digits_value_more base bytes i l ∙ ap (λ k. k * base + digit_value (get_or bytes i 0)) (sym is) in
+    let le = digits_value-take-le base bytes (i + 1) (omega arith) in
+    stop (digit_below base bytes i whole.0.1 l, omega (arith, whole.1))
 
 -- no spelling of a number begins with a zero and goes on
 pub no_zero : (bytes : List ℕ) (n : ℕ) → n < 2 ^ 64 → bytes ≡ decimal n → get_or bytes 0 0 ≡ 48 → length bytes ≡ 1
@@ -124,8 +124,8 @@ found bytes n read plain = spelled bytes read.0.0 read.0.1 (λ z. ⊎_elim (λ o
 pub leading_zero : (bytes : List ℕ) → (1 < length bytes) × (get_or bytes 0 0 ≡ 48) → (n : ℕ) → n < 2 ^ 64 → bytes ≢ decimal n
 leading_zero bytes zeros n l e = absurd (omega (arith, no_zero bytes n l e zeros.1, zeros.0))
 
-pub whole : (bytes : List ℕ) (i number : ℕ) → (length bytes == 0) ≡ false → length bytes ≤ i → AllDigits 10 (take i bytes) → number ≡ digits_value 10 (take i bytes) → number < 2 ^ 64 → (IsNumeral 10 bytes × (digits_value 10 bytes < 2 ^ 64)) × (number ≡ digits_value 10 bytes)
-whole bytes i number some end digits is small =
+pub whole : (base : ℕ) (bytes : List ℕ) (i number : ℕ) → (length bytes == 0) ≡ false → length bytes ≤ i → AllDigits base (take i bytes) → number ≡ digits_value base (take i bytes) → number < 2 ^ 64 → (IsNumeral base bytes × (digits_value base bytes < 2 ^ 64)) × (number ≡ digits_value base bytes)
+whole base bytes i number some end digits is small =
     let all = take_all i bytes end in
-    let value : number ≡ digits_value 10 bytes = is ∙ ap (digits_value 10) all in
-    (((grind (arith, nat_tests), let P : List ℕ → Type 0 = AllDigits 10 in subst P all digits), omega arith), value)
+    let value : number ≡ digits_value base bytes = is ∙ ap (digits_value base) all in
+    (((grind (arith, nat_tests), let P : List ℕ → Type 0 = AllDigits base in subst P all digits), omega arith), value)

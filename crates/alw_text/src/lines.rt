@@ -15,6 +15,7 @@ pub struct Span {
 pub fn line_at(text: &[u8], from: usize) -> Option<Span>
     ensures none { IsNone result ↔ (length text.now ≤ from) }
     ensures line { IfSome result (λ line. line ≡ record { start = from; end = line_end text.now from; next = next_line text.now from }) }
+    ensures order { IfSome result (λ line. (from ≤ line.end) × (line.end ≤ line.next) × (from < line.next) × (line.next ≤ length text.now)) }
 {
     if text.len() <= from {
         return None;

@@ -1,20 +1,22 @@
-ghost use Rattle.std.specs.Prelude.{◌≡◌, ◌≢◌, ◌<◌, ◌^◌, ◌↔◌, ◌+◌, ◌*◌, ◌++◌, List, ℕ, length, slice_index, IsTrue, IfSome, IfNone, MatchOption, SomeIff};
+ghost use Rattle.std.specs.Prelude.{◌≡◌, ◌≢◌, ◌<◌, ◌≤◌, ◌^◌, ◌↔◌, ◌+◌, ◌*◌, ◌++◌, List, ℕ, length, slice_index, IsTrue, IfSome, IfNone, MatchOption, SomeIff};
 ghost use Rattle.std.specs.Fmt.{decimal};
 ghost use Rattle.std.specs.Str.Parse.{IsNumeral, digits_value};
 ghost use Rattle.std.specs.Char.{digit_value};
 ghost use Rattle.alw_text.specs.Numbers.{hex_digit, hex_digits, hex_word};
 
-/// The number that decimal digits write, leading zeros allowed. None exactly where the bytes aren't
-/// digits of a number below 2^64.
-pub fn digits(bytes: &[u8]) -> Option<u64>
-    ensures { SomeIff result (IsNumeral 10 bytes.now × (digits_value 10 bytes.now < 2 ^ 64)) (digits_value 10 bytes.now) }
+/// The number that digits write in a base from 2 to 36, of either case, leading zeros allowed. None
+/// exactly where the bytes aren't digits of a number below 2^64.
+pub fn digits(bytes: &[u8], base: u32) -> Option<u64>
+    requires low { 2 ≤ base }
+    requires high { base ≤ 36 }
+    ensures { SomeIff result (IsNumeral base bytes.now × (digits_value base bytes.now < 2 ^ 64)) (digits_value base bytes.now) }
 {
     if bytes.is_empty() {
         return None;
     }
     let mut number: u64 = 0;
     for byte in bytes {
-        match with_digit(number, *byte) {
+        match with_digit(number, *byte, base) {
             Some(longer) => number = longer,
             None => return None,
         }
@@ -22,13 +24,17 @@ pub fn digits(bytes: &[u8]) -> Option<u64>
     Some(number)
 }
 
-// The number with one more decimal digit behind it. None exactly where the byte is no digit or the
-// number would reach 2^64.
-fn with_digit(number: u64, byte: u8) -> Option<u64>
-    ensures { SomeIff result ((digit_value byte < 10) × (number * 10 + digit_value byte < 2 ^ 64)) (number * 10 + digit_value byte) }
+// The number with one more digit behind it. None exactly where the byte is no digit in the base or
+// the number would reach 2^64.
+fn with_digit(number: u64, byte: u8, base: u32) -> Option<u64>
+    requires low { 2 ≤ base }
+    requires high { base ≤ 36 }
+    ensures { SomeIff result ((digit_value byte < base) × (number * base + digit_value byte < 2 ^ 64)) (number * base + digit_value byte) }
 {
-    let digit = char::from(byte).to_digit(10)?;
-    number.checked_mul(10)?.checked_add(u64::from(digit))
+    let digit = char::from(byte).to_digit(base)?;
+    number
+        .checked_mul(u64::from(base))?
+        .checked_add(u64::from(digit))
 }
 
 /// The number that bytes spell in decimal, without a leading zero (`0` itself is allowed). None
@@ -38,7 +44,7 @@ pub fn decimal(bytes: &[u8]) -> Option<u64>
     ensures range { IfSome result (λ n. n < 2 ^ 64) }
     ensures none { IfNone result ((n : ℕ) → n < 2 ^ 64 → bytes.now ≢ decimal n) }
 {
-    match digits(bytes) {
+    match digits(bytes, 10) {
         Some(number) if !has_leading_zero(bytes) => Some(number),
         _ => None,
     }

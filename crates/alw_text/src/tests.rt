@@ -8,7 +8,8 @@ fn numbers_have_one_spelling(rt: HostRuntime) {
     assert_eq!(rt; decimal(b"18446744073709551616"), None);
     assert_eq!(rt; decimal(b"07"), None);
     assert_eq!(rt; decimal(b"+7"), None);
-    assert_eq!(rt; digits(b"007"), Some(7));
+    assert_eq!(rt; digits(b"007", 10), Some(7));
+    assert_eq!(rt; digits(b"Ff", 16), Some(255));
     assert_eq!(rt; hex32(b"0xdeadbeef"), Some(0xdead_beef));
     assert_eq!(rt; hex32(b"0xDEADBEEF"), None);
     assert_eq!(rt; hex32(b"0xdeadbee"), None);
