@@ -1,0 +1,13 @@
+//! Spellings: numbers and lines of text, and a text that grows by them.
+#![tactic(auto)]
+
+mod lines;
+mod numbers;
+mod texts;
+
+pub use lines::{Span, line_at};
+pub use numbers::{decimal, digits, hex32};
+pub use texts::Text;
+
+#[cfg(test)]
+mod tests;
