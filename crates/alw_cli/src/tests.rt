@@ -149,25 +149,24 @@ fn refused(rt: HostRuntime) -> Result<(), Fail> {
     Ok(())
 }
 
+// What is answered to words, with the smallest image as input.
+fn answer_to(alloc: Global, words: &[String]) -> Result<Cause, Fail> {
+    let mut input = MemSource::new(alloc, &SMALLEST, 1000, &[])?;
+    let mut out = MemSink::new(alloc, 1000, 1000, &[])?;
+    Ok(answered(alloc, words, &mut input, &mut out)?.cause)
+}
+
 #[test]
 fn refused_words(rt: HostRuntime) -> Result<(), Fail> {
     let alloc = rt.alloc();
-    let two = [
-        String::from_str(alloc, "run")?,
-        String::from_str(alloc, "run")?,
-    ];
-    let other = [String::from_str(alloc, "asm")?];
-    for (words, at) in [
-        (two.as_slice(), 1),
-        (other.as_slice(), 0),
-        ([].as_slice(), 0),
-    ] {
-        let mut input = MemSource::new(alloc, &SMALLEST, 1000, &[])?;
-        let mut out = MemSink::new(alloc, 1000, 1000, &[])?;
-        let done = answered(alloc, words, &mut input, &mut out)?;
-        assert_eq!(rt; done.status, 2);
-        assert_eq!(rt; done.cause, Cause::Words(WordErr { at }));
-    }
+    let mut words = Vec::new(alloc);
+    assert_eq!(rt; answer_to(alloc, &words)?, Cause::Words(WordErr { at: 0 }));
+    words.push(String::from_str(alloc, "run")?)?;
+    words.push(String::from_str(alloc, "run")?)?;
+    assert_eq!(rt; answer_to(alloc, &words)?, Cause::Words(WordErr { at: 1 }));
+    words.clear();
+    words.push(String::from_str(alloc, "asm")?)?;
+    assert_eq!(rt; answer_to(alloc, &words)?, Cause::Words(WordErr { at: 0 }));
     Ok(())
 }
 
