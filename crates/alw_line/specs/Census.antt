@@ -8,20 +8,24 @@ use Rattle.alw_model.specs.FullMap.{ToMemory, RREQ, WREQ, REPM, UPDATE, ACKC, To
 use Rattle.alw_model.specs.LineInvariant.{same_line}
 use Rattle.alw_model.specs.Lines.{LineNode, is_rreq, is_wreq, is_repm, is_update, is_ackc, is_rdata, is_wdata, is_inv, is_busy, count_of}
 
--- ---- 1 for a copy or a transaction of a mode, and 0 else
+-- ---- copies and transactions of a mode
 
+-- 1 for Read
 abbrev pub is_read : Mode → ℕ
 is_read Read = 1
 is_read Write = 0
 
+-- 1 for Write
 abbrev pub is_write : Mode → ℕ
 is_write Read = 0
 is_write Write = 1
 
+-- a copy, counted by its mode
 abbrev pub copies_of : (Mode → ℕ) → Option (Mode × Line) → ℕ
 copies_of f None = 0
 copies_of f (Some copy) = f copy.0
 
+-- a transaction, counted by its mode
 abbrev pub transactions_of : (Mode → ℕ) → Option Mode → ℕ
 transactions_of f None = 0
 transactions_of f (Some mode) = f mode
@@ -51,6 +55,7 @@ wrong_up (ACKC ∷ rest) = count_of is_repm rest + wrong_up rest
 abbrev pub off : Line → Line → ℕ
 off value body = digit (not (same_line body value))
 
+-- the copy's body, the body of a message to memory, the body of a message to a cache
 abbrev pub off_copy : Line → Option (Mode × Line) → ℕ
 off_copy value None = 0
 off_copy value (Some copy) = off value copy.1
@@ -86,6 +91,7 @@ pub record Census : Type 0 where
   pub wrong_down : ℕ
   pub off : ℕ
 
+-- a node's census, of bodies that should be this value
 abbrev pub census : Line → LineNode → Census
 census value v = record {
   rreq = count_of is_rreq v.up;

@@ -14,7 +14,7 @@ abbrev pub points : Option ℕ → ℕ → ℕ
 points None i = 0
 points (Some k) i = digit (i == k)
 
--- a number in one state, and 0 in the others
+-- a number in one state, and 0 in the others: in Read-Transaction, in Write-Transaction, in Read-Write, in Read-Only
 abbrev pub in_read_transaction : State → ℕ → ℕ
 in_read_transaction RT d = d
 in_read_transaction _ d = 0
@@ -39,6 +39,7 @@ pub record Role : Type 0 where
   pub shares : ℕ
   pub acks : ℕ
 
+-- the part of node i by the entry
 abbrev pub role : Home → ℕ → Role
 role h i = record {
   reads = in_read_transaction h.state (points (sole h.pointers) i);
