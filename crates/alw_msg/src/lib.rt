@@ -4,7 +4,12 @@
 mod contexts;
 mod events;
 mod messages;
+mod sends;
 
 pub use contexts::Status;
 pub use events::{Entry, Event, Journal, Prints, Turns, Words};
 pub use messages::{Kind, Msg};
+pub use sends::Sends;
+
+#[cfg(test)]
+mod tests;

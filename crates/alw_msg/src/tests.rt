@@ -1,0 +1,31 @@
+use crate::{Kind, Sends};
+use alw_num::{Line, LineNo, NodeNo};
+use std::test::Fail;
+
+const BODY: Line = Line {
+    a: 1,
+    b: 2,
+    c: 3,
+    d: 4,
+};
+
+#[test]
+fn an_event_sends_to_two_nodes(rt: HostRuntime) -> Result<(), Fail> {
+    let mut sends = Sends::room(rt.alloc(), 2)?;
+    sends.begin(NodeNo(1), 6);
+    assert!(rt; sends.is_empty());
+    sends.push(NodeNo(0), Kind::INV, LineNo(3), BODY);
+    sends.push(NodeNo(1), Kind::WDATA, LineNo(3), BODY);
+    assert_eq!(rt; sends.len(), 2);
+    let (to, msg) = sends.at(0);
+    assert_eq!(rt; to, NodeNo(0));
+    assert_eq!(rt; msg.body, Line::ZERO);
+    let (to, msg) = sends.at(1);
+    assert_eq!(rt; to, NodeNo(1));
+    assert_eq!(rt; msg.src, NodeNo(1));
+    assert_eq!(rt; msg.stamp, 6);
+    assert_eq!(rt; msg.body, BODY);
+    sends.begin(NodeNo(0), 7);
+    assert_eq!(rt; sends.len(), 0);
+    Ok(())
+}

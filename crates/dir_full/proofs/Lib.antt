@@ -1,0 +1,3 @@
+pub mod Invalidations
+pub mod Members
+pub mod SharedWrites

@@ -1,0 +1,30 @@
+-- What a home does with a message as it stands on a link, and the messages that it sends.
+use Rattle.std.specs.Prelude.{◌≡◌, ℕ, ◌<◌, true, [], ◌++◌}
+use Rattle.alw_num.specs.declared.addresses.Line.{Line}
+use Rattle.alw_num.specs.declared.states.State.{State}
+use Rattle.alw_num.specs.declared.states.State.TheVariants.{RT, WT}
+use Rattle.alw_num.specs.NodeSets.{Nodes, has_node}
+use Rattle.alw_msg.specs.Sending.{Sending}
+use Rattle.alw_model.specs.FullMap.{Home, Sends, act, unlisted, sole, end_read, end_write}
+use Rattle.alw_model.specs.Messages.{Content, ForMemory, ForCache, to_caches}
+
+-- the home table, on what a message of node i says: one to a cache isn't listed
+abbrev pub reaction : Home → ℕ → Content → Home × Sends
+reaction home i (ForMemory said) = act home i said
+reaction home i (ForCache said) = unlisted home
+
+-- a transaction ends, by its state, with the body as it then is
+abbrev pub ended : Home → Line → State → Home × Sends
+ended home body RT = end_read home body (sole home.pointers)
+ended home body WT = end_write home body (sole home.pointers)
+ended home body _ = unlisted home
+
+-- these sends about a line, in this order, behind those that stand there
+abbrev pub with_sends : Sending → ℕ → Sends → Sending
+with_sends sending line sends = record sending { messages = sending.messages ++ to_caches sending.src sending.stamp line sends }
+
+-- the list is begun and empty, and has room for a message to node i and to each member of P
+pub record HasRoom (P : Nodes) (i : ℕ) (sending : Sending) : Type 0 where
+  pub empty : sending.messages ≡ []
+  pub sender : i < sending.room
+  pub members : (k : ℕ) → has_node P k ≡ true → k < sending.room
