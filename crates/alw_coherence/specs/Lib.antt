@@ -1,3 +1,1 @@
-pub mod Links
-pub mod LineEvents
-pub mod Standing
+pub mod Values

@@ -1,8 +1,7 @@
-//! The whole machine follows the protocol of one line, for each line: what an event of the machine
-//! is to a line, and what that gives. The functions are laws with empty bodies: each clause is a
-//! theorem over the definitions in specs/.
+//! What holds of the machine after every legal journal, and what that gives. The functions are laws
+//! with empty bodies: each clause is a theorem over the definitions in specs/.
 #![tactic(auto)]
 
-mod events_followed;
+mod standing_machine;
 
-pub use events_followed::lines_follow;
+pub use standing_machine::lines_are_sound;

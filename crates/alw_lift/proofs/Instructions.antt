@@ -27,14 +27,14 @@ use Rattle.alw_model.specs.Lines.{LineNode, downs, line_node, line_of}
 use Rattle.alw_model.proofs.MapLaws.{value-with}
 use Rattle.alw_line.specs.Protocol.{LineEvent, Opens, Stores, is_granted}
 use Rattle.alw_line.specs.Protocol as line
-use Rattle.alw_coherence.specs.Links.{GoBelow}
-use Rattle.alw_coherence.specs.LineEvents.{Follows, in_miss, in_turn, in_access, in_need, in_instr}
-use Rattle.alw_coherence.specs.Standing.{IsStanding}
-use Rattle.alw_coherence.proofs.Views.{seen_copy, seen_transaction, next_machine}
-use Rattle.alw_coherence.proofs.CacheSide as cache
-use Rattle.alw_coherence.proofs.CacheSide.{new_part, old_part}
-use Rattle.alw_coherence.proofs.CopyLaws.{copy_stored}
-use Rattle.alw_coherence.proofs.Following.{stays, takes_about, home_below, part_changes, part_stays}
+use Rattle.alw_lift.specs.Links.{GoBelow}
+use Rattle.alw_lift.specs.LineEvents.{Follows, in_miss, in_turn, in_access, in_need, in_instr}
+use Rattle.alw_lift.specs.Standing.{IsStanding}
+use Rattle.alw_lift.proofs.Views.{seen_copy, seen_transaction, next_machine}
+use Rattle.alw_lift.proofs.CacheSide as cache
+use Rattle.alw_lift.proofs.CacheSide.{new_part, old_part}
+use Rattle.alw_lift.proofs.CopyLaws.{copy_stored}
+use Rattle.alw_lift.proofs.Following.{stays, takes_about, home_below, part_changes, part_stays}
 
 -- a copy that a test keeps, and one that it doesn't
 pub kept_is : {X : Type 0} (test : X → Bool) (o : Option X) (x : X) → kept_if test o ≡ Some x → (o ≡ Some x) × (test x ≡ true)

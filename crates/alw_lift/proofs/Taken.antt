@@ -10,7 +10,7 @@ use Rattle.alw_model.specs.FullMap.{ToMemory, ToCache}
 use Rattle.alw_model.specs.Messages.{ForMemory, ForCache, content}
 use Rattle.alw_model.specs.Machine.{MachineState, link_at, link_place, front, behind}
 use Rattle.alw_model.specs.Lines.{request_in, reply_in, ups, downs}
-use Rattle.alw_coherence.proofs.Links.{link_taken}
+use Rattle.alw_lift.proofs.Links.{link_taken}
 
 pub split_front : {X : Type 0} (xs : List X) (x : X) → front xs ≡ Some x → xs ≡ x ∷ behind xs
 split_front [] x e = absurd (cc)

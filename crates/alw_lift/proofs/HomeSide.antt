@@ -16,10 +16,10 @@ use Rattle.alw_model.specs.Machine.{MachineState, node_at, link_at, link_place}
 use Rattle.alw_model.specs.Lines.{LineState, absent, ups, downs, sent_by, line_node, line_of}
 use Rattle.alw_line.specs.Protocol.{receives, taken_from, sent_to, acted}
 use Rattle.alw_line.proofs.Homes.{DestsBelow}
-use Rattle.alw_coherence.specs.Links.{msgs_to, GoBelow}
-use Rattle.alw_coherence.proofs.Contents.{ups-append, downs-append, ups_sent, downs_sent}
-use Rattle.alw_coherence.proofs.Views.{seen_copy, seen_transaction, below_same, next_machine, next_node, next_line, next_line_is}
-use Rattle.alw_coherence.proofs.CacheSide.{kept_part}
+use Rattle.alw_lift.specs.Links.{msgs_to, GoBelow}
+use Rattle.alw_lift.proofs.Contents.{ups-append, downs-append, ups_sent, downs_sent}
+use Rattle.alw_lift.proofs.Views.{seen_copy, seen_transaction, below_same, next_machine, next_node, next_line, next_line_is}
+use Rattle.alw_lift.proofs.CacheSide.{kept_part}
 
 -- what goes to nodes below a number is nothing to the others
 pub sent_beyond : (n j : ℕ) (sends : Sends) → DestsBelow n sends → n ≤ j → sent_to j sends ≡ []

@@ -20,17 +20,17 @@ use Rattle.alw_line.specs.Protocol.{Acts, sent_to, acted, acts, step}
 use Rattle.alw_line.proofs.Homes.{DestsBelow}
 use Rattle.alw_limitless.specs.Entries.{IsSound, ActsAlike}
 use Rattle.alw_limitless.proofs.Actions.{hardware_acts, handler_acts}
-use Rattle.alw_coherence.specs.LineEvents.{Follows, about}
-use Rattle.alw_coherence.specs.Standing.{IsPacket, IsStanding}
-use Rattle.alw_coherence.proofs.Contents.{ups-append, sent_by-append}
-use Rattle.alw_coherence.proofs.Views.{next_machine}
-use Rattle.alw_coherence.proofs.CacheSide.{kept_part, old_part}
-use Rattle.alw_coherence.proofs.HomeSide as side
-use Rattle.alw_coherence.proofs.HomeSide.{other_line, acted_line}
-use Rattle.alw_coherence.proofs.Destinations.{act_below}
-use Rattle.alw_coherence.proofs.Places.{entry_set}
-use Rattle.alw_coherence.proofs.Following.{stays, takes_about, home_below}
-use Rattle.alw_coherence.proofs.Taken.{split_front, ups_without, downs_without, no_reply, other_request, links_left, links_size, left_at, left_here, left_from_other, left_to_other, as_before}
+use Rattle.alw_lift.specs.LineEvents.{Follows, about}
+use Rattle.alw_lift.specs.Standing.{IsPacket, IsStanding}
+use Rattle.alw_lift.proofs.Contents.{ups-append, sent_by-append}
+use Rattle.alw_lift.proofs.Views.{next_machine}
+use Rattle.alw_lift.proofs.CacheSide.{kept_part, old_part}
+use Rattle.alw_lift.proofs.HomeSide as side
+use Rattle.alw_lift.proofs.HomeSide.{other_line, acted_line}
+use Rattle.alw_lift.proofs.Destinations.{act_below}
+use Rattle.alw_lift.proofs.Places.{entry_set}
+use Rattle.alw_lift.proofs.Following.{stays, takes_about, home_below}
+use Rattle.alw_lift.proofs.Taken.{split_front, ups_without, downs_without, no_reply, other_request, links_left, links_size, left_at, left_here, left_from_other, left_to_other, as_before}
 
 no_sends : (b : Bool) → cond {A = List ToCache} b [] [] ≡ []
 no_sends true = refl

@@ -8,7 +8,7 @@ use Rattle.alw_image.specs.Images.{node_count, line_count, zero_line}
 use Rattle.alw_model.specs.LimitLess.{Directory, directory_start}
 use Rattle.alw_model.specs.Messages.{home_node}
 use Rattle.alw_model.specs.NodeStates.{NodeState, home_at, with_home, place_of}
-use Rattle.alw_coherence.proofs.Links.{read_set}
+use Rattle.alw_lift.proofs.Links.{read_set}
 
 -- lines of one home have places of their own
 module _ (parts : Parts) where

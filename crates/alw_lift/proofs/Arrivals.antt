@@ -19,17 +19,17 @@ use Rattle.alw_model.specs.Machine.{MachineState, node_at, link_at, front, behin
 use Rattle.alw_model.specs.Lines.{LineState, reply_in, ups, downs, line_node, line_of}
 use Rattle.alw_model.proofs.MapLaws.{value-without}
 use Rattle.alw_line.specs.Protocol.{LineEvent, Comes, answer, received, step, IsLegal}
-use Rattle.alw_coherence.specs.Links.{asked, GoBelow}
-use Rattle.alw_coherence.specs.LineEvents.{Follows, about, in_leaving, in_cache}
-use Rattle.alw_coherence.specs.Standing.{IsStanding}
-use Rattle.alw_coherence.proofs.Views.{seen_copy, seen_transaction, next_machine}
-use Rattle.alw_coherence.proofs.CacheSide as cache
-use Rattle.alw_coherence.proofs.CacheSide.{new_part}
-use Rattle.alw_coherence.proofs.CopyLaws.{away, copy_filled, copy_evicted}
-use Rattle.alw_coherence.proofs.Following.{stays, takes, home_below, part_changes, part_stays}
-use Rattle.alw_coherence.proofs.Leaving.{told_other, copy_standing, stands_at, told_below, leaving_follows}
-use Rattle.alw_coherence.proofs.Taken.{split_front, ups_without, downs_without, no_request, other_reply, links_left, links_size, left_at, left_here, left_to_other, as_before}
-use Rattle.alw_coherence.proofs.Instructions.{kept_is}
+use Rattle.alw_lift.specs.Links.{asked, GoBelow}
+use Rattle.alw_lift.specs.LineEvents.{Follows, about, in_leaving, in_cache}
+use Rattle.alw_lift.specs.Standing.{IsStanding}
+use Rattle.alw_lift.proofs.Views.{seen_copy, seen_transaction, next_machine}
+use Rattle.alw_lift.proofs.CacheSide as cache
+use Rattle.alw_lift.proofs.CacheSide.{new_part}
+use Rattle.alw_lift.proofs.CopyLaws.{away, copy_filled, copy_evicted}
+use Rattle.alw_lift.proofs.Following.{stays, takes, home_below, part_changes, part_stays}
+use Rattle.alw_lift.proofs.Leaving.{told_other, copy_standing, stands_at, told_below, leaving_follows}
+use Rattle.alw_lift.proofs.Taken.{split_front, ups_without, downs_without, no_request, other_reply, links_left, links_size, left_at, left_here, left_to_other, as_before}
+use Rattle.alw_lift.proofs.Instructions.{kept_is}
 
 -- an event of one line, before what else there is of a line
 comes_first : (n : ℕ) (s t : LineState) (k l : ℕ) (e : LineEvent) (more : List LineEvent) → (k ≡ l → (more ≡ []) × IsLegal n s e × (t ≡ step s e)) → (k ≢ l → Follows n s more t) → Follows n s (about k l e ++ more) t

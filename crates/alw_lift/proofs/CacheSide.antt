@@ -17,9 +17,9 @@ use Rattle.alw_model.specs.NodeStates.{NodeState, place_of}
 use Rattle.alw_model.specs.Machine.{MachineState, node_at, link_at, link_place}
 use Rattle.alw_model.specs.Lines.{LineNode, LineState, absent, ups, downs, sent_by, line_node, line_of}
 use Rattle.alw_line.specs.Protocol.{changed}
-use Rattle.alw_coherence.specs.Links.{msgs_to, asked, GoBelow}
-use Rattle.alw_coherence.proofs.Contents.{ups-append, downs-append, ups_asked, downs_asked}
-use Rattle.alw_coherence.proofs.Views.{seen_copy, seen_transaction, below_same, next_machine, next_node, next_line, next_line_is}
+use Rattle.alw_lift.specs.Links.{msgs_to, asked, GoBelow}
+use Rattle.alw_lift.proofs.Contents.{ups-append, downs-append, ups_asked, downs_asked}
+use Rattle.alw_lift.proofs.Views.{seen_copy, seen_transaction, below_same, next_machine, next_node, next_line, next_line_is}
 
 pub same_part : (v : LineNode) (copy : Option (Mode × Line)) (transaction : Option Mode) (up : List ToMemory) (down : List ToCache) → v.copy ≡ copy → v.transaction ≡ transaction → v.up ≡ up → v.down ≡ down → v ≡ record { copy = copy; transaction = transaction; up = up; down = down }
 same_part v copy transaction up down c t u d = λ x. record { copy = c x; transaction = t x; up = u x; down = d x }

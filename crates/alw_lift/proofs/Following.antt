@@ -14,10 +14,10 @@ use Rattle.alw_model.specs.NodeStates.{NodeState}
 use Rattle.alw_model.specs.Machine.{MachineState}
 use Rattle.alw_model.specs.Lines.{LineNode, LineState, line_node, line_of}
 use Rattle.alw_line.specs.Protocol.{LineEvent, changed, step, IsLegal}
-use Rattle.alw_coherence.specs.LineEvents.{Follows, about}
-use Rattle.alw_coherence.proofs.Views.{next_machine}
-use Rattle.alw_coherence.proofs.CacheSide as cache
-use Rattle.alw_coherence.proofs.CacheSide.{new_part, old_part, changed_same, changed_line}
+use Rattle.alw_lift.specs.LineEvents.{Follows, about}
+use Rattle.alw_lift.proofs.Views.{next_machine}
+use Rattle.alw_lift.proofs.CacheSide as cache
+use Rattle.alw_lift.proofs.CacheSide.{new_part, old_part, changed_same, changed_line}
 
 pub stays : (n : ℕ) (s t : LineState) → t ≡ s → Follows n s [] t
 stays n s t same = record { legal = tt; state = same }

@@ -17,13 +17,13 @@ use Rattle.alw_model.specs.NodeSteps.{clocked, evict_from}
 use Rattle.alw_model.specs.Machine.{MachineState, node_at, link_at}
 use Rattle.alw_model.specs.Lines.{downs, line_node, line_of}
 use Rattle.alw_line.specs.Protocol.{Leaves, given_up, left}
-use Rattle.alw_coherence.specs.Links.{asked, GoBelow}
-use Rattle.alw_coherence.specs.LineEvents.{Follows, in_leaving}
-use Rattle.alw_coherence.specs.Standing.{IsCache, IsStanding}
-use Rattle.alw_coherence.proofs.Views.{seen_copy, seen_transaction, next_machine}
-use Rattle.alw_coherence.proofs.CacheSide as cache
-use Rattle.alw_coherence.proofs.CopyLaws.{away, StandsAt, copy_evicted}
-use Rattle.alw_coherence.proofs.Following.{stays, takes_about, home_below, part_changes, part_stays}
+use Rattle.alw_lift.specs.Links.{asked, GoBelow}
+use Rattle.alw_lift.specs.LineEvents.{Follows, in_leaving}
+use Rattle.alw_lift.specs.Standing.{IsCache, IsStanding}
+use Rattle.alw_lift.proofs.Views.{seen_copy, seen_transaction, next_machine}
+use Rattle.alw_lift.proofs.CacheSide as cache
+use Rattle.alw_lift.proofs.CopyLaws.{away, StandsAt, copy_evicted}
+use Rattle.alw_lift.proofs.Following.{stays, takes_about, home_below, part_changes, part_stays}
 
 -- what the home of a copy's line is told where the copy leaves
 given_home : (k line : ℕ) (mode : Mode) (body : Line) → k ≡ line → asked k (give_up line mode body) ≡ given_up (Some (mode, body))

@@ -6,8 +6,8 @@ ghost use Rattle.alw_image.specs.Parameters.{Parameters};
 ghost use Rattle.alw_msg.specs.declared.events.Event.{Event};
 ghost use Rattle.alw_model.specs.Machine.{MachineState, is_enabled, step};
 ghost use Rattle.alw_model.specs.Lines.{line_of};
-ghost use Rattle.alw_coherence.specs.LineEvents.{Follows, line_events};
-ghost use Rattle.alw_coherence.specs.Standing.{IsStanding};
+ghost use Rattle.alw_lift.specs.LineEvents.{Follows, line_events};
+ghost use Rattle.alw_lift.specs.Standing.{IsStanding};
 
 /// Each line follows each enabled event of a machine that stands: the event is at most one event of
 /// the line's own machine, and a legal one. A trap is none; the handler's action on a packet is the

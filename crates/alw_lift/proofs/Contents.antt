@@ -11,7 +11,7 @@ use Rattle.alw_model.specs.Messages.{Content, ForMemory, ForCache, content, mess
 use Rattle.alw_model.specs.Lines.{request_in, reply_in, ups, downs, sent_by}
 use Rattle.alw_line.specs.Protocol.{sent_to}
 use Rattle.alw_num.proofs.Weigh.{is_node}
-use Rattle.alw_coherence.specs.Links.{msgs_to, asked}
+use Rattle.alw_lift.specs.Links.{msgs_to, asked}
 
 -- a message says what its sender wrote
 pub content_is : (node stamp line : ℕ) (said : Content) → content (message node stamp line said) ≡ said

@@ -21,30 +21,43 @@ use Rattle.alw_model.specs.Machine.{MachineState, node_at, link_at, front, taken
 use Rattle.alw_model.specs.MachineInvariant.{is_to_memory}
 use Rattle.alw_model.specs.Lines.{LineState, line_of}
 use Rattle.alw_model.proofs.Journals.{and_parts}
-use Rattle.alw_coherence.specs.LineEvents.{Follows, in_home, in_packet, in_delivery, in_taken, in_queue, line_events}
-use Rattle.alw_coherence.specs.Standing.{IsPacket, IsStanding}
-use Rattle.alw_coherence.proofs.Views.{next_machine}
-use Rattle.alw_coherence.proofs.Instructions.{instr_follows}
-use Rattle.alw_coherence.proofs.Leaving.{evict_follows}
-use Rattle.alw_coherence.proofs.Arrivals.{arrival_follows}
-use Rattle.alw_coherence.proofs.HomeEvents.{trap_follows, hardware_follows, handler_follows}
+use Rattle.alw_lift.specs.LineEvents.{Follows, in_home, in_packet, in_delivery, in_taken, in_queue, line_events}
+use Rattle.alw_lift.specs.Standing.{IsPacket, IsStanding}
+use Rattle.alw_lift.proofs.Views.{next_machine}
+use Rattle.alw_lift.proofs.Instructions.{instr_follows}
+use Rattle.alw_lift.proofs.Leaving.{evict_follows}
+use Rattle.alw_lift.proofs.Arrivals.{arrival_follows}
+use Rattle.alw_lift.proofs.HomeEvents.{trap_follows, hardware_follows, handler_follows}
 
 -- what a fit message says
-record Fit (parts : Parts) (from to : ℕ) (msg : Msg) (c : Content) : Type 0 where
-  source : msg.src.0 ≡ from
-  exists : msg.line.0 < line_count parts
-  home : IsTrue (is_at_home c (home_node parts msg.line.0) from to)
+pub record Fit (parts : Parts) (from to : ℕ) (msg : Msg) (c : Content) : Type 0 where
+  pub source : msg.src.0 ≡ from
+  pub exists : msg.line.0 < line_count parts
+  pub home : IsTrue (is_at_home c (home_node parts msg.line.0) from to)
 
-fit_is : (parts : Parts) (from to : ℕ) (msg : Msg) → IsTrue (is_fit parts from to msg) → Fit parts from to msg (content msg)
+pub fit_is : (parts : Parts) (from to : ℕ) (msg : Msg) → IsTrue (is_fit parts from to msg) → Fit parts from to msg (content msg)
 fit_is parts from to msg is =
     let a = and_parts (msg.src.0 == from) _ is in
     let b = and_parts (nat_lt msg.line.0 (line_count parts)) _ a.1 in
     let c = and_parts (nat_lt msg.stamp (2 ^ 32 - 1)) _ b.1 in
     record { source = eqb-true msg.src.0 from a.0; exists = ltb-true msg.line.0 (line_count parts) b.0; home = c.1 }
 
-not_is : (b : Bool) → IsTrue (not b) → b ≡ false
+pub not_is : (b : Bool) → IsTrue (not b) → b ≡ false
 not_is true is = absurd (false≢true is)
 not_is false is = refl
+
+-- what an enabled event has
+pub record Enabled (parts : Parts) (parameters : Parameters) (s : MachineState) (event : Event) : Type 0 where
+  pub here : node_of event < node_count parts
+  pub may_be : IsTrue (may parts parameters (node_at s (node_of event)) event (taken_by parts s event))
+
+pub enabled_is : (parts : Parts) (parameters : Parameters) (s : MachineState) (event : Event) → IsTrue (is_enabled parts parameters s event) → Enabled parts parameters s event
+enabled_is parts parameters s event is =
+    let n = node_of event in
+    let a = and_parts (n == n) _ is in
+    let b = and_parts (nat_lt n (node_count parts)) _ a.1 in
+    let c = and_parts (nat_lt (node_at s n).clock (2 ^ 32 - 1)) _ b.1 in
+    record { here = ltb-true n (node_count parts) b.0; may_be = c.1 }
 
 module _ (parts : Parts) (parameters : Parameters) (s : MachineState) (standing : IsStanding parts parameters s) (members : (l : ℕ) → l < line_count parts → (j : ℕ) → has_node (line_of parts parameters s l).home.pointers j ≡ true → j < node_count parts) (k : ℕ) (exists : k < line_count parts) where
   -- the pointers of a home's entry are nodes
@@ -84,25 +97,12 @@ module _ (parts : Parts) (parameters : Parameters) (s : MachineState) (standing 
   queue_follows n stamp here [] e some = absurd (false≢true some)
   queue_follows n stamp here (packet ∷ waiting) e some = packet_follows n stamp here packet waiting e (subst (AllByRecursion (IsPacket parts n)) e ((standing.each n here).packets)).0 (content packet) refl
 
-  -- what an enabled event has
-  record Enabled (event : Event) : Type 0 where
-    here : node_of event < node_count parts
-    may_be : IsTrue (may parts parameters (node_at s (node_of event)) event (taken_by parts s event))
-
-  enabled_is : (event : Event) → IsTrue (is_enabled parts parameters s event) → Enabled event
-  enabled_is event is =
-      let n = node_of event in
-      let a = and_parts (n == n) _ is in
-      let b = and_parts (nat_lt n (node_count parts)) _ a.1 in
-      let c = and_parts (nat_lt (node_at s n).clock (2 ^ 32 - 1)) _ b.1 in
-      record { here = ltb-true n (node_count parts) b.0; may_be = c.1 }
-
   -- the line follows the event
   pub line_follows : (event : Event) → IsTrue (is_enabled parts parameters s event) → Follows (node_count parts) (line_of parts parameters s k) (line_events parts parameters s event k) (line_of parts parameters (step parts parameters s event) k)
-  line_follows (Instr at) is = instr_follows parts parameters s standing at.0 (enabled_is (Instr at) is).here (stamp_of (node_at s at.0).clock None) k exists (running (node_at s at.0).slots (node_at s at.0).current)
-  line_follows (Handle at) is = let en = enabled_is (Handle at) is in queue_follows at.0 (stamp_of (node_at s at.0).clock None) en.here (node_at s at.0).packets refl en.may_be
+  line_follows (Instr at) is = instr_follows parts parameters s standing at.0 (enabled_is parts parameters s (Instr at) is).here (stamp_of (node_at s at.0).clock None) k exists (running (node_at s at.0).slots (node_at s at.0).current)
+  line_follows (Handle at) is = let en = enabled_is parts parameters s (Handle at) is in queue_follows at.0 (stamp_of (node_at s at.0).clock None) en.here (node_at s at.0).packets refl en.may_be
   line_follows (Deliver from to) is =
-      let en = enabled_is (Deliver from to) is in
+      let en = enabled_is parts parameters s (Deliver from to) is in
       let p = and_parts (nat_lt from.0 (node_count parts)) _ en.may_be in
       delivery_follows from to (ltb-true from.0 (node_count parts) p.0) en.here (front (link_at parts s from.0 to.0)) refl p.1
-  line_follows (Evict at set) is = evict_follows parts parameters s standing at.0 (enabled_is (Evict at set) is).here (stamp_of (node_at s at.0).clock None) k exists set
+  line_follows (Evict at set) is = evict_follows parts parameters s standing at.0 (enabled_is parts parameters s (Evict at set) is).here (stamp_of (node_at s at.0).clock None) k exists set

@@ -8,7 +8,7 @@ use Rattle.alw_image.specs.declared.parts.Parts.{Parts}
 use Rattle.alw_image.specs.Images.{node_count}
 use Rattle.alw_model.specs.Machine.{link_place, links_sent, behind}
 use Rattle.alw_num.proofs.Weigh.{is_node}
-use Rattle.alw_coherence.specs.Links.{msgs_to, GoBelow}
+use Rattle.alw_lift.specs.Links.{msgs_to, GoBelow}
 
 -- a list with one place changed, read at a place
 pub read_set : {X : Type 0} (xs : List X) (i : ℕ) (x d : X) (j : ℕ) → i < length xs → get_or (set xs i x) j d ≡ cond (j == i) x (get_or xs j d)

@@ -14,8 +14,8 @@ use Rattle.alw_model.specs.Messages.{home_node}
 use Rattle.alw_model.specs.NodeStates.{NodeState, home_at}
 use Rattle.alw_model.specs.Machine.{MachineState, node_at, link_at, link_place, links_sent}
 use Rattle.alw_model.specs.Lines.{LineNode, LineState, absent, ups, downs, sent_by, line_of}
-use Rattle.alw_coherence.specs.Links.{msgs_to, GoBelow}
-use Rattle.alw_coherence.proofs.Links.{read_set, link_sent}
+use Rattle.alw_lift.specs.Links.{msgs_to, GoBelow}
+use Rattle.alw_lift.proofs.Links.{read_set, link_sent}
 
 -- below a number two values are one
 pub below_same : {X : Type 0} (j n : ℕ) (x y z : X) → (j < n → x ≡ y) → cond (nat_lt j n) x z ≡ cond (nat_lt j n) y z
