@@ -1,0 +1,4 @@
+pub mod NodeKeeps
+pub mod NodeSteps
+pub mod Runs
+pub mod Lines

@@ -1,0 +1,7 @@
+//! What holds of the machine after every legal journal, and what that gives. The functions are laws
+//! with empty bodies: each clause is a theorem over the definitions in specs/.
+#![tactic(auto)]
+
+mod standing_machine;
+
+pub use standing_machine::lines_are_sound;

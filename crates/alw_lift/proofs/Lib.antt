@@ -1,0 +1,15 @@
+pub mod Links
+pub mod Contents
+pub mod Views
+pub mod CacheSide
+pub mod HomeSide
+pub mod CopyLaws
+pub mod Following
+pub mod Instructions
+pub mod Leaving
+pub mod Taken
+pub mod Arrivals
+pub mod Destinations
+pub mod Places
+pub mod HomeEvents
+pub mod Steps
