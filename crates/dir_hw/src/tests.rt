@@ -5,9 +5,13 @@ use std::test::Fail;
 #[test]
 fn two_pointers_and_no_third(rt: HostRuntime) -> Result<(), Fail> {
     let mut entry = HomeEntry::start(Line::ZERO, false);
+    assert!(rt; entry.pointers.len() <= 2);
     assert!(rt; entry.add_pointer(NodeNo(255), 2));
+    assert!(rt; entry.pointers.len() <= 2);
     assert!(rt; entry.add_pointer(NodeNo(0), 2));
+    assert!(rt; entry.pointers.len() <= 2);
     assert!(rt; entry.add_pointer(NodeNo(255), 2));
+    assert!(rt; entry.pointers.len() <= 2);
     assert!(rt; !entry.add_pointer(NodeNo(7), 2));
     assert!(rt; entry.pointers().has(NodeNo(255)));
     assert_eq!(rt; entry.pointers().count(), 2);
