@@ -2,3 +2,4 @@ pub mod NodeKeeps
 pub mod NodeSteps
 pub mod Runs
 pub mod Lines
+pub mod FullMaps
