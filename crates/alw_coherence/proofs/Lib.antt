@@ -3,3 +3,4 @@ pub mod NodeSteps
 pub mod Runs
 pub mod Lines
 pub mod FullMaps
+pub mod LineFacts

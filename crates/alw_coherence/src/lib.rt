@@ -3,7 +3,12 @@
 #![tactic(auto)]
 
 mod full_map_laws;
+mod line_laws;
 mod standing_machine;
 
 pub use full_map_laws::{homes_are_full_maps, same_messages_same_home};
+pub use line_laws::{
+    answers_are_owed, copies_are_current, no_unlisted_combination, replies_meet_transactions,
+    writers_are_alone,
+};
 pub use standing_machine::lines_are_sound;
