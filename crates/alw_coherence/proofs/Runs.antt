@@ -46,7 +46,7 @@ use Rattle.alw_coherence.proofs.NodeSteps.{event_stands}
 module _ (parts : Parts) where
   -- ---- the start
 
-  node_at_start : (n : ℕ) → n < node_count parts → node_at (machine_start parts) n ≡ node_start parts n
+  pub node_at_start : (n : ℕ) → n < node_count parts → node_at (machine_start parts) n ≡ node_start parts n
   node_at_start n here = get_or-map-range_with_len (node_start parts) 0 (node_count parts) n n _ here (omega arith)
 
   link_at_start : (a b : ℕ) → link_at parts (machine_start parts) a b ≡ []

@@ -2,10 +2,12 @@
 //! with empty bodies: each clause is a theorem over the definitions in specs/.
 #![tactic(auto)]
 
+mod flat_laws;
 mod full_map_laws;
 mod line_laws;
 mod standing_machine;
 
+pub use flat_laws::{memory_is_flat, same_turns_same_memory};
 pub use full_map_laws::{homes_are_full_maps, same_messages_same_home};
 pub use line_laws::{
     answers_are_owed, copies_are_current, no_unlisted_combination, replies_meet_transactions,
