@@ -10,3 +10,4 @@ pub mod FlatSteps
 pub mod FlatEvents
 pub mod FlatJournals
 pub mod FlatStarts
+pub mod Stores

@@ -13,4 +13,4 @@ pub use line_laws::{
     answers_are_owed, copies_are_current, no_unlisted_combination, replies_meet_transactions,
     writers_are_alone,
 };
-pub use standing_machine::lines_are_sound;
+pub use standing_machine::{entries_and_caches_stand, lines_are_sound};
