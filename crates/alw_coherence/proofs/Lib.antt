@@ -2,3 +2,12 @@ pub mod NodeKeeps
 pub mod NodeSteps
 pub mod Runs
 pub mod Lines
+pub mod FullMaps
+pub mod LineFacts
+pub mod FlatViews
+pub mod FlatSlots
+pub mod FlatSteps
+pub mod FlatEvents
+pub mod FlatJournals
+pub mod FlatStarts
+pub mod Stores

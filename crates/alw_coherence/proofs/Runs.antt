@@ -46,7 +46,7 @@ use Rattle.alw_coherence.proofs.NodeSteps.{event_stands}
 module _ (parts : Parts) where
   -- ---- the start
 
-  node_at_start : (n : ℕ) → n < node_count parts → node_at (machine_start parts) n ≡ node_start parts n
+  pub node_at_start : (n : ℕ) → n < node_count parts → node_at (machine_start parts) n ≡ node_start parts n
   node_at_start n here = get_or-map-range_with_len (node_start parts) 0 (node_count parts) n n _ here (omega arith)
 
   link_at_start : (a b : ℕ) → link_at parts (machine_start parts) a b ≡ []
@@ -78,7 +78,7 @@ module _ (parts : Parts) where
       each = λ n here. subst (NodeStands parts parameters n) (sym (node_at_start n here)) (node_stands_at_start n);
     }
 
-    line_at_start : (l : ℕ) → l < line_count parts → line_of parts parameters (machine_start parts) l ≡ start (body_of parts l)
+    pub line_at_start : (l : ℕ) → l < line_count parts → line_of parts parameters (machine_start parts) l ≡ start (body_of parts l)
     line_at_start l lines = λ x. record { home = home x; node = λ j. node j x }
       where
         home : full_map_of (home_at parts (node_at (machine_start parts) (home_node parts l)) l) ≡ home_start (body_of parts l)
@@ -146,7 +146,7 @@ module _ (parts : Parts) where
     after_sound s values [] legal sound = sound
     after_sound s values (entry ∷ rest) (next, legal) sound = after_sound (step parts parameters s entry.event) (λ l. last_stored (values l) (line_events parts parameters s entry.event l)) rest legal (step_sound parameters some s entry.event next.enabled values sound)
 
-    start_sound_with : IsSoundWith parts parameters (body_of parts) (machine_start parts)
+    pub start_sound_with : IsSoundWith parts parameters (body_of parts) (machine_start parts)
     start_sound_with = record {
       standing = stands_at_start parameters;
       lines = λ l lines. subst (λ (t : LineState). Sound (node_count parts) (body_of parts l) t) (sym (line_at_start parameters l lines)) (line.start_sound (node_count parts) (body_of parts l));

@@ -2,6 +2,15 @@
 //! with empty bodies: each clause is a theorem over the definitions in specs/.
 #![tactic(auto)]
 
+mod flat_laws;
+mod full_map_laws;
+mod line_laws;
 mod standing_machine;
 
-pub use standing_machine::lines_are_sound;
+pub use flat_laws::{memory_is_flat, same_turns_same_memory};
+pub use full_map_laws::{homes_are_full_maps, same_messages_same_home};
+pub use line_laws::{
+    answers_are_owed, copies_are_current, no_unlisted_combination, replies_meet_transactions,
+    writers_are_alone,
+};
+pub use standing_machine::{entries_and_caches_stand, lines_are_sound};

@@ -62,7 +62,7 @@ acts_step : (s : LineState) (i : ℕ) (rest : List ToMemory) (said : ToMemory) (
 acts_step s i rest said after up is = ap (acted s i rest) is ∙ sym (ap (acts s i) up)
 
 -- a line's full-map entry, once its home's node has another entry for line l
-new_entry : (parts : Parts) (s : MachineState) (n : ℕ) (v : NodeState) (l k : ℕ) (d : Directory) → home_node parts l ≡ n → length (node_at s n).homes ≡ parts.per_node → l < line_count parts → v.homes ≡ (with_home parts (node_at s n) l d).homes
+pub new_entry : (parts : Parts) (s : MachineState) (n : ℕ) (v : NodeState) (l k : ℕ) (d : Directory) → home_node parts l ≡ n → length (node_at s n).homes ≡ parts.per_node → l < line_count parts → v.homes ≡ (with_home parts (node_at s n) l d).homes
     → full_map_of (home_at parts (cond (home_node parts k == n) v (node_at s (home_node parts k))) k) ≡ cond (k == l) (full_map_of d) (full_map_of (home_at parts (node_at s (home_node parts k)) k))
 new_entry parts s n v l k d is_home size lines homes = is_node _ (home_node parts k) n
     (λ same. ap (λ b. full_map_of (home_at parts (cond b v (node_at s (home_node parts k))) k)) (eq-eqb (home_node parts k) n same)

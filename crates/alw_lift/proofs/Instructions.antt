@@ -58,11 +58,11 @@ writable Write is = refl
 writable Read is = absurd (cc)
 
 -- what it is for a copy to grant an access
-record Granted (sets : ℕ) (cache : Cache) (l : ℕ) (mode : Mode) (copy : Copy) : Type 0 where
-  stands : value_at cache (set_of sets l) ≡ Some copy
-  is_its : copy.line ≡ l
-  has : copy_at sets cache l ≡ Some copy
-  permits : grants copy.mode mode ≡ true
+pub record Granted (sets : ℕ) (cache : Cache) (l : ℕ) (mode : Mode) (copy : Copy) : Type 0 where
+  pub stands : value_at cache (set_of sets l) ≡ Some copy
+  pub is_its : copy.line ≡ l
+  pub has : copy_at sets cache l ≡ Some copy
+  pub permits : grants copy.mode mode ≡ true
 
 module _ (parts : Parts) (parameters : Parameters) (s : MachineState) (stands : IsStanding parts parameters s) (n : ℕ) (here : n < node_count parts) (stamp k : ℕ) (exists : k < line_count parts) where
   -- the machine after an event of the node that takes no message
@@ -96,7 +96,7 @@ module _ (parts : Parts) (parameters : Parameters) (s : MachineState) (stands : 
     down = old_down;
   })
 
-  granted_is : (l : ℕ) (mode : Mode) (copy : Copy) → granted_copy parameters.sets (node_at s n).cache l mode ≡ Some copy → Granted parameters.sets (node_at s n).cache l mode copy
+  pub granted_is : (l : ℕ) (mode : Mode) (copy : Copy) → granted_copy parameters.sets (node_at s n).cache l mode ≡ Some copy → Granted parameters.sets (node_at s n).cache l mode copy
   granted_is l mode copy e =
       let a = kept_is (λ (c : Copy). grants c.mode mode) (copy_at parameters.sets (node_at s n).cache l) copy e in
       let b = kept_is (λ (c : Copy). c.line == l) (value_at (node_at s n).cache (set_of parameters.sets l)) copy a.0 in

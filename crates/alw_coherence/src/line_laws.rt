@@ -1,0 +1,46 @@
+ghost use Rattle.std.specs.Prelude.{◌≡◌, ◌≢◌, ℕ, ◌<◌, ◌≤◌, List, ◌∷◌, false, Some, IsSome, IsTrue};
+ghost use Rattle.alw_num.specs.declared.addresses.Line.{Line};
+ghost use Rattle.alw_num.specs.declared.states.Mode.{Mode};
+ghost use Rattle.alw_num.specs.Weights.{sum_below};
+ghost use Rattle.alw_image.specs.Images.{node_count, line_count};
+ghost use Rattle.alw_model.specs.FullMap.{ToMemory, ToCache};
+ghost use Rattle.alw_model.specs.LimitLess.{full_map_of};
+ghost use Rattle.alw_model.specs.Caches.{is_reply};
+ghost use Rattle.alw_model.specs.Lines.{entry_of, line_of, current_value};
+ghost use Rattle.alw_model.specs.LineInvariant.{reads, writes, owes};
+ghost use Rattle.alw_line.specs.Combinations.{IsListed};
+ghost use Rattle.alw_coherence.specs.Values.{AfterEveryJournal};
+
+/// The message of a node that a line's home acts on next, a packet or the head of a link, is one
+/// that the home table lists.
+pub fn no_unlisted_combination()
+    ensures { AfterEveryJournal (λ parts parameters journal machine. (line : ℕ) → line < line_count parts → (i : ℕ) → (message : ToMemory) → (rest : List ToMemory) →
+        ((line_of parts parameters machine line).node i).up ≡ message ∷ rest → IsListed (full_map_of (entry_of parts machine line)) i message) }
+{}
+
+/// RDATA, WDATA and BUSY meet a transaction of the node that they come to.
+pub fn replies_meet_transactions()
+    ensures { AfterEveryJournal (λ parts parameters journal machine. (line : ℕ) → line < line_count parts → (i : ℕ) → (message : ToCache) → (rest : List ToCache) →
+        ((line_of parts parameters machine line).node i).down ≡ message ∷ rest → IsTrue (is_reply message) → IsSome ((line_of parts parameters machine line).node i).transaction) }
+{}
+
+/// Two nodes never have Read-Write copies of one line, nor one a Read-Write and another a Read-Only
+/// copy.
+pub fn writers_are_alone()
+    ensures one { AfterEveryJournal (λ parts parameters journal machine. (line : ℕ) → line < line_count parts → (i j : ℕ) →
+        IsTrue (writes ((line_of parts parameters machine line).node i)) → IsTrue (writes ((line_of parts parameters machine line).node j)) → i ≡ j) }
+    ensures no_reader { AfterEveryJournal (λ parts parameters journal machine. (line : ℕ) → line < line_count parts → (i j : ℕ) →
+        IsTrue (writes ((line_of parts parameters machine line).node i)) → i ≢ j → reads ((line_of parts parameters machine line).node j) ≡ false) }
+{}
+
+/// Every copy holds the line's current value.
+pub fn copies_are_current()
+    ensures { AfterEveryJournal (λ parts parameters journal machine. (line : ℕ) → line < line_count parts → (i : ℕ) → (mode : Mode) → (body : Line) →
+        ((line_of parts parameters machine line).node i).copy ≡ Some (mode, body) → body ≡ current_value parts parameters machine line) }
+{}
+
+/// A home that counts so many acknowledgements is owed so many.
+pub fn answers_are_owed()
+    ensures { AfterEveryJournal (λ parts parameters journal machine. (line : ℕ) → line < line_count parts →
+        sum_below (node_count parts) (λ i. owes ((line_of parts parameters machine line).node i)) ≡ (entry_of parts machine line).acks) }
+{}
