@@ -15,7 +15,7 @@ use Rattle.alw_model.specs.declared.steps.Did.TheVariants.{Took}
 use Rattle.sparc_table.specs.declared.outcomes.Need.{Need}
 use Rattle.sparc_table.specs.declared.outcomes.Need.TheVariants as needs
 use Rattle.sparc_table.specs.Turns.{need_of}
-use Rattle.alw_model.specs.Maps.{passes}
+use Rattle.alw_num.specs.Maps.{passes}
 use Rattle.alw_model.specs.FullMap.{Home, Sends, ToMemory, ToCache, act, home_start}
 use Rattle.alw_model.specs.LimitLess.{Directory, directory_start, full_map_of, is_trapped, is_in_progress, hardware_act, trapped, handle}
 use Rattle.alw_model.specs.Caches.{Copy, granted_copy}

@@ -16,7 +16,7 @@ use Rattle.alw_msg.specs.declared.events.Event.TheVariants.{Instr, Handle, Deliv
 use Rattle.alw_image.specs.declared.parts.Parts.{Parts}
 use Rattle.alw_image.specs.Images.{node_count, line_count}
 use Rattle.alw_image.specs.Parameters.{Parameters}
-use Rattle.alw_model.specs.Maps.{value_at, passes}
+use Rattle.alw_num.specs.Maps.{value_at, passes}
 use Rattle.alw_model.specs.FullMap.{ToMemory}
 use Rattle.alw_model.specs.LimitLess.{is_trapped, is_in_progress}
 use Rattle.alw_model.specs.Caches.{Copy, set_of, grants, copy_at, granted_copy}

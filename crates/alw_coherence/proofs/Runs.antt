@@ -17,7 +17,7 @@ use Rattle.alw_msg.specs.declared.events.Entry.{Entry}
 use Rattle.alw_image.specs.declared.parts.Parts.{Parts}
 use Rattle.alw_image.specs.Images.{node_count, line_count, body_of, is_always}
 use Rattle.alw_image.specs.Parameters.{Parameters}
-use Rattle.alw_model.specs.Maps.{kept_if, value_at}
+use Rattle.alw_num.specs.Maps.{kept_if, value_at}
 use Rattle.alw_model.specs.FullMap.{home_start}
 use Rattle.alw_model.specs.LimitLess.{Directory, directory_start, full_map_of, or_always, is_in_progress}
 use Rattle.alw_model.specs.Caches.{Copy, copy_at, set_of}
@@ -26,7 +26,7 @@ use Rattle.alw_model.specs.NodeStates.{NodeState, node_start, place_of, home_at,
 use Rattle.alw_model.specs.NodeSteps.{Stepped}
 use Rattle.alw_model.specs.Machine.{MachineState, machine_start, node_at, link_at, link_place, taken_by, links_taken, is_enabled, step, stepped_by, after, AreLegal, IsLegal, state}
 use Rattle.alw_model.specs.Lines.{LineState, absent, ups, downs, sent_by, line_node, line_of}
-use Rattle.alw_model.proofs.MapLaws.{value-empty}
+use Rattle.alw_num.proofs.MapLaws.{value-empty}
 use Rattle.alw_line.specs.Protocol.{start, last_stored}
 use Rattle.alw_line.specs.Sound.{Sound}
 use Rattle.alw_line.proofs.Steps.{run_keeps}

@@ -9,7 +9,7 @@ use Rattle.alw_num.specs.declared.addresses.Line.{Line}
 use Rattle.alw_image.specs.declared.parts.Parts.{Parts}
 use Rattle.alw_image.specs.Images.{node_count, line_count}
 use Rattle.alw_image.specs.Parameters.{Parameters}
-use Rattle.alw_model.specs.Maps.{Map, ascends_from, found, value_at}
+use Rattle.alw_num.specs.Maps.{Map, ascends_from, found, value_at}
 use Rattle.alw_model.specs.Caches.{Cache, set_of}
 use Rattle.alw_model.specs.Messages.{home_node}
 use Rattle.alw_model.specs.Machine.{MachineState, node_at}

@@ -2,9 +2,9 @@
 use Rattle.std.proofs.Common.{◌≡◌, ◌≢◌, ℕ, ◌==◌, Bool, true, false, cond, not, Option, Some, None, refl, sym, ap, ◌∙◌}
 use Rattle.std.proofs.lemmas.Bool.{eq-eqb, ne_eqb}
 use Rattle.alw_num.proofs.Weigh.{is_node}
-use Rattle.alw_model.specs.Maps.{kept_if, value_at, with_value, without_value}
+use Rattle.alw_num.specs.Maps.{kept_if, value_at, with_value, without_value}
 use Rattle.alw_model.specs.Caches.{Copy, Cache, set_of, copy_at, replaced}
-use Rattle.alw_model.proofs.MapLaws.{value-with, value-without}
+use Rattle.alw_num.proofs.MapLaws.{value-with, value-without}
 
 -- the copy of a line, once this one has left its set
 abbrev pub away : Option Copy → ℕ → Option Copy → Option Copy

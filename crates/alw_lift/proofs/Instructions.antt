@@ -13,7 +13,7 @@ use Rattle.sparc_table.proofs.Effects.{turn_exists}
 use Rattle.alw_image.specs.declared.parts.Parts.{Parts}
 use Rattle.alw_image.specs.Images.{node_count, line_count}
 use Rattle.alw_image.specs.Parameters.{Parameters}
-use Rattle.alw_model.specs.Maps.{kept_if, value_at}
+use Rattle.alw_num.specs.Maps.{kept_if, value_at}
 use Rattle.alw_model.specs.FullMap.{ToCache}
 use Rattle.alw_model.specs.Caches.{Copy, Cache, Transaction, Requests, set_of, grants, request, copy_at, granted_copy}
 use Rattle.alw_msg.specs.declared.contexts.Status.TheVariants.{Waiting}
@@ -24,7 +24,7 @@ use Rattle.alw_model.specs.NodeStates.{NodeState}
 use Rattle.alw_model.specs.NodeSteps.{Stepped, written, opened, take_turn, access, instr_by, instr, nothing, clocked}
 use Rattle.alw_model.specs.Machine.{MachineState, node_at, link_at}
 use Rattle.alw_model.specs.Lines.{LineNode, downs, line_node, line_of}
-use Rattle.alw_model.proofs.MapLaws.{value-with}
+use Rattle.alw_num.proofs.MapLaws.{value-with}
 use Rattle.alw_line.specs.Protocol.{LineEvent, Opens, Stores, is_granted}
 use Rattle.alw_line.specs.Protocol as line
 use Rattle.alw_lift.specs.Links.{GoBelow}

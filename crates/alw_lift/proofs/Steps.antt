@@ -10,7 +10,7 @@ use Rattle.alw_num.specs.declared.addresses.NodeNo.{NodeNo}
 use Rattle.alw_image.specs.declared.parts.Parts.{Parts}
 use Rattle.alw_image.specs.Images.{node_count, line_count}
 use Rattle.alw_image.specs.Parameters.{Parameters}
-use Rattle.alw_model.specs.Maps.{passes}
+use Rattle.alw_num.specs.Maps.{passes}
 use Rattle.alw_model.specs.FullMap.{ToMemory}
 use Rattle.alw_model.specs.LimitLess.{full_map_of, is_trapped, is_in_progress}
 use Rattle.alw_model.specs.Contexts.{running}

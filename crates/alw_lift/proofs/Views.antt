@@ -7,7 +7,7 @@ use Rattle.alw_msg.specs.declared.messages.Msg.{Msg}
 use Rattle.alw_image.specs.declared.parts.Parts.{Parts}
 use Rattle.alw_image.specs.Images.{node_count}
 use Rattle.alw_image.specs.Parameters.{Parameters}
-use Rattle.alw_model.specs.Maps.{value_at}
+use Rattle.alw_num.specs.Maps.{value_at}
 use Rattle.alw_model.specs.LimitLess.{full_map_of}
 use Rattle.alw_model.specs.Caches.{Copy, Transaction, copy_at}
 use Rattle.alw_model.specs.Messages.{home_node}

@@ -12,7 +12,7 @@ use Rattle.alw_msg.specs.declared.events.Event.TheVariants.{Instr, Handle, Deliv
 use Rattle.alw_image.specs.declared.parts.Parts.{Parts}
 use Rattle.alw_image.specs.Images.{line_count}
 use Rattle.alw_image.specs.Parameters.{Parameters}
-use Rattle.alw_model.specs.Maps.{value_at}
+use Rattle.alw_num.specs.Maps.{value_at}
 use Rattle.alw_model.specs.FullMap.{ToCache}
 use Rattle.alw_model.specs.LimitLess.{is_trapped}
 use Rattle.alw_model.specs.Caches.{Copy, Transaction, granted_copy, replaced, brings_line}

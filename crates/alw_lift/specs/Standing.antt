@@ -6,7 +6,7 @@ use Rattle.alw_msg.specs.declared.messages.Msg.{Msg}
 use Rattle.alw_image.specs.declared.parts.Parts.{Parts}
 use Rattle.alw_image.specs.Images.{node_count, line_count}
 use Rattle.alw_image.specs.Parameters.{Parameters}
-use Rattle.alw_model.specs.Maps.{value_at}
+use Rattle.alw_num.specs.Maps.{value_at}
 use Rattle.alw_model.specs.LimitLess.{is_in_progress}
 use Rattle.alw_model.specs.Caches.{Copy, Cache, set_of}
 use Rattle.alw_model.specs.Messages.{content, home_node}

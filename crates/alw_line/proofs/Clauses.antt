@@ -11,7 +11,7 @@ use Rattle.alw_num.specs.NodeSets.{has_node}
 use Rattle.alw_num.specs.Weights.{digit, sum_below}
 use Rattle.alw_num.proofs.Weigh.{digit_same, true_of_digit, sum_same, sum_none, le_sum, cases_lt_then}
 use Rattle.alw_model.specs.FullMap.{sole, ToCache}
-use Rattle.alw_model.specs.Maps.{passes}
+use Rattle.alw_num.specs.Maps.{passes}
 use Rattle.alw_model.specs.LimitLess.{Directory}
 use Rattle.alw_model.specs.Lines.{LineState, LineNode, is_rdata, is_wdata, is_inv, is_busy, is_repm, is_ackc, is_followed, count_of, line_value}
 use Rattle.alw_model.specs.LineInvariant as words

@@ -3,7 +3,7 @@ use Rattle.std.specs.Prelude.{ℕ, ◌%◌, Bool, true, false, cond, not, ◌==�
 use Rattle.alw_num.specs.declared.addresses.Line.{Line}
 use Rattle.alw_num.specs.declared.states.Mode.{Mode}
 use Rattle.alw_num.specs.declared.states.Mode.TheVariants.{Read, Write}
-use Rattle.alw_model.specs.Maps.{Map, kept_if, value_at, with_value, without_value}
+use Rattle.alw_num.specs.Maps.{Map, kept_if, value_at, with_value, without_value}
 use Rattle.alw_model.specs.FullMap.{ToMemory, RREQ, WREQ, REPM, UPDATE, ACKC, ToCache, RDATA, WDATA, INV, BUSY}
 
 -- a copy of a line: Read-Only (Read) or Read-Write (Write)

@@ -8,7 +8,7 @@ use Rattle.alw_msg.specs.declared.contexts.Status.TheVariants.{Ready, Waiting, H
 use Rattle.alw_image.specs.declared.parts.Parts.{Parts}
 use Rattle.alw_image.specs.Images.{context_count}
 use Rattle.alw_image.specs.Images as images
-use Rattle.alw_model.specs.Maps.{passes}
+use Rattle.alw_num.specs.Maps.{passes}
 
 -- a slot of a node, which holds one context
 pub record Slot : Type 0 where

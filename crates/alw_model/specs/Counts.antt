@@ -18,7 +18,7 @@ use Rattle.alw_image.specs.Parameters.{Parameters}
 use Rattle.alw_model.specs.declared.steps.Counts.{Counts}
 use Rattle.alw_model.specs.declared.steps.Did.{Did}
 use Rattle.alw_model.specs.declared.steps.Did.TheVariants.{Turn, Missed, Handled, Evicted}
-use Rattle.alw_model.specs.Maps.{passes}
+use Rattle.alw_num.specs.Maps.{passes}
 use Rattle.alw_model.specs.LimitLess.{Directory, full_map_of}
 use Rattle.alw_model.specs.Caches.{brings_line}
 use Rattle.alw_model.specs.Contexts.{slot_at}

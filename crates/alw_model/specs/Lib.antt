@@ -1,4 +1,3 @@
-pub mod Maps
 pub mod FullMap
 pub mod LimitLess
 pub mod Caches

@@ -11,7 +11,7 @@ use Rattle.alw_num.specs.declared.states.State.TheVariants.{RO, RW, RT, WT}
 use Rattle.alw_num.specs.declared.states.Meta.{Meta}
 use Rattle.alw_num.specs.declared.states.Meta.TheVariants.{Normal, Progress, TrapWrite, TrapAlways}
 use Rattle.alw_model.specs.FullMap.{ToMemory, ToCache, RDATA, sole}
-use Rattle.alw_model.specs.Maps.{passes}
+use Rattle.alw_num.specs.Maps.{passes}
 use Rattle.alw_model.specs.Caches.{grants}
 use Rattle.alw_model.specs.LimitLess.{Directory}
 use Rattle.alw_model.specs.Lines.{LineNode, LineState, carried, line_value, is_rreq, is_wreq, is_repm, is_update, is_ackc, is_rdata, is_wdata, is_inv, is_busy, count_of, is_followed, is_clear_behind}

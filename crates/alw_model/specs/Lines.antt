@@ -9,7 +9,7 @@ use Rattle.alw_msg.specs.declared.messages.Msg.{Msg}
 use Rattle.alw_image.specs.declared.parts.Parts.{Parts}
 use Rattle.alw_image.specs.Images.{node_count}
 use Rattle.alw_image.specs.Parameters.{Parameters}
-use Rattle.alw_model.specs.Maps.{kept_if, value_at}
+use Rattle.alw_num.specs.Maps.{kept_if, value_at}
 use Rattle.alw_model.specs.FullMap.{ToMemory, RREQ, WREQ, REPM, UPDATE, ACKC, ToCache, RDATA, WDATA, INV, BUSY, Home}
 use Rattle.alw_model.specs.LimitLess.{Directory, full_map_of}
 use Rattle.alw_model.specs.Caches.{Copy, Transaction, grants, copy_at}

@@ -8,7 +8,7 @@ use Rattle.alw_msg.specs.declared.events.Entry.{Entry}
 use Rattle.alw_image.specs.declared.parts.Parts.{Parts}
 use Rattle.alw_image.specs.Images.{node_count}
 use Rattle.alw_image.specs.Parameters.{Parameters}
-use Rattle.alw_model.specs.Maps.{empty_map}
+use Rattle.alw_num.specs.Maps.{empty_map}
 use Rattle.alw_model.specs.Contexts.{all_halted, has_trapped}
 use Rattle.alw_model.specs.NodeStates.{NodeState, node_start, node_of, stamp_of, is_enabled_at, is_nonempty}
 use Rattle.alw_model.specs.NodeSteps.{Stepped, node_step}

@@ -13,7 +13,7 @@ use Rattle.alw_msg.specs.declared.contexts.Status.TheVariants.{Waiting, Trapped}
 use Rattle.alw_image.specs.declared.parts.Parts.{Parts}
 use Rattle.alw_image.specs.Images.{node_count, line_count}
 use Rattle.alw_image.specs.Parameters.{Parameters}
-use Rattle.alw_model.specs.Maps.{passes, passes_if_some, value_at}
+use Rattle.alw_num.specs.Maps.{passes, passes_if_some, value_at}
 use Rattle.alw_model.specs.LimitLess.{Directory}
 use Rattle.alw_model.specs.Caches.{Copy, Transaction, set_of, grants, granted_copy}
 use Rattle.alw_model.specs.Contexts.{Slot, slot_at, is_ready, waits_on}

@@ -7,7 +7,7 @@ use Rattle.alw_msg.specs.declared.events.Event.TheVariants.{Instr, Handle, Deliv
 use Rattle.alw_image.specs.declared.parts.Parts.{Parts}
 use Rattle.alw_image.specs.Images.{node_count, body_of, is_always, zero_line}
 use Rattle.alw_image.specs.Parameters.{Parameters}
-use Rattle.alw_model.specs.Maps.{passes, empty_map, value_at}
+use Rattle.alw_num.specs.Maps.{passes, empty_map, value_at}
 use Rattle.alw_model.specs.FullMap.{ToCache, INV, BUSY}
 use Rattle.alw_model.specs.LimitLess.{Directory, directory_start, is_in_progress}
 use Rattle.alw_model.specs.Caches.{Cache, Transactions, replaced}

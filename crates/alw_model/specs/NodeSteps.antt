@@ -19,7 +19,7 @@ use Rattle.alw_image.specs.Images.{line_count, zero_line}
 use Rattle.alw_image.specs.Parameters.{Parameters}
 use Rattle.alw_model.specs.declared.steps.Did.{Did}
 use Rattle.alw_model.specs.declared.steps.Did.TheVariants.{Turn, Missed, Took, Packet, Handled, Evicted}
-use Rattle.alw_model.specs.Maps.{with_value, value_at}
+use Rattle.alw_num.specs.Maps.{with_value, value_at}
 use Rattle.alw_model.specs.FullMap.{ToMemory, ToCache}
 use Rattle.alw_model.specs.LimitLess.{is_trapped, hardware_act, trapped, handle}
 use Rattle.alw_model.specs.Caches.{Copy, Cache, Transaction, Transactions, Requests, set_of, granted_copy, request, evict, react, ended_by, transactions_after, brings_line}

@@ -5,7 +5,7 @@ ghost use Rattle.alw_num.specs.declared.states.Mode.TheVariants.{Write};
 ghost use Rattle.alw_msg.specs.declared.messages.Kind.TheVariants as kinds;
 ghost use Rattle.sparc_table.specs.declared.outcomes.Outcome.TheVariants as ends;
 ghost use Rattle.alw_model.specs.declared.steps.Did.TheVariants.{Turn, Missed, Took};
-ghost use Rattle.alw_model.specs.Maps.{value_at};
+ghost use Rattle.alw_num.specs.Maps.{value_at};
 ghost use Rattle.alw_model.specs.Checks.{stays_sound};
 ghost use Rattle.alw_model.specs.Machine.{state, node_at, link_at, is_legal, end_of, Halted, Trapped, Limit};
 ghost use Rattle.alw_model.specs.Counts.{counts_of, memory_words, directory_lines};

@@ -2,3 +2,4 @@ pub mod Examples
 pub mod Sets
 pub mod Weigh
 pub mod Words
+pub mod MapLaws

@@ -1,3 +1,4 @@
 pub mod Lanes
 pub mod NodeSets
 pub mod Weights
+pub mod Maps

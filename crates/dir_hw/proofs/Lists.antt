@@ -1,11 +1,13 @@
 -- A list of node numbers that grows at its end, as a set.
-use Rattle.std.proofs.Common.{◌≡◌, ℕ, ◌+◌, ◌<◌, false, ◌==◌, List, [], ◌∷◌, ◌++◌, length, take, slice_set, slice_index, refl, sym, ap, ◌∙◌, arith}
+use Rattle.std.proofs.Common.{◌≡◌, ℕ, ◌+◌, ◌<◌, ◌≤◌, true, false, ◌==◌, List, [], ◌∷◌, ◌++◌, length, take, slice_set, slice_index, refl, sym, ap, ◌∙◌, arith}
 use Rattle.std.proofs.lemmas.Bool.Decides.{nat_tests}
-use Rattle.std.proofs.lemmas.List.{take_more_set, take_more}
+use Rattle.std.proofs.lemmas.List.{take_more_set, take_more, take_all}
 use Rattle.std.specs.List.{list_any}
-use Rattle.alw_num.specs.NodeSets.{Nodes, has_node, add_node, count_nodes}
+use Rattle.alw_num.specs.NodeSets.{Nodes, has_node, add_node, nodes_of, count_nodes}
 use Rattle.alw_num.specs.Weights.{digit}
 use Rattle.alw_num.proofs.Sets.{same_nodes, has-none, has-add, count-add, count-none, add_member}
+use Rattle.alw_num.specs.declared.node_sets.NodeSet.{NodeSet}
+use Rattle.alw_num.proofs.Words.{nodes_below}
 use Rattle.dir_hw.specs.PointerSets.{set_of}
 
 add-add : (P : Nodes) (m n : ℕ) → add_node (add_node P m) n ≡ add_node (add_node P n) m
@@ -34,3 +36,9 @@ count-next ns count n l e gone =
     rw (set_of-next ns count n l) (omega arith)
 
 pub ruleset pointer_lists = (set_of-push, has-set_of, has-none, count-none, add_member)
+
+-- the nodes that a loop over the numbers has put into two words are below 256
+pub set_of-below : (ns : List ℕ) (i : ℕ) (s : NodeSet) → nodes_of s ≡ set_of (take i ns) → length ns ≤ i → (k : ℕ) → has_node (set_of ns) k ≡ true → k < 256
+set_of-below ns i s e l k here =
+    let all : nodes_of s ≡ set_of ns = e ∙ ap set_of (take_all i ns l) in
+    nodes_below s k (ap (λ (P : Nodes). has_node P k) all ∙ here)

@@ -1,4 +1,4 @@
-ghost use Rattle.std.specs.Prelude.{◌≡◌, ◌<◌, ◌≤◌, ◌↔◌, Bool, false, true, if◌then◌else◌};
+ghost use Rattle.std.specs.Prelude.{◌≡◌, ◌<◌, ◌≤◌, ◌↔◌, ℕ, Bool, false, true, if◌then◌else◌};
 ghost use Rattle.alw_num.specs.NodeSets.{no_nodes, has_node, add_node, one_node, count_nodes, nodes_of};
 
 use crate::pointers::{MOST_POINTERS, Pointers};
@@ -55,7 +55,8 @@ impl HomeEntry {
 
     /// The pointers, as a set.
     pub fn pointers(&self) -> NodeSet
-        ensures { nodes_of result ≡ self.now.pointers }
+        ensures set { nodes_of result ≡ self.now.pointers }
+        ensures within { (k : ℕ) → has_node self.now.pointers k ≡ true → k < MOST_NODES }
     {
         self.pointers.set()
     }

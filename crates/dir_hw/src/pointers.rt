@@ -1,4 +1,4 @@
-ghost use Rattle.std.specs.Prelude.{◌≡◌, ◌<◌, ◌≤◌, false};
+ghost use Rattle.std.specs.Prelude.{◌≡◌, ◌<◌, ◌≤◌, ℕ, false, true};
 ghost use Rattle.alw_num.specs.NodeSets.{no_nodes, has_node, add_node, one_node, count_nodes, nodes_of};
 
 use alw_num::{MOST_NODES, NodeNo, NodeSet};
@@ -67,7 +67,8 @@ impl Pointers {
 
     /// The set.
     pub fn set(&self) -> NodeSet
-        ensures { nodes_of result ≡ self.now }
+        ensures set { nodes_of result ≡ self.now }
+        ensures within { (k : ℕ) → has_node self.now k ≡ true → k < MOST_NODES }
     {
         let mut set = NodeSet::empty();
         for node in &self.nodes[..self.count as usize] {

@@ -1,4 +1,4 @@
-ghost use Rattle.std.specs.Prelude.{◌≡◌, ◌<◌, ◌≤◌, ◌+◌, ◌-◌, ◌==◌, ◌^◌, ◌++◌, position, length, take, drop, Some, Ok, Err, IfSome};
+ghost use Rattle.std.specs.Prelude.{◌≡◌, ◌<◌, ◌≤◌, ◌+◌, ◌-◌, ◌==◌, ◌^◌, ◌++◌, position, length, take, drop, Some, Ok, Err, IfOk, IfSome};
 ghost use Rattle.std.specs.Option.{option_map};
 ghost use Rattle.sparc_lex.specs.Cut.{hex_run, number_length, token_from, cut_from, is_fit, code_of, line_tokens, tokens_of, Answers, AnswersLine, AppendsLine};
 ghost use Rattle.sparc_lex.specs.Characters.{is_allowed};
@@ -151,7 +151,8 @@ pub fn line_tokens(alloc: Global, source: &[u8], span: &Span, line: u32) -> Resu
     requires order { span.now.start ≤ span.now.end }
     requires within { span.now.end ≤ length source.now }
     requires short { length source.now < 2 ^ 32 - 1 }
-    ensures { AnswersLine line (line_tokens line span.now.start (take (span.now.end - span.now.start) (drop span.now.start source.now))) result }
+    ensures cut { AnswersLine line (line_tokens line span.now.start (take (span.now.end - span.now.start) (drop span.now.start source.now))) result }
+    ensures few { IfOk result (λ tokens. length tokens ≤ span.now.end) }
 {
     let mut tokens = Tokens::empty(alloc);
     match cut_line(&mut tokens, source, span, line) {

@@ -2,7 +2,7 @@
 use Rattle.std.proofs.Common.{◌≡◌, ℕ, ◌+◌, ◌<◌, Bool, true, false, cond, ◌==◌, T, Option, Some, None, List, [], ◌∷◌, refl, sym, ap, ◌∙◌, subst, ◌⊎◌, inl, inr, arith}
 use Rattle.std.proofs.lemmas.Bool.Decides.{nat_tests}
 use Rattle.std.proofs.lemmas.Bool.{cases_order}
-use Rattle.alw_model.specs.Maps.{Map, ascends_from, put, taken, found, empty_map, value_at, with_value, without_value}
+use Rattle.alw_num.specs.Maps.{Map, ascends_from, put, taken, found, empty_map, value_at, with_value, without_value}
 
 found-put : {X : Type 0} (key : ℕ) (value : X) (at : ℕ) (entries : List (ℕ × X)) → found at (put key value entries) ≡ cond (at == key) (Some value) (found at entries)
 found-put key value at [] = refl

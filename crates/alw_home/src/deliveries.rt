@@ -1,0 +1,81 @@
+ghost use Rattle.std.specs.Prelude.{◌≡◌, ◌<◌, ◌≤◌, Bool, false, IsTrue};
+ghost use Rattle.alw_num.specs.NodeSets.{Nodes, no_nodes, count_nodes};
+ghost use Rattle.alw_msg.specs.Kinds.{to_memory};
+ghost use Rattle.alw_model.specs.LimitLess.{is_trapped, overflows};
+ghost use Rattle.alw_model.specs.Messages.{content};
+ghost use Rattle.dir_full.specs.Reactions.{with_sends, HasRoom};
+ghost use Rattle.alw_home.specs.Changes.{directory_of};
+ghost use Rattle.alw_home.specs.Deliveries.{is_overflow, is_trap, answer_of, after_delivery};
+
+use crate::changes::{Change, react};
+use alw_msg::{Kind, Msg, Sends};
+use alw_num::{MOST_NODES, Meta, State};
+use dir_hw::{HomeEntry, MOST_POINTERS};
+
+/// What became of a message to memory: hardware acted on it, it trapped, or it stays at the head of
+/// its link because the line is Trans-In-Progress.
+#[derive(Clone, Copy, Debug, PartialEq, Eq)]
+pub enum Acted {
+    Acted,
+    Trapped,
+    Blocked,
+}
+
+/// Delivers a message to memory at its home, whose entry may have so many hardware pointers (ASPLOS
+/// 1991, section 4). What hardware sends is appended to `sent`.
+pub fn deliver(entry: &mut HomeEntry, pointers: u8, msg: &Msg, sent: &mut Sends) -> Acted
+    requires to_memory { IsTrue (to_memory msg.now.kind) }
+    requires node { msg.now.src.0 < MOST_NODES }
+    requires some { 1 ≤ pointers }
+    requires most { pointers ≤ MOST_POINTERS }
+    requires few { count_nodes entry.old.pointers ≤ pointers }
+    requires room { HasRoom entry.old.pointers msg.now.src.0 sent.old }
+    ensures answer { result ≡ answer_of pointers (directory_of entry.old no_nodes false) msg.now.src.0 (content msg.now) }
+    ensures entry { (software : Nodes) → (always : Bool) →
+        directory_of entry.new software always ≡ (after_delivery result (directory_of entry.old software always) msg.now.src.0 (content msg.now)).0 }
+    ensures sends { sent.new ≡ with_sends sent.old msg.now.line.0 (after_delivery result (directory_of entry.old no_nodes false) msg.now.src.0 (content msg.now)).1 }
+{
+    if entry.meta == Meta::Progress {
+        return Acted::Blocked;
+    }
+    if traps(entry, pointers, msg) {
+        entry.meta = Meta::Progress;
+        return Acted::Trapped;
+    }
+    let set = entry.pointers();
+    match react(entry, set, msg, sent) {
+        Change::Joins => {
+            entry.add_pointer(msg.src, pointers);
+        }
+        Change::Alone => entry.only(msg.src),
+        Change::Empties => entry.clear(),
+        Change::Stays => {}
+    }
+    Acted::Acted
+}
+
+// Whether a message traps.
+fn traps(entry: &HomeEntry, most: u8, msg: &Msg) -> bool
+    requires to_memory { IsTrue (to_memory msg.now.kind) }
+    requires node { msg.now.src.0 < MOST_NODES }
+    ensures { result ≡ is_trap most (directory_of entry.now no_nodes false) msg.now.src.0 (content msg.now) }
+{
+    let is_write = matches!(msg.kind, Kind::WREQ | Kind::UPDATE | Kind::REPM);
+    match entry.meta {
+        Meta::Normal => overflows(entry, most, msg),
+        Meta::Progress => false,
+        Meta::TrapWrite => is_write || overflows(entry, most, msg),
+        Meta::TrapAlways => true,
+    }
+}
+
+// A read finds no pointer left.
+fn overflows(entry: &HomeEntry, most: u8, msg: &Msg) -> bool
+    requires { msg.now.src.0 < MOST_NODES }
+    ensures { result ≡ is_overflow most (directory_of entry.now no_nodes false) msg.now.src.0 (content msg.now) }
+{
+    entry.state == State::RO
+        && msg.kind == Kind::RREQ
+        && !entry.pointers.has(msg.src)
+        && entry.pointers.len() == most
+}

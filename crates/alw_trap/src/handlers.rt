@@ -1,0 +1,105 @@
+ghost use Rattle.std.specs.Prelude.{◌≡◌, ◌<◌, None, IsTrue};
+ghost use Rattle.alw_num.specs.NodeSets.{nodes_of, add_node, join_nodes};
+ghost use Rattle.alw_msg.specs.Kinds.{to_memory};
+ghost use Rattle.alw_num.specs.Maps.{value_at, with_value};
+ghost use Rattle.alw_model.specs.LimitLess.{full_map_of, or_always};
+ghost use Rattle.alw_model.specs.Messages.{content};
+ghost use Rattle.dir_full.specs.Reactions.{with_sends, HasRoom};
+ghost use Rattle.dir_soft.specs.Tables.{set_of_line, used_lines};
+ghost use Rattle.alw_home.specs.Changes.{directory_of, change_of};
+ghost use Rattle.alw_trap.specs.Handling.{handler_on, kept_by, table_after};
+
+use alw_home::{Change, react};
+use alw_msg::{Msg, Sends};
+use alw_num::{LineNo, MOST_NODES, Meta, NodeNo, NodeSet};
+use dir_hw::HomeEntry;
+use dir_soft::SoftDir;
+
+/// The handler of a trapped packet (ASPLOS 1991, section 4). It acts by the home table with the
+/// hardware pointers joined with the line's set in the table, and keeps P in hardware or in the
+/// table. `always` says that the image lists the line. What it sends is appended to `sent`.
+pub fn handle(
+    entry: &mut HomeEntry,
+    soft: &mut SoftDir,
+    always: bool,
+    packet: &Msg,
+    sent: &mut Sends,
+)
+    requires progress { entry.old.meta ≡ Meta.Progress }
+    requires to_memory { IsTrue (to_memory packet.now.kind) }
+    requires node { packet.now.src.0 < MOST_NODES }
+    requires free { value_at soft.old.sets packet.now.line.0 ≡ None → used_lines soft.old < soft.old.lines }
+    requires room { HasRoom (join_nodes entry.old.pointers (set_of_line soft.old packet.now.line.0)) packet.now.src.0 sent.old }
+    ensures entry { directory_of entry.new (set_of_line soft.new packet.now.line.0) always
+        ≡ (handler_on (directory_of entry.old (set_of_line soft.old packet.now.line.0) always) packet.now.src.0 (content packet.now)).0 }
+    ensures table { let d = directory_of entry.old (set_of_line soft.old packet.now.line.0) always in
+        soft.new ≡ table_after soft.old packet.now.line.0 (handler_on d packet.now.src.0 (content packet.now)).0.software (change_of (full_map_of d) packet.now.src.0 (content packet.now)) }
+    ensures sends { sent.new ≡ with_sends sent.old packet.now.line.0
+        (handler_on (directory_of entry.old (set_of_line soft.old packet.now.line.0) always) packet.now.src.0 (content packet.now)).1 }
+{
+    let pointers = entry.pointers().union(soft.set(packet.line));
+    let change = react(entry, pointers, packet, sent);
+    let meta = keep(entry, soft, packet.line, packet.src, change);
+    entry.meta = unless_listed(always, meta);
+}
+
+// The meta state of a line, which stays Trap-Always where the image lists it.
+fn unless_listed(always: bool, meta: Meta) -> Meta
+    ensures { result ≡ or_always always meta }
+{
+    if always { Meta::TrapAlways } else { meta }
+}
+
+// Keeps P in hardware or in the table. Answers the meta state that the line then has.
+fn keep(
+    entry: &mut HomeEntry,
+    soft: &mut SoftDir,
+    line: LineNo,
+    sender: NodeNo,
+    change: Change,
+) -> Meta
+    requires node { sender.0 < MOST_NODES }
+    requires free { value_at soft.old.sets line.0 ≡ None → used_lines soft.old < soft.old.lines }
+    ensures entry { entry.new ≡ record entry.old { pointers = (kept_by entry.old.pointers (set_of_line soft.old line.0) sender.0 change).0 } }
+    ensures table { soft.new ≡ table_after soft.old line.0 (kept_by entry.old.pointers (set_of_line soft.old line.0) sender.0 change).1 change }
+    ensures meta { result ≡ (kept_by entry.old.pointers (set_of_line soft.old line.0) sender.0 change).2 }
+{
+    match change {
+        Change::Joins => {
+            spill(soft, line, entry.pointers(), sender);
+            entry.clear();
+            Meta::TrapWrite
+        }
+        Change::Alone => {
+            soft.take(line);
+            entry.only(sender);
+            Meta::Normal
+        }
+        Change::Empties => {
+            soft.take(line);
+            entry.clear();
+            Meta::Normal
+        }
+        Change::Stays => {
+            if soft.size(line) == 0 {
+                Meta::Normal
+            } else {
+                Meta::TrapWrite
+            }
+        }
+    }
+}
+
+// The sender and the hardware pointers join the line's set in the table.
+fn spill(soft: &mut SoftDir, line: LineNo, hardware: NodeSet, sender: NodeNo)
+    requires node { sender.0 < MOST_NODES }
+    requires free { value_at soft.old.sets line.0 ≡ None → used_lines soft.old < soft.old.lines }
+    ensures { soft.new ≡ record soft.old { sets = with_value soft.old.sets line.0 (add_node (join_nodes (nodes_of hardware) (set_of_line soft.old line.0)) sender.0) } }
+{
+    soft.add(line, sender);
+    let mut rest = hardware;
+    while let Some(node) = rest.lowest() {
+        soft.add(line, node);
+        rest = rest.without(node);
+    }
+}

@@ -1,0 +1,2 @@
+pub mod MapLengths
+pub mod Pools

@@ -1,0 +1,10 @@
+//! The software directory of a node: sets of nodes by line, in one fixed pool.
+#![tactic(auto)]
+
+mod places;
+mod tables;
+
+pub use tables::SoftDir;
+
+#[cfg(test)]
+mod tests;

@@ -1,0 +1,6 @@
+pub mod Examples
+pub mod Grammar
+pub mod InstrWords
+pub mod Passes
+pub mod Reading
+pub mod Sums
