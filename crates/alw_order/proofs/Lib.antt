@@ -1,0 +1,17 @@
+pub mod Places
+pub mod Exchanges
+pub mod Sends
+pub mod Local
+pub mod Halting
+pub mod Pointers
+pub mod Aims
+pub mod Aimed
+pub mod Swaps
+pub mod Clocks
+pub mod Keys
+pub mod Sorting
+pub mod Orders
+pub mod Cutting
+pub mod LinksAfter
+pub mod Reached
+pub mod Unique
