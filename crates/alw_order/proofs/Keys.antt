@@ -12,8 +12,8 @@ comes_before s n t m = nat_lt s t || (s == t && nat_lt n m)
 before_le : (s n t m : ℕ) → IsTrue (comes_before s n t m) → s ≤ t
 before_le s n t m is = grind (arith, nat_tests)
 
-before_trans : (s n t m u k : ℕ) → IsTrue (comes_before s n t m) → IsTrue (comes_before t m u k) → IsTrue (comes_before s n u k)
-before_trans s n t m u k one other = grind (arith, nat_tests)
+not_trans : (s n t m u k : ℕ) → comes_before s n t m ≡ false → comes_before t m u k ≡ false → comes_before s n u k ≡ false
+not_trans s n t m u k one other = grind (arith, nat_tests)
 
 before_either : (s n t m : ℕ) → comes_before s n t m ≡ false → (n ≡ m → s ≢ t) → IsTrue (comes_before t m s n)
 before_either s n t m is apart = grind (arith, nat_tests)
@@ -30,8 +30,8 @@ stamps_le one other is = before_le one.stamp (node_of one.event) other.stamp (no
 pub stamps_ge : (one other : Entry) → is_before one other ≡ false → other.stamp ≤ one.stamp
 stamps_ge one other is = not_before one.stamp (node_of one.event) other.stamp (node_of other.event) is
 
-pub is_before_trans : (one other third : Entry) → IsTrue (is_before one other) → IsTrue (is_before other third) → IsTrue (is_before one third)
-is_before_trans one other third is also = before_trans one.stamp (node_of one.event) other.stamp (node_of other.event) third.stamp (node_of third.event) is also
+pub never_trans : (one other third : Entry) → is_before one other ≡ false → is_before other third ≡ false → is_before one third ≡ false
+never_trans one other third is also = not_trans one.stamp (node_of one.event) other.stamp (node_of other.event) third.stamp (node_of third.event) is also
 
 pub either_before : (one other : Entry) → is_before one other ≡ false → (node_of one.event ≡ node_of other.event → one.stamp ≢ other.stamp) → IsTrue (is_before other one)
 either_before one other is apart = before_either one.stamp (node_of one.event) other.stamp (node_of other.event) is apart

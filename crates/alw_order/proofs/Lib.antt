@@ -15,3 +15,7 @@ pub mod Cutting
 pub mod LinksAfter
 pub mod Reached
 pub mod Unique
+pub mod LogOrders
+pub mod LogSends
+pub mod Leftovers
+pub mod Merging

@@ -7,7 +7,7 @@ use Rattle.alw_msg.specs.declared.events.Entry.{Entry}
 use Rattle.alw_model.specs.NodeStates.{node_of}
 use Rattle.alw_model.specs.Threads.{is_before, placed, in_order}
 use Rattle.alw_order.specs.Orders.{NodesRise, Ascends}
-use Rattle.alw_order.proofs.Keys.{is_before_trans, either_before}
+use Rattle.alw_order.proofs.Keys.{never_trans, never_both, either_before}
 
 -- ---- the same entries
 
@@ -35,28 +35,35 @@ all_placed P e (first ∷ rest) is all = go (is_before first e) (all_placed P e 
     go false deep = (is, all)
     go true deep = (all.0, deep)
 
-all_sorted : (P : Entry → Type 0) (journal : List Entry) → AllByRecursion P journal → AllByRecursion P (in_order journal)
-all_sorted P [] all = tt
-all_sorted P (entry ∷ rest) all = all_placed P entry (in_order rest) all.0 (all_sorted P rest all.1)
+-- no later entry comes before an earlier one
+abbrev NeverBefore : List Entry → Type 0
+NeverBefore [] = Unit {0}
+NeverBefore (entry ∷ rest) = AllByRecursion (λ later. is_before later entry ≡ false) rest × NeverBefore rest
 
-before_all : (e first : Entry) (rest : List Entry) → IsTrue (is_before e first) → AllByRecursion (λ later. IsTrue (is_before first later)) rest → AllByRecursion (λ later. IsTrue (is_before e later)) rest
-before_all e first [] is all = tt
-before_all e first (later ∷ rest) is all = (is_before_trans e first later is all.0, before_all e first rest is all.1)
+never_before : (e first : Entry) (rest : List Entry) → is_before first e ≡ false → AllByRecursion (λ later. is_before later first ≡ false) rest → AllByRecursion (λ later. is_before later e ≡ false) rest
+never_before e first [] is all = tt
+never_before e first (later ∷ rest) is all = (never_trans later first e all.0 is, never_before e first rest is all.1)
 
--- entries of the node of an entry have greater stamps
-abbrev RisesTo : Entry → Entry → Type 0
-RisesTo entry later = node_of later.event ≡ node_of entry.event → entry.stamp < later.stamp
-
-placed_ascends : (e : Entry) (rest : List Entry) → AllByRecursion (RisesTo e) rest → Ascends rest → Ascends (placed e rest)
-placed_ascends e [] rise ascends = (tt, tt)
-placed_ascends e (first ∷ rest) rise ascends = go (is_before first e) refl (placed_ascends e rest rise.1 ascends.1)
+placed_never : (e : Entry) (rest : List Entry) → NeverBefore rest → NeverBefore (placed e rest)
+placed_never e [] order = (tt, tt)
+placed_never e (first ∷ rest) order = go (is_before first e) refl (placed_never e rest order.1)
   where
-    go : (b : Bool) → is_before first e ≡ b → Ascends (placed e rest) → Ascends (cond b (first ∷ placed e rest) (e ∷ first ∷ rest))
-    go true is deep = (all_placed (λ later. IsTrue (is_before first later)) e rest is ascends.0, deep)
-    go false is deep =
-        let before : IsTrue (is_before e first) = either_before first e is (λ same stamps. absurd (let above = rise.0 same in omega arith)) in
-        ((before, before_all e first rest before ascends.0), ascends)
+    go : (b : Bool) → is_before first e ≡ b → NeverBefore (placed e rest) → NeverBefore (cond b (first ∷ placed e rest) (e ∷ first ∷ rest))
+    go true is deep = (all_placed (λ later. is_before later first ≡ false) e rest (never_both first e is) order.0, deep)
+    go false is deep = ((is, never_before e first rest is order.0), order)
 
-pub sorted_ascends : (journal : List Entry) → NodesRise journal → Ascends (in_order journal)
-sorted_ascends [] rise = tt
-sorted_ascends (entry ∷ rest) rise = placed_ascends entry (in_order rest) (all_sorted (RisesTo entry) rest rise.0) (sorted_ascends rest rise.1)
+sorted_never : (journal : List Entry) → NeverBefore (in_order journal)
+sorted_never [] = tt
+sorted_never (entry ∷ rest) = placed_never entry (in_order rest) (sorted_never rest)
+
+-- where each node's stamps rise, no two have one place in the order
+ascends_all : (e : Entry) (rest : List Entry) → AllByRecursion (λ later. is_before later e ≡ false) rest → AllByRecursion (λ later. node_of later.event ≡ node_of e.event → e.stamp < later.stamp) rest → AllByRecursion (λ later. IsTrue (is_before e later)) rest
+ascends_all e [] never rise = tt
+ascends_all e (later ∷ rest) never rise = (either_before later e never.0 (λ same stamps. absurd (let above = rise.0 same in omega arith)), ascends_all e rest never.1 rise.1)
+
+ascends_where : (journal : List Entry) → NeverBefore journal → NodesRise journal → Ascends journal
+ascends_where [] never rise = tt
+ascends_where (entry ∷ rest) never rise = (ascends_all entry rest never.0 rise.0, ascends_where rest never.1 rise.1)
+
+pub sorted_ascends : (journal : List Entry) → NodesRise (in_order journal) → Ascends (in_order journal)
+sorted_ascends journal rise = ascends_where (in_order journal) (sorted_never journal) rise

@@ -66,7 +66,7 @@ module _ (parts : Parts) (parameters : Parameters) where
     in_order_state = (sorted_legal parts parameters (machine_start parts) journal (start_aimed parts parameters) legal).state
 
     pub in_order_ascends : Ascends (in_order journal)
-    in_order_ascends = sorted_ascends journal (rise journal legal)
+    in_order_ascends = sorted_ascends journal (rise (in_order journal) in_order_legal)
 
     pub cut_whole : (t : ℕ) → IsLegal parts parameters (kept_by t journal ++ later_than t journal)
     cut_whole t = (cut_legal parts parameters (machine_start parts) t journal (start_aimed parts parameters) legal).legal
