@@ -1,9 +1,8 @@
 -- What is left of merged logs, and the machine so far: the next entry is legal, and the rest is what is left then.
-use Rattle.std.proofs.Common.{◌≡◌, ℕ, ◌+◌, ◌<◌, ◌≤◌, ◌==◌, nat_le, nat_lt, not, Bool, true, false, cond, ◌&&◌, ◌||◌, max, Option, Some, None, is_some, List, [], ◌∷◌, ◌++◌, IsTrue, refl, sym, subst, ap, ◌∙◌, append_assoc, arith}
+use Rattle.std.proofs.Common.{◌≡◌, ℕ, ◌+◌, ◌<◌, ◌≤◌, ◌==◌, nat_le, nat_lt, not, Bool, cond, ◌||◌, max, Option, Some, None, is_some, List, [], ◌∷◌, ◌++◌, IsTrue, refl, sym, subst, ap, ◌∙◌, arith}
 use Rattle.std.specs.Prelude.{option_to_list}
-use Rattle.std.proofs.lemmas.Bool.{eqb-true, eq-eqb, ne_eqb, ltb-true, false≢true}
+use Rattle.std.proofs.lemmas.Bool.{eq-eqb, ne_eqb, ltb-true, false≢true}
 use Rattle.std.proofs.lemmas.Bool.Decides.{nat_tests}
-use Rattle.std.proofs.lemmas.List.{append_cancel_left}
 use Rattle.alw_num.proofs.Weigh.{is_node}
 use Rattle.alw_msg.specs.declared.messages.Msg.{Msg}
 use Rattle.alw_msg.specs.declared.events.Event.{Event}
@@ -14,18 +13,15 @@ use Rattle.alw_image.specs.Images.{node_count}
 use Rattle.alw_image.specs.Parameters.{Parameters}
 use Rattle.alw_model.specs.NodeStates.{NodeState, node_of, stamp_of, may, is_enabled_at}
 use Rattle.alw_model.specs.NodeSteps.{Stepped, node_step}
-use Rattle.alw_model.specs.Machine.{MachineState, node_at, link_at, front, behind, taken_by, stamp_at, has_halted, stepped_by, step, IsNext}
+use Rattle.alw_model.specs.Machine.{MachineState, node_at, link_at, front, taken_by, stamp_at, has_halted, stepped_by, step, IsNext}
 use Rattle.alw_model.specs.Threads.{Logged, IsNextLogged, IsRunFrom, IsFront, takes_rightly, is_from, took_from, sent_to}
 use Rattle.alw_model.proofs.Journals.{and_parts}
-use Rattle.alw_lift.specs.Links.{msgs_to}
-use Rattle.alw_lift.proofs.Taken.{split_front}
-use Rattle.alw_order.specs.Orders.{takes_from}
 use Rattle.alw_order.proofs.Local.{node_kept}
 use Rattle.alw_order.proofs.Aimed.{IsAimed}
 use Rattle.alw_order.proofs.Clocks.{node_stepped}
-use Rattle.alw_order.proofs.LinksAfter.{link_is}
 use Rattle.alw_order.proofs.LogOrders.{mine, StampsAscend}
-use Rattle.alw_order.proofs.LogSends.{eqb_turned, picked, msgs_picked, took_here, sent_here, took_split, sent_split, all_mine, run_bears, sent_high, first_high}
+use Rattle.alw_order.proofs.LogMoves.{moves_on, link_moves}
+use Rattle.alw_order.proofs.LogSends.{took_here, sent_here, took_split, sent_split, all_mine, run_bears, sent_high, first_high}
 
 none_taken : (taken : Option Msg) → IsTrue (not (is_some taken)) → None ≡ taken
 none_taken None is = refl
@@ -42,15 +38,6 @@ front_of (m ∷ rest) other msg is never = sym is
 
 low_within : (stamp at limit : ℕ) (halted : Bool) → stamp ≤ limit → stamp ≡ at → IsTrue (nat_le at limit || halted)
 low_within stamp at limit halted le same = grind (arith, nat_tests)
-
--- what was taken and is on the way, one entry on
-pub moves_on : (took t r link sent more after : List Msg) → took ++ after ≡ link ++ sent → (took ++ t) ++ r ≡ link ++ (sent ++ more) → t ++ r ≡ after ++ more
-moves_on took t r link sent more after moves whole = append_cancel_left took (t ++ r) (after ++ more)
-    (sym (append_assoc took t r) ∙ (whole ∙ (sym (append_assoc link sent more) ∙ (ap (λ (xs : List Msg). xs ++ more) (sym moves) ∙ append_assoc took after more))))
-
-pub moves_back : (took t r link sent more after : List Msg) → took ++ after ≡ link ++ sent → t ++ r ≡ after ++ more → (took ++ t) ++ r ≡ link ++ (sent ++ more)
-moves_back took t r link sent more after moves rest =
-    append_assoc took t r ∙ (ap (λ (xs : List Msg). took ++ xs) rest ∙ (sym (append_assoc took after more) ∙ (ap (λ (xs : List Msg). xs ++ more) moves ∙ append_assoc link sent more)))
 
 module _ (parts : Parts) (parameters : Parameters) where
   -- the rest of each node's log is a run from where the node is, links agree with what is on the way, and stamps ascend
@@ -139,45 +126,14 @@ module _ (parts : Parts) (parameters : Parameters) where
 
     -- ---- links
 
-    took_taken : (a b : ℕ) → took_here a b logged ++ cond (takes_from event a b) (behind (link_at parts s a b)) (link_at parts s a b) ≡ link_at parts s a b
-    took_taken a b = go event refl
-      where
-        nothing : (c : Bool) (xs : List Msg) → cond {A = List Msg} c [] [] ++ xs ≡ xs
-        nothing true xs = refl
-        nothing false xs = refl
-
-        both : (from to : NodeNo) → event ≡ Deliver from to → (c d : Bool) → (a == from.0) ≡ c → (b == to.0) ≡ d
-            → cond d (cond c (option_to_list logged.taken) []) [] ++ cond (c && d) (behind (link_at parts s a b)) (link_at parts s a b) ≡ link_at parts s a b
-        both from to is true false one other = refl
-        both from to is false true one other = refl
-        both from to is false false one other = refl
-        both from to is true true one other =
-            let t = taken_some from to is in
-            let first : front (link_at parts s a b) ≡ Some t.0 = (λ x. front (link_at parts s (eqb-true a from.0 one x) (eqb-true b to.0 other x))) ∙ delivered from to t.0 is t.1 in
-            ap (λ (o : Option Msg). option_to_list o ++ behind (link_at parts s a b)) t.1 ∙ sym (split_front (link_at parts s a b) t.0 first)
-
-        go : (e : Event) → event ≡ e → cond (node_of e == b) (cond (is_from a e) (option_to_list logged.taken) []) [] ++ cond (takes_from e a b) (behind (link_at parts s a b)) (link_at parts s a b) ≡ link_at parts s a b
-        go (Instr at) is = nothing (at.0 == b) (link_at parts s a b)
-        go (Handle at) is = nothing (at.0 == b) (link_at parts s a b)
-        go (Evict at emptied) is = nothing (at.0 == b) (link_at parts s a b)
-        go (Deliver from to) is =
-            (λ x. cond (eqb_turned to.0 b x) (cond (eqb_turned from.0 a x) (option_to_list logged.taken) []) [] ++ cond (a == from.0 && (b == to.0)) (behind (link_at parts s a b)) (link_at parts s a b))
-            ∙ both from to is (a == from.0) (b == to.0) refl refl
-
-    -- what the entry took of a link and what the link holds then is what it held and what the entry sent
-    pub link_moves : (a b : ℕ) → b < node_count parts → took_here a b logged ++ link_at parts next a b ≡ link_at parts s a b ++ sent_here a b logged
-    link_moves a b m =
-        let sends = (stepped_by parts parameters s event).sends in
-        let left_there = cond (takes_from event a b) (behind (link_at parts s a b)) (link_at parts s a b) in
-        let same : cond (a == n) (msgs_to b sends) [] ≡ sent_here a b logged = λ x. cond (eqb_turned a n x) ((msgs_picked b sends ∙ ap (picked b) (ap (λ (v : Stepped). v.sends) stepped_is ∙ sym run.0.sent)) x) [] in
-        ap (λ (xs : List Msg). took_here a b logged ++ xs) (link_is parts parameters s aimed event a b m next_legal.enabled ∙ ap (λ (more : List Msg). left_there ++ more) same)
-        ∙ (sym (append_assoc (took_here a b logged) left_there (sent_here a b logged)) ∙ ap (λ (xs : List Msg). xs ++ sent_here a b logged) (took_taken a b))
+    pub link_next : (a b : ℕ) → b < node_count parts → took_here a b logged ++ link_at parts next a b ≡ link_at parts s a b ++ sent_here a b logged
+    link_next a b m = link_moves parts parameters s aimed logged next_legal.enabled taken_right (run.0.sent ∙ sym (ap (λ (v : Stepped). v.sends) stepped_is)) a b m
 
     agree_next : (a b : ℕ) → a < node_count parts → b < node_count parts → IsFront (took_from a (mine b rest)) (link_at parts next a b ++ sent_to b (mine a rest))
     agree_next a b l m =
         let agree = left.agree a b l m in (
           agree.0,
-          moves_on (took_here a b logged) (took_from a (mine b rest)) agree.0 (link_at parts s a b) (sent_here a b logged) (sent_to b (mine a rest)) (link_at parts next a b) (link_moves a b m)
+          moves_on (took_here a b logged) (took_from a (mine b rest)) agree.0 (link_at parts s a b) (sent_here a b logged) (sent_to b (mine a rest)) (link_at parts next a b) (link_next a b m)
               (ap (λ (xs : List Msg). xs ++ agree.0) (sym (took_split a b logged rest)) ∙ (agree.1 ∙ ap (λ (xs : List Msg). link_at parts s a b ++ xs) (sent_split a b logged rest))),
         )
 

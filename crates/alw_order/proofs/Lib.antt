@@ -17,5 +17,8 @@ pub mod Reached
 pub mod Unique
 pub mod LogOrders
 pub mod LogSends
+pub mod LogMoves
 pub mod Leftovers
 pub mod Merging
+pub mod JournalLogs
+pub mod LogCounts

@@ -24,7 +24,8 @@ use Rattle.alw_order.proofs.Orders.{sorted_same, sorted_ascends}
 use Rattle.alw_order.proofs.Reached.{rise}
 use Rattle.alw_order.proofs.LogOrders.{entries, mine, all_logs, in_log_order, entries_in_order, entries_all, order_ascends, mine_in_order, mine_among}
 use Rattle.alw_order.proofs.LogSends.{took_here, sent_here, took_split, sent_split}
-use Rattle.alw_order.proofs.Leftovers.{IsLeft, next_legal, left_next, node_next, link_moves, moves_back}
+use Rattle.alw_order.proofs.LogMoves.{moves_back}
+use Rattle.alw_order.proofs.Leftovers.{IsLeft, next_legal, left_next, node_next, link_next}
 
 module _ (parts : Parts) (parameters : Parameters) where
   -- what is left runs: its entries are legal, and leave each node and each link as the logs do
@@ -45,7 +46,7 @@ module _ (parts : Parts) (parameters : Parameters) where
         nodes = λ n. deeper.nodes n ∙ node_on n;
         links = λ a b m. ap (λ (xs : List Msg). xs ++ link_at parts (after parts parameters next (entries rest)) a b) (took_split a b logged rest)
             ∙ (moves_back (took_here a b logged) (took_from a (mine b rest)) (link_at parts (after parts parameters next (entries rest)) a b) (link_at parts s a b) (sent_here a b logged) (sent_to b (mine a rest)) (link_at parts next a b)
-            (link_moves parts parameters s aimed logged rest is a b m) (deeper.links a b m)
+            (link_next parts parameters s aimed logged rest is a b m) (deeper.links a b m)
             ∙ ap (λ (xs : List Msg). link_at parts s a b ++ xs) (sym (sent_split a b logged rest)));
       }
     where
@@ -71,7 +72,7 @@ nodes_of_run parts parameters n node (logged ∷ rest) (next, run) = (
   nodes_of_run parts parameters n (node_step parts parameters n node logged.entry.event logged.taken).node rest run,
 )
 
-link_at_start : (parts : Parts) (a b : ℕ) → link_at parts (machine_start parts) a b ≡ []
+pub link_at_start : (parts : Parts) (a b : ℕ) → link_at parts (machine_start parts) a b ≡ []
 link_at_start parts a b = cases_lt_then (node_count parts * node_count parts) (link_place parts a b)
     (λ l. get_or-replicate (node_count parts * node_count parts) (link_place parts a b) [] [] l)
     (λ l. get_or_past _ (link_place parts a b) [] (rw (length-replicate {A = List Msg} (node_count parts * node_count parts) []) l))

@@ -48,10 +48,10 @@ Ascends (entry ∷ rest) = AllByRecursion (λ later. IsTrue (is_before entry lat
 
 -- ---- cuts
 
--- the entries with a stamp of at most t, in order
+-- the entries with at most this stamp, in order
 abbrev pub kept_by : ℕ → List Entry → List Entry
-kept_by t journal = filter (λ entry. nat_le entry.stamp t) journal
+kept_by stamp journal = filter (λ entry. nat_le entry.stamp stamp) journal
 
 -- the others, in order
 abbrev pub later_than : ℕ → List Entry → List Entry
-later_than t journal = filter (λ entry. nat_lt t entry.stamp) journal
+later_than stamp journal = filter (λ entry. nat_lt stamp entry.stamp) journal

@@ -6,10 +6,9 @@ ghost use Rattle.alw_image.specs.Parameters.{Parameters};
 ghost use Rattle.alw_model.specs.NodeStates.{node_start};
 ghost use Rattle.alw_model.specs.Machine.{node_at, link_at, state, IsLegal};
 ghost use Rattle.alw_model.specs.Threads.{Logs, log_at, node_after, took_from, sent_to, in_order, merged};
-ghost use Rattle.alw_model.specs.Rows.{defaults, logs_of};
-ghost use Rattle.alw_model.specs.Rows.TwoNodes.{writers_image, writers_journal};
-ghost use Rattle.alw_order.specs.Orders.{Ascends};
-ghost use Rattle.alw_order.specs.Merges.{EveryLogs, entries_of};
+ghost use Rattle.alw_model.specs.Rows.{logs_of};
+ghost use Rattle.alw_order.specs.Orders.{EveryJournal, Ascends};
+ghost use Rattle.alw_order.specs.Merges.{AreLocalRuns, IsWithin, EveryLogs, entries_of};
 
 /// The logs of all nodes, each a run of its node alone, merge to a legal journal where their links
 /// agree: its entries are those of the logs, each as often, by stamp and then by node number. Each
@@ -25,8 +24,9 @@ pub fn agreeing_logs_merge()
         took_from from (log_at logs to) ++ link_at parts (state parts parameters (merged logs)) from to ≡ sent_to to (log_at logs from)) }
 {}
 
-/// The logs of a worked run merge to that run sorted.
-#[tactic(auto, unfolding(alw_model::specs::Rows::closed_runs, alw_model::specs::Rows::TwoNodes::two_node_runs))]
-pub fn worked_logs_merge()
-    ensures { merged (logs_of writers_image defaults writers_journal) ≡ in_order writers_journal }
+/// The other way round: the logs of a legal journal, whose stamps are within the limit, are local runs
+/// whose links agree, and they merge to the journal sorted by stamp and node number.
+pub fn logs_of_a_journal_merge()
+    ensures runs { EveryJournal (λ parts parameters journal. IsWithin parameters journal → AreLocalRuns parts parameters (logs_of parts parameters journal)) }
+    ensures sorted { EveryJournal (λ parts parameters journal. IsWithin parameters journal → merged (logs_of parts parameters journal) ≡ in_order journal) }
 {}

@@ -36,11 +36,11 @@ pub fn sorted_journal_is_legal()
 /// others, in order, are a legal journal of the same entries that ends in the same state. So the first
 /// part alone is legal, and the others go on from its state.
 pub fn cut_is_legal()
-    ensures kept { EveryJournal (λ parts parameters journal. (t : ℕ) → IsLegal parts parameters (kept_by t journal)) }
-    ensures later { EveryJournal (λ parts parameters journal. (t : ℕ) → AreLegal parts parameters (state parts parameters (kept_by t journal)) (later_than t journal)) }
-    ensures whole { EveryJournal (λ parts parameters journal. (t : ℕ) → IsLegal parts parameters (kept_by t journal ++ later_than t journal)) }
-    ensures state { EveryJournal (λ parts parameters journal. (t : ℕ) → state parts parameters (kept_by t journal ++ later_than t journal) ≡ state parts parameters journal) }
-    ensures entries { EveryJournal (λ parts parameters journal. (t : ℕ) → IsPermutation journal (kept_by t journal ++ later_than t journal)) }
+    ensures kept { EveryJournal (λ parts parameters journal. (stamp : ℕ) → IsLegal parts parameters (kept_by stamp journal)) }
+    ensures later { EveryJournal (λ parts parameters journal. (stamp : ℕ) → AreLegal parts parameters (state parts parameters (kept_by stamp journal)) (later_than stamp journal)) }
+    ensures whole { EveryJournal (λ parts parameters journal. (stamp : ℕ) → IsLegal parts parameters (kept_by stamp journal ++ later_than stamp journal)) }
+    ensures state { EveryJournal (λ parts parameters journal. (stamp : ℕ) → state parts parameters (kept_by stamp journal ++ later_than stamp journal) ≡ state parts parameters journal) }
+    ensures entries { EveryJournal (λ parts parameters journal. (stamp : ℕ) → IsPermutation journal (kept_by stamp journal ++ later_than stamp journal)) }
 {}
 
 /// So the order of a legal journal doesn't matter to where it ends: two legal journals of the same
