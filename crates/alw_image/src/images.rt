@@ -38,9 +38,10 @@ impl Image {
         }
     }
 
-    // The parts.
+    /// What the image says, part by part.
     pub fn parts(&self) -> &Parts
-        ensures { result.now ≡ self.now }
+        ensures parts { result.now ≡ self.now }
+        ensures allowed { IsImage self.now }
     {
         &self.parts
     }

@@ -10,13 +10,13 @@ mod parameters;
 mod parts;
 mod readers;
 mod reading;
-mod writing;
 mod tables;
+mod writing;
 
 pub use faults::ImageErr;
 pub use first::read_first;
 pub use images::Image;
 pub use parameters::Params;
+pub use parts::{Bodies, Code, LineList, Parts, Starts};
 pub use reading::read_image;
 pub use writing::write_image;
-pub use parts::{Bodies, Code, LineList, Parts, Starts};

@@ -42,6 +42,7 @@ clean-at (first ∷ rest) at zero word none found = ap (λ (w : ℕ). is_memory 
   where
     of_some : (a b : ℕ) → Some a ≡ Some b → a ≡ b
     of_some a b same = cc
+
     clean-first : (test : Bool) → is_memory (instr_of first) ≡ test → memory_at at (first ∷ rest) ≡ None → test ≡ false
     clean-first true is none = absurd (let e : Some at ≡ None = sym (ap (λ (b : Bool). if b then Some at else memory_at (at + 4) rest) is) ∙ none in cc)
     clean-first false is none = refl
@@ -84,4 +85,3 @@ pub never_missing : (need : Need) (copies : Copies) (line : LineNo) (mode : Mode
 never_missing (needs.Copy l m) copies line mode none missing = none
 never_missing needs.Nothing copies line mode none missing = (let e : needs.Nothing ≡ needs.Copy line mode = missing.0 in cc)
 never_missing (needs.Trap tt) copies line mode none missing = (let e : needs.Trap tt ≡ needs.Copy line mode = missing.0 in cc)
-

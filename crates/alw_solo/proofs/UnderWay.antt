@@ -34,7 +34,6 @@ use Rattle.sparc_exec.specs.Runs as exec
 use Rattle.alw_solo.specs.Solo.{trap_in, first_trap, or_else, IsEnd, IsRun}
 use Rattle.alw_solo.specs.declared.runs.TrapAt.{TrapAt}
 use Rattle.alw_solo.proofs.Solos.{IsSolo, NeedsNone, machine_with, node_with, first_event, stepped_to, starts_so, steps_so, step_is, next_is, trap_ends, halt_ends, limit_ends}
-
 use Rattle.std.specs.List.{AllByRecursion}
 use Rattle.std.proofs.lemmas.Bool.Decides.{nat_tests}
 use Rattle.alw_num.specs.declared.addresses.NodeNo.{NodeNo}
@@ -111,6 +110,7 @@ prints-grow p run moment outcome number did =
   where
     context-is : (contexts : ℕ) → 0 * contexts + 0 ≡ 0
     context-is contexts = omega arith
+
     last : flat_map (λ (turn : ℕ × Outcome). print_of turn.0 turn.1) (flat_map (λ (m : Moment). turn_in p (number_of m) m.stepped.did) (moment ∷ [])) ≡ print_of 0 outcome
     last =
         ap (λ (n : ℕ). flat_map (λ (turn : ℕ × Outcome). print_of turn.0 turn.1) (turn_in p n moment.stepped.did ++ [])) number
@@ -126,10 +126,10 @@ takes_turn p params journal regs regs' outcome solo way none took within small =
       legal = legal_push p params journal (entry_behind journal) way.legal (subst (λ (m : MachineState). IsNext p params m (entry_behind journal)) (sym way.state) (next_is p solo params regs (length journal) (omega arith) within));
       state = state_push p params journal (entry_behind journal) ∙ ap (λ (m : MachineState). step p params m first_event) way.state ∙ ap (after_step p (machine_with p regs Ready (length journal)) first_event) (steps_so p solo params regs regs' (length journal) outcome none took) ∙ step_is p solo regs regs' (length journal) outcome;
       prints = ap (λ (run : List Moment). flat_map (λ (turn : ℕ × Outcome). print_of turn.0 turn.1) (flat_map (λ (m : Moment). turn_in p (number_of m) m.stepped.did) run)) (moments_push p params journal (entry_behind journal) ∙ ap (λ (m : Moment). moments p params journal ++ m ∷ []) moment)
-        ∙ prints-grow p (moments p params journal) (moment_then p journal regs regs' outcome) outcome refl refl;
+          ∙ prints-grow p (moments p params journal) (moment_then p journal regs regs' outcome) outcome refl refl;
       trap = ap (first_trap 0) (moments_push p params journal (entry_behind journal) ∙ ap (λ (m : Moment). moments p params journal ++ m ∷ []) moment)
-        ∙ first_trap-push 0 (moments p params journal) (moment_then p journal regs regs' outcome) way.untrapped
-        ∙ ap (λ (k : ℕ). or_else (trap_in k (moment_then p journal regs regs' outcome) (Turn 0 outcome)) None) (let e : 0 + length (moments p params journal) ≡ length journal = omega (arith, length_moments p params journal) in e);
+          ∙ first_trap-push 0 (moments p params journal) (moment_then p journal regs regs' outcome) way.untrapped
+          ∙ ap (λ (k : ℕ). or_else (trap_in k (moment_then p journal regs regs' outcome) (Turn 0 outcome)) None) (let e : 0 + length (moments p params journal) ≡ length journal = omega (arith, length_moments p params journal) in e);
     }
 
 -- a turn that is done, or prints, leaves the run under way
@@ -165,7 +165,7 @@ pub stops : (p : Parts) (params : Parameters) (journal : List Entry) (regs : Reg
 stops p params journal regs solo some way small all =
     let ends = limit_ends p solo params regs (length journal) (omega arith) (omega arith) in
     is-run p params journal (ended.Limit first_event) some way.legal
-      (ap (end_of p params) way.state ∙ ends.0, ap (λ (m : MachineState). find (λ e. is_enabled p params m e) (main_events p)) way.state ∙ ends.1)
+    (ap (end_of p params) way.state ∙ ends.0, ap (λ (m : MachineState). find (λ e. is_enabled p params m e) (main_events p)) way.state ∙ ends.1)
 
 -- ---- the start
 

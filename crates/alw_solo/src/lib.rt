@@ -6,4 +6,3 @@ mod runs;
 
 pub use images::not_solo;
 pub use runs::{Ended, Run, TrapAt, run_solo};
-

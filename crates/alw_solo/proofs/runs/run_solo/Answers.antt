@@ -26,7 +26,7 @@ returns-in-Trap-clause-run c =
     let pc = ap (λ (r : Regs). r.pc) (c.in-Trap.ensures.still tt) in
     let turns = c.loop-clock.invariant.turns in
     subst (λ (j : List Entry). IsRun c.args.image.now c.args.params.now j (ended.Trapped (record { entry = c.loop-clock.clock; node = 0; slot = 0; pc = c.turn_of.new.regs.pc; tt = c.in-Trap.tt }))) (sym (grown_is c.loop-clock.journal c.push.new.self c.loop-clock.clock c.loop-clock.invariant.turns c.in_ok-push.ensures.ok))
-      (trapped_at c.args.image.now c.args.params.now _ _ _ _ _ c.in-Trap.tt (sym pc) turns (traps c.args.image.now c.args.params.now c.loop-clock.journal c.loop-clock.regs _ c.in-Trap.tt c.loop-clock.invariant.solo c.limit-clock-end.ensures.allowed.some_pointer taken))
+    (trapped_at c.args.image.now c.args.params.now _ _ _ _ _ c.in-Trap.tt (sym pc) turns (traps c.args.image.now c.args.params.now c.loop-clock.journal c.loop-clock.regs _ c.in-Trap.tt c.loop-clock.invariant.solo c.limit-clock-end.ensures.allowed.some_pointer taken))
 
 pub returns-in-Trap-clause-prints : goal.returns-in-Trap-clause-prints
 returns-in-Trap-clause-prints c =
@@ -36,11 +36,11 @@ returns-in-Trap-clause-prints c =
 pub returns-clause-run : goal.returns-clause-run
 returns-clause-run c =
     stops c.args.image.now c.args.params.now c.loop-clock.journal c.loop-clock.regs c.loop-clock.invariant.solo c.limit-clock-end.ensures.allowed.some_pointer c.loop-clock.invariant.way c.limit-clock-end.ensures.allowed.limit
-      (let v = c.limit-clock-end.ensures.value in let t = c.loop-clock.invariant.turns in let past = c.loop-clock-test.false in let most = c.loop-clock.auto.clock-end in omega arith)
+    (let v = c.limit-clock-end.ensures.value in let t = c.loop-clock.invariant.turns in let past = c.loop-clock-test.false in let most = c.loop-clock.auto.clock-end in omega arith)
 
 pub loop-clock-preserved : goal.loop-clock-preserved
 loop-clock-preserved c = elim c.match-turn_of.branch [
-    | in-Done w ↦
+  | in-Done w ↦
       let taken = takes c.args.image.now c.args.params.now c.loop-clock.journal c.loop-clock.regs _ Done _ _ c.loop-clock.clock c.loop-clock.invariant.solo c.limit-clock-end.ensures.allowed c.loop-clock.invariant.way (c.members-code.ensures ∙ c.code.ensures.code) (c.from-lines.ensures ∙ c.per_node.ensures) w.in-Done.ensures.turn c.loop-clock.invariant.turns (let v = c.limit-clock-end.ensures.value in let w = c.loop-clock-test.true in omega arith) in
       let grown = (grown_is c.loop-clock.journal c.push.new.self c.loop-clock.clock c.loop-clock.invariant.turns c.in_ok-push.ensures.ok) in
       record {
@@ -50,7 +50,7 @@ loop-clock-preserved c = elim c.match-turn_of.branch [
         prints = prints_then c.args.image.now c.args.params.now c.loop-clock.journal c.push.new.self c.loop-clock.regs c.turn_of.new.regs Done c.loop-clock.prints _ taken grown c.loop-clock.invariant.prints (w.prints-is ∙ sym (append-nil c.loop-clock.prints));
         few = omega (arith, ap length w.prints-is, c.loop-clock.invariant.few);
       }
-    | in-Out+in_ok-push-in-Out w ↦
+  | in-Out+in_ok-push-in-Out w ↦
       let taken = takes c.args.image.now c.args.params.now c.loop-clock.journal c.loop-clock.regs _ (Out w.in-Out.word) _ _ c.loop-clock.clock c.loop-clock.invariant.solo c.limit-clock-end.ensures.allowed c.loop-clock.invariant.way (c.members-code.ensures ∙ c.code.ensures.code) (c.from-lines.ensures ∙ c.per_node.ensures) w.in-Out.ensures.turn c.loop-clock.invariant.turns (let v = c.limit-clock-end.ensures.value in let w = c.loop-clock-test.true in omega arith) in
       let grown = (grown_is c.loop-clock.journal c.push.new.self c.loop-clock.clock c.loop-clock.invariant.turns c.in_ok-push.ensures.ok) in
       record {
@@ -60,7 +60,7 @@ loop-clock-preserved c = elim c.match-turn_of.branch [
         prints = prints_then c.args.image.now c.args.params.now c.loop-clock.journal c.push.new.self c.loop-clock.regs c.turn_of.new.regs (Out w.in-Out.word) c.loop-clock.prints _ taken grown c.loop-clock.invariant.prints (w.prints-is ∙ w.in_ok-push-in-Out.ensures.ok);
         few = omega (arith, ap length (w.prints-is ∙ w.in_ok-push-in-Out.ensures.ok), length-append c.loop-clock.prints ((0, w.in-Out.word) ∷ []), c.loop-clock.invariant.few);
       }
-  ]
+]
 
 pub loop-clock-init : goal.loop-clock-init
 loop-clock-init c = record {

@@ -3,7 +3,6 @@ use Rattle.std.proofs.Common.{◌≡◌, ◌≤◌, length}
 use Rattle.alw_model.specs.Runs.{prints_of}
 use Rattle.alw_solo.proofs.Solos.{IsSolo}
 use Rattle.alw_solo.proofs.UnderWay.{IsUnderWay}
-
 use Rattle.alw_solo.proofs.runs.run_solo.Given as goal
 
 abbrev pub invariant-loop-clock : goal.invariant-loop-clock
