@@ -1,7 +1,8 @@
-ghost use Rattle.std.specs.Prelude.{◌≡◌, ◌<◌, ◌≤◌, ◌*◌, ◌+◌, ◌/◌, ◌%◌, length, IfOk};
+ghost use Rattle.std.specs.Prelude.{◌≡◌, ◌<◌, ◌≤◌, ◌*◌, ◌+◌, ◌/◌, ◌%◌, ◌↔◌, length, IfOk, IfSome, IsSome};
 ghost use Rattle.alw_image.specs.Images.{body_in};
 ghost use Rattle.alw_image.specs.First.{IsAtWord, plain_parts};
 
+use crate::checks::is_image;
 use crate::parts::{Bodies, Code, LineList, Parts, Starts};
 use alw_num::{Line, LineNo, NoMemory, NodeNo};
 use std::alloc::Global;
@@ -25,6 +26,34 @@ impl Model for Image {
 }
 
 impl Image {
+    /// The image of these parts. None exactly where no image has them.
+    pub fn from_parts(parts: Parts) -> Option<Image>
+        ensures same { IfSome result (λ image. image ≡ parts) }
+        ensures allowed { IsSome result ↔ IsImage parts }
+    {
+        if is_image(&parts) {
+            Some(Image { parts })
+        } else {
+            None
+        }
+    }
+
+    /// What the image says, part by part.
+    pub fn parts(&self) -> &Parts
+        ensures parts { result.now ≡ self.now }
+        ensures allowed { IsImage self.now }
+    {
+        &self.parts
+    }
+
+    // The image of parts that are known to be one's.
+    pub fn checked(parts: Parts) -> Image
+        requires { IsImage parts }
+        ensures { result ≡ parts }
+    {
+        Image { parts }
+    }
+
     ghost use Rattle.alw_image.specs.Images.{IsImage, line_count, context_count, body_of, started_at, is_always};
 
     /// Columns of the mesh.

@@ -17,3 +17,7 @@ hex_digits n = low_digits 8 n
 -- the same behind `0x`
 abbrev pub hex_word : ℕ → List ℕ
 hex_word n = codes "0x" ++ hex_digits n
+
+-- a byte: `0x` and two digits
+abbrev pub hex_byte : ℕ → List ℕ
+hex_byte n = codes "0x" ++ (hex_digit (n / 16) ∷ hex_digit (n % 16) ∷ [])

@@ -1,6 +1,6 @@
 ghost use Rattle.std.specs.Prelude.{◌≡◌, ◌<◌, ◌≤◌, ◌↔◌, ◌++◌, [], ◌∷◌, length, drop, slice_index, IsTrue, OnOk, OnErr};
 ghost use Rattle.std.specs.Fmt.{decimal};
-ghost use Rattle.alw_text.specs.Numbers.{hex_digit, hex_digits, hex_word};
+ghost use Rattle.alw_text.specs.Numbers.{hex_byte, hex_digit, hex_digits, hex_word};
 
 use alw_num::NoMemory;
 use std::alloc::Global;
@@ -102,6 +102,15 @@ impl Text {
         ensures err { OnErr result (self.new ≡ self.old) }
     {
         self.put(&hex_of(n))
+    }
+
+    /// Appends a byte as `0x` and two lower-case hexadecimal digits.
+    pub fn put_hex8(&mut self, n: u8) -> Result<(), NoMemory>
+        ensures ok { OnOk result (self.new ≡ self.old ++ hex_byte n) }
+        ensures err { OnErr result (self.new ≡ self.old) }
+    {
+        let n = u32::from(n);
+        self.put(&[b'0', b'x', digit_of(n / 16), digit_of(n % 16)])
     }
 }
 

@@ -1,0 +1,8 @@
+//! The report of a run.
+#![tactic(auto)]
+
+mod lines;
+mod memory;
+mod reports;
+
+pub use reports::report;

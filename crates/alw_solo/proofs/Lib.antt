@@ -1,0 +1,3 @@
+pub mod Solos
+pub mod Needing
+pub mod UnderWay
