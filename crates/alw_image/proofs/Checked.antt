@@ -23,7 +23,7 @@ pub both_and : (a b : Bool) → IsTrue a → IsTrue b → IsTrue (a && b)
 both_and true b first second = second
 both_and false b first second = absurd (let e : false ≡ true = first in cc)
 
-within : (least most n : ℕ) → least ≤ n → n ≤ most → IsTrue (is_within least most n)
+pub within : (least most n : ℕ) → least ≤ n → n ≤ most → IsTrue (is_within least most n)
 within least most n low high = grind (arith, nat_tests)
 
 -- ---- sizes
@@ -51,9 +51,9 @@ sizes_of p fit =
 pub has_sizes_of : (p : Parts) → HasSizes p → IsTrue (has_sizes p)
 has_sizes_of p s =
     let sides = both_and (is_within 1 16 p.width) _ (within 1 16 p.width s.width.0 s.width.1) (both_and (is_within 1 16 p.height) _ (within 1 16 p.height s.height.0 s.height.1)
-        (both_and (is_within 1 4 p.contexts) (is_within 1 4096 p.per_node) (within 1 4 p.contexts s.contexts.0 s.contexts.1) (within 1 4096 p.per_node s.per_node.0 s.per_node.1))) in
+    (both_and (is_within 1 4 p.contexts) (is_within 1 4096 p.per_node) (within 1 4 p.contexts s.contexts.0 s.contexts.1) (within 1 4096 p.per_node s.per_node.0 s.per_node.1))) in
     let counts = both_and (is_within 1 65536 (length p.code)) _ (within 1 65536 (length p.code) s.code.0 s.code.1) (both_and (is_within 0 (line_count p) (length p.bodies)) _ (within 0 (line_count p) (length p.bodies) (omega arith) s.bodies)
-        (both_and (is_within 1 (context_count p) (length p.starts)) (is_within 0 (line_count p) (length p.always)) (within 1 (context_count p) (length p.starts) s.starts.0 s.starts.1) (within 0 (line_count p) (length p.always) (omega arith) s.always))) in
+    (both_and (is_within 1 (context_count p) (length p.starts)) (is_within 0 (line_count p) (length p.always)) (within 1 (context_count p) (length p.starts) s.starts.0 s.starts.1) (within 0 (line_count p) (length p.always) (omega arith) s.always))) in
     both_and (has_sides p) (has_counts p) sides counts
 
 -- ---- members
@@ -119,24 +119,26 @@ is_image p b s a sizes none =
     map-same : (xs : List ℕ) → map line_key xs ≡ xs
     map-same [] = refl
     map-same (x ∷ rest) = ap (λ ys. x ∷ ys) (map-same rest)
+
     same_keys : (xs : List ℕ) → IsStrictlyIncreasing (map line_key xs) → IsStrictlyIncreasing xs
     same_keys xs up = subst IsStrictlyIncreasing (map-same xs) up
 
 -- an image's parts have sizes within their ranges
 pub image_sizes : (p : Parts) → IsImage p → HasSizes p
 image_sizes p i = record {
-    width = i.width;
-    height = i.height;
-    contexts = i.contexts;
-    per_node = i.per_node;
-    code = i.code;
-    bodies = lengths p.bodies body_key (line_count p) (few (line_count p) (map body_key p.bodies) (all_map (IsDataLine p) (λ key. key < line_count p) body_key p.bodies (λ entry is. is.0) i.bodies) i.bodies_ascend);
-    starts = (i.some_start, lengths p.starts (context_started p) (context_count p) (few (context_count p) (map (context_started p) p.starts) (all_map (IsStart p) (λ key. key < context_count p) (context_started p) p.starts (λ start is. context_within (node_count p) p.contexts start.0.0 start.1 is.0 is.1) i.starts) i.starts_ascend));
-    always = few (line_count p) p.always i.always i.always_ascend;
-  }
+  width = i.width;
+  height = i.height;
+  contexts = i.contexts;
+  per_node = i.per_node;
+  code = i.code;
+  bodies = lengths p.bodies body_key (line_count p) (few (line_count p) (map body_key p.bodies) (all_map (IsDataLine p) (λ key. key < line_count p) body_key p.bodies (λ entry is. is.0) i.bodies) i.bodies_ascend);
+  starts = (i.some_start, lengths p.starts (context_started p) (context_count p) (few (context_count p) (map (context_started p) p.starts) (all_map (IsStart p) (λ key. key < context_count p) (context_started p) p.starts (λ start is. context_within (node_count p) p.contexts start.0.0 start.1 is.0 is.1) i.starts) i.starts_ascend));
+  always = few (line_count p) p.always i.always i.always_ascend;
+}
   where
     lengths : {X : Type 0} (xs : List X) (key : X → ℕ) (most : ℕ) → length (map key xs) ≤ most → length xs ≤ most
     lengths xs key most short = omega (arith, short, length-map xs key)
+
     context_within : (nodes contexts node slot : ℕ) → node < nodes → slot < contexts → node * contexts + slot < nodes * contexts
     context_within nodes contexts node slot node_fits slot_fits =
         let more : (node + 1) * contexts ≤ nodes * contexts = product (node + 1) contexts nodes contexts (omega arith) (omega arith) in
@@ -154,6 +156,7 @@ image_tables p b s a i =
     none_both : (x y : Option ImageErr) → x ≡ None → y ≡ None → first_fault x y ≡ None
     none_both None y first second = second
     none_both (Some e) y first second = absurd (let w : Some e ≡ None = first in cc)
+
     map-same : (xs : List ℕ) → map line_key xs ≡ xs
     map-same [] = refl
     map-same (x ∷ rest) = ap (λ ys. x ∷ ys) (map-same rest)

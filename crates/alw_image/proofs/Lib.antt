@@ -6,3 +6,5 @@ pub mod HeaderFields
 pub mod Orders
 pub mod Checked
 pub mod Readings
+pub mod Pieces
+pub mod Spelled

@@ -57,6 +57,7 @@ sizes_read h bytes p fits r =
   where
     most : (version : ℕ) → most_side version ≤ 16
     most version = grind (arith, nat_tests)
+
     some : (h : Header) → 1 ≤ least_height h
     some h = grind (arith, nat_tests)
 
@@ -78,13 +79,14 @@ header-is h p version width height contexts blank per_node code bodies starts al
   where
     spelled : ℕ → ℕ → ℕ → ℕ → ℕ → ℕ → ℕ → ℕ → ℕ → ℕ → List ℕ
     spelled v w h c z k code bodies starts always = codes "ALEW" ++ (to_be_bytes w16 v ++ (w ∷ h ∷ c ∷ z ∷ to_be_bytes w16 k ++ (to_be_bytes w32 code ++ (to_be_bytes w32 bodies ++ (to_be_bytes w32 starts ++ to_be_bytes w32 always)))))
+
     of_fields : (v w h c z k code bodies starts always v' w' h' c' k' code' bodies' starts' always' : ℕ) → v ≡ v' → w ≡ w' → h ≡ h' → c ≡ c' → z ≡ 0 → k ≡ k' → code ≡ code' → bodies ≡ bodies' → starts ≡ starts' → always ≡ always' →
         spelled v w h c z k code bodies starts always ≡ spelled v' w' h' c' 0 k' code' bodies' starts' always'
     of_fields v w h c z k code bodies starts always v' w' h' c' k' code' bodies' starts' always' e1 e2 e3 e4 e5 e6 e7 e8 e9 e10 = cc
 
 -- ---- the tables' bytes
 
-words-are : (list : List ℕ) → flat_map (to_be_bytes w32) list ≡ words list
+pub words-are : (list : List ℕ) → flat_map (to_be_bytes w32) list ≡ words list
 words-are [] = refl
 words-are (word ∷ rest) = ap (λ bytes. to_be_bytes w32 word ++ bytes) (words-are rest)
 

@@ -60,7 +60,12 @@ fn has_counts(parts: &Parts) -> bool
 
 // The first member of the three tables, which stand at these places, that is out of range or out of
 // order.
-pub fn tables_fault(parts: &Parts, bodies_at: u32, starts_at: u32, always_at: u32) -> Option<ImageErr>
+pub fn tables_fault(
+    parts: &Parts,
+    bodies_at: u32,
+    starts_at: u32,
+    always_at: u32,
+) -> Option<ImageErr>
     requires sizes { IsTrue (has_sizes parts.now) }
     requires bodies { bodies_at + 20 * length parts.now.bodies < 2 ^ 32 }
     requires starts { starts_at + 8 * length parts.now.starts < 2 ^ 32 }

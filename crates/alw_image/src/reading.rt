@@ -31,7 +31,12 @@ pub fn read_image(alloc: Global, bytes: &[u8]) -> Result<Image, ImageErr>
         return Err(fault);
     }
     let parts = read_parts(alloc, &header, bytes)?;
-    match tables_fault(&parts, header.bodies_at(), header.starts_at(), header.always_at()) {
+    match tables_fault(
+        &parts,
+        header.bodies_at(),
+        header.starts_at(),
+        header.always_at(),
+    ) {
         Some(fault) => Err(fault),
         None => Ok(Image::checked(parts)),
     }

@@ -37,7 +37,11 @@ fn put_header(out: &mut Vec<u8>, parts: &Parts) -> Result<(), NoMemory>
     requires { out.old.items ≡ [] }
     ensures { OnOk result (out.new.items ≡ header parts.now) }
 {
-    let version = if parts.width <= 8 && parts.height <= 8 { 1 } else { 2 };
+    let version = if parts.width <= 8 && parts.height <= 8 {
+        1
+    } else {
+        2
+    };
     out.extend_from_slice(&[0x41, 0x4c, 0x45, 0x57])?;
     put_half(out, version)?;
     out.extend_from_slice(&[parts.width, parts.height, parts.contexts, 0])?;

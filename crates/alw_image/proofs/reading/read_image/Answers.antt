@@ -16,9 +16,9 @@ checked-requires c =
 pub returns-in-Some-tables_fault-clause-fault : goal.returns-in-Some-tables_fault-clause-fault
 returns-in-Some-tables_fault-clause-fault c = λ other.
     fault_of c.header_at.result.0 c.args.bytes.now c.in_ok-parts.parts _ (Some c.in-Some-tables_fault.fault) c.header_at.ensures.header refl c.in_default.ensures.none c.in_default-size_fault.ensures.none c.in_ok-parts.ensures
-      (sym c.in-Some-tables_fault.is ∙ c.tables_fault.ensures ∙ ap (λ (n : ℕ). tables_fault c.in_ok-parts.parts n c.starts_at.result c.always_at.result) c.bodies_at.ensures
-      ∙ ap (λ (n : ℕ). tables_fault c.in_ok-parts.parts (bodies_at c.header_at.result.0) n c.always_at.result) c.starts_at.ensures
-      ∙ ap (λ (n : ℕ). tables_fault c.in_ok-parts.parts (bodies_at c.header_at.result.0) (starts_at c.header_at.result.0) n) c.always_at.ensures)
+    (sym c.in-Some-tables_fault.is ∙ c.tables_fault.ensures ∙ ap (λ (n : ℕ). tables_fault c.in_ok-parts.parts n c.starts_at.result c.always_at.result) c.bodies_at.ensures
+    ∙ ap (λ (n : ℕ). tables_fault c.in_ok-parts.parts (bodies_at c.header_at.result.0) n c.always_at.result) c.starts_at.ensures
+    ∙ ap (λ (n : ℕ). tables_fault c.in_ok-parts.parts (bodies_at c.header_at.result.0) (starts_at c.header_at.result.0) n) c.always_at.ensures)
 
 pub returns-in-None-clause-found : goal.returns-in-None-clause-found
 returns-in-None-clause-found c =
