@@ -8,3 +8,4 @@ pub mod Checked
 pub mod Readings
 pub mod Pieces
 pub mod Spelled
+pub mod Searches
