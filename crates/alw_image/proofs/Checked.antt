@@ -23,7 +23,7 @@ pub both_and : (a b : Bool) → IsTrue a → IsTrue b → IsTrue (a && b)
 both_and true b first second = second
 both_and false b first second = absurd (let e : false ≡ true = first in cc)
 
-within : (least most n : ℕ) → least ≤ n → n ≤ most → IsTrue (is_within least most n)
+pub within : (least most n : ℕ) → least ≤ n → n ≤ most → IsTrue (is_within least most n)
 within least most n low high = grind (arith, nat_tests)
 
 -- ---- sizes

@@ -6,3 +6,6 @@ pub mod HeaderFields
 pub mod Orders
 pub mod Checked
 pub mod Readings
+pub mod Pieces
+pub mod Spelled
+pub mod Searches

@@ -11,10 +11,10 @@ use Rattle.alw_image.specs.Faults.{word_of, body_of_bytes, start_of_bytes, slot_
 use Rattle.alw_image.specs.TableReads.{IsMember, IsAny, IsSlot}
 
 -- the number that four bytes spell is the one that they were spelled by
-word-back : (n : ℕ) → n < 2 ^ 32 → 65536 * (256 * (n / 16777216 % 256) + n / 65536 % 256) + (256 * (n / 256 % 256) + n % 256) ≡ n
+pub word-back : (n : ℕ) → n < 2 ^ 32 → 65536 * (256 * (n / 16777216 % 256) + n / 65536 % 256) + (256 * (n / 256 % 256) + n % 256) ≡ n
 word-back n fits = omega arith
 
-half-back : (n : ℕ) → n < 2 ^ 16 → 256 * (n / 256 % 256) + n % 256 ≡ n
+pub half-back : (n : ℕ) → n < 2 ^ 16 → 256 * (n / 256 % 256) + n % 256 ≡ n
 half-back n fits = omega arith
 
 pub word_read : (bytes after : List ℕ) (n : ℕ) → n < 2 ^ 32 → bytes ≡ to_be_bytes w32 n ++ after → IsMember word_of (to_be_bytes w32) IsAny 4 bytes n after

@@ -86,7 +86,7 @@ header-is h p version width height contexts blank per_node code bodies starts al
 
 -- ---- the tables' bytes
 
-words-are : (list : List ℕ) → flat_map (to_be_bytes w32) list ≡ words list
+pub words-are : (list : List ℕ) → flat_map (to_be_bytes w32) list ≡ words list
 words-are [] = refl
 words-are (word ∷ rest) = ap (λ bytes. to_be_bytes w32 word ++ bytes) (words-are rest)
 

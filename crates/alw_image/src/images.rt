@@ -1,5 +1,4 @@
 ghost use Rattle.std.specs.Prelude.{◌≡◌, ◌<◌, ◌≤◌, ◌*◌, ◌+◌, ◌/◌, ◌%◌, ◌↔◌, length, IfOk, IfSome, IsSome};
-ghost use Rattle.alw_image.specs.Images.{body_in};
 ghost use Rattle.alw_image.specs.First.{IsAtWord, plain_parts};
 
 use crate::checks::is_image;
@@ -36,6 +35,23 @@ impl Image {
         } else {
             None
         }
+    }
+
+    /// The same image, in memory of its own.
+    pub fn copy(&self) -> Result<Image, NoMemory>
+        ensures { IfOk result (λ copy. copy ≡ self.now) }
+    {
+        let parts = Parts {
+            width: self.parts.width,
+            height: self.parts.height,
+            contexts: self.parts.contexts,
+            per_node: self.parts.per_node,
+            code: self.parts.code.copy()?,
+            bodies: self.parts.bodies.copy()?,
+            starts: self.parts.starts.copy()?,
+            always: self.parts.always.copy()?,
+        };
+        Ok(Image { parts })
     }
 
     /// What the image says, part by part.
@@ -97,7 +113,11 @@ impl Image {
         requires { line.0 < line_count self.now }
         ensures { result ≡ body_of self.now line.0 }
     {
-        listed_body(self.parts.bodies.members(), line.0)
+        let bodies = self.parts.bodies.members();
+        match bodies.binary_search_by_key(&line.0, |listed| listed.0.0) {
+            Ok(place) => bodies[place].1,
+            Err(_) => Line::ZERO,
+        }
     }
 
     /// The address at which a context starts. None exactly where the image has no start for it.
@@ -122,11 +142,7 @@ impl Image {
         requires { line.0 < line_count self.now }
         ensures { result ≡ is_always self.now line.0 }
     {
-        self.parts
-            .always
-            .members()
-            .iter()
-            .any(|listed| line.0 == *listed)
+        self.parts.always.members().binary_search(&line.0).is_ok()
     }
 }
 
@@ -156,16 +172,4 @@ pub fn plain_image(
             always: LineList::empty(alloc),
         },
     })
-}
-
-// The bytes that data lines give a line.
-fn listed_body(bodies: &[(LineNo, Line)], number: u32) -> Line
-    ensures { result ≡ body_in bodies.now number }
-{
-    for (line, body) in bodies {
-        if line.0 == number {
-            return *body;
-        }
-    }
-    Line::ZERO
 }
