@@ -3,7 +3,7 @@ use Rattle.std.proofs.Common.{◌≡◌, ℕ, zero, suc, ◌+◌, ◌<◌, ◌�
 use Rattle.std.proofs.lemmas.Bool.Decides.{nat_tests}
 use Rattle.std.proofs.lemmas.Bool.{eqb-true}
 use Rattle.alw_num.specs.NodeSets.{Nodes}
-use Rattle.alw_num.specs.Maps.{Map, value_at, with_value, without_value}
+use Rattle.alw_num.specs.Maps.{value_at, with_value, without_value}
 use Rattle.alw_num.proofs.MapLaws.{value-empty, value-with, value-without, same_maps}
 use Rattle.dir_soft.specs.declared.places.Place.{Place}
 use Rattle.dir_soft.specs.Chains.{line_at, with_next}

@@ -1,13 +1,12 @@
 -- What linking and unlinking a place does to the chains.
-use Rattle.std.proofs.Common.{◌≡◌, ◌≢◌, ◌≤◌, ◌<◌, ℕ, zero, suc, ◌+◌, Bool, true, false, cond, ◌==◌, Option, Some, None, List, [], ◌∷◌, ◌++◌, length, get_or, slice_set, refl, sym, ap, ◌∙◌, subst, append_assoc, arith}
+use Rattle.std.proofs.Common.{◌≡◌, ◌≢◌, ◌≤◌, ◌<◌, ℕ, zero, suc, ◌+◌, Bool, true, false, cond, ◌==◌, Option, Some, None, List, [], ◌∷◌, ◌++◌, length, slice_set, refl, sym, ap, ◌∙◌, subst, append_assoc, arith}
 use Rattle.std.proofs.lemmas.Bool.Decides.{nat_tests}
 use Rattle.std.proofs.lemmas.List.{length-set}
 use Rattle.std.proofs.lemmas.Bool.{eq-eqb, ne_eqb, eqb-true}
 use Rattle.alw_num.specs.Weights.{digit, times}
-use Rattle.alw_num.proofs.Weigh.{is_node, weigh-append, digit_other, digit_same, digit_le, true_of_digit}
+use Rattle.alw_num.proofs.Weigh.{weigh-append, digit_other, digit_same, digit_le, true_of_digit}
 use Rattle.dir_soft.specs.declared.places.Place.{Place}
 use Rattle.dir_soft.specs.declared.places.Spot.{Spot}
-use Rattle.dir_soft.specs.declared.places.TheConstants.{END}
 use Rattle.dir_soft.specs.Chains.{next_at, head_at, with_next, unlinked, IsPath, IsBefore, IsLinked, IsSpot}
 
 -- ---- reads after a change

@@ -1,6 +1,5 @@
 -- A place that goes from one chain of a table to another: a line gets a place, or its place becomes free.
 use Rattle.std.proofs.Common.{◌≡◌, ℕ, ◌+◌, ◌-◌, ◌%◌, ◌<◌, ◌≤◌, Bool, true, false, cond, ◌==◌, Option, Some, None, List, [], ◌∷◌, ◌++◌, append_assoc, length, get_or, slice_get, slice_set, refl, sym, ap, ◌∙◌, subst, arith}
-use Rattle.std.proofs.Math.Nat.{mod-lt}
 use Rattle.std.proofs.lemmas.Bool.{eq-eqb, eqb-true}
 use Rattle.std.proofs.lemmas.List.{length-set}
 use Rattle.std.proofs.lemmas.Option.{slice_get-get_or}
@@ -13,7 +12,7 @@ use Rattle.alw_num.proofs.Weigh.{digit_same, true_of_digit}
 use Rattle.dir_soft.specs.declared.places.Place.{Place}
 use Rattle.dir_soft.specs.declared.places.Spot.{Spot}
 use Rattle.dir_soft.specs.Tables.{set_or_none}
-use Rattle.dir_soft.specs.Chains.{next_at, head_at, with_next, unlinked, IsPath, IsLinked, IsSpot, IsBefore, IsBeforeWithin}
+use Rattle.dir_soft.specs.Chains.{next_at, head_at, unlinked, IsPath, IsLinked, IsSpot, IsBefore, IsBeforeWithin}
 use Rattle.dir_soft.specs.Pools.{Entry, entry_of, contents, is_free, map_of, first_of, IsSingle, IsTable, chain_of, chain_at}
 use Rattle.dir_soft.proofs.MapLengths.{length-with_new, length-without}
 use Rattle.dir_soft.proofs.Links.{next-set, head-set, length-with_next, put, linked, unlinked_at, on_path}

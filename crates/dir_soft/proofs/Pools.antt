@@ -1,24 +1,22 @@
 -- A table's pool and chains: what a look-up finds, and what a change makes of them.
-use Rattle.std.proofs.Common.{◌≡◌, ℕ, ◌+◌, ◌%◌, ◌<◌, ◌≤◌, Bool, true, false, cond, ◌==◌, Option, Some, None, List, [], ◌∷◌, ◌++◌, length, get_or, slice_get, slice_set, refl, sym, ap, ◌∙◌, subst, arith}
+use Rattle.std.proofs.Common.{◌≡◌, ℕ, ◌+◌, ◌%◌, ◌<◌, ◌≤◌, Bool, true, false, cond, ◌==◌, Option, Some, None, List, ◌∷◌, length, get_or, slice_get, slice_set, refl, sym, ap, ◌∙◌, subst, arith}
 use Rattle.std.proofs.Math.Nat.{mod-lt}
-use Rattle.std.proofs.lemmas.Bool.Decides.{nat_tests}
 use Rattle.std.proofs.lemmas.Bool.{true≢false, ne_eqb, eq-eqb, eqb-true}
 use Rattle.std.proofs.lemmas.List.{length-set}
 use Rattle.alw_num.specs.NodeSets.{Nodes, no_nodes, nodes_of, count_nodes, add_node, has_node}
 use Rattle.alw_num.specs.declared.node_sets.NodeSet.{NodeSet}
-use Rattle.alw_num.specs.Maps.{Map, value_at, with_value, without_value}
-use Rattle.alw_num.specs.Weights.{digit, times, sum_below}
+use Rattle.alw_num.specs.Maps.{Map, value_at, with_value}
+use Rattle.alw_num.specs.Weights.{digit, times}
 use Rattle.alw_num.proofs.Sets.{has-add, has-none, none_of_count, count-none}
 use Rattle.alw_num.proofs.Weigh.{sum_times, sum_le, sum_ones, digit_same, digit_other, digit_le, true_of_digit, weigh-append}
 use Rattle.dir_soft.specs.declared.places.Place.{Place}
 use Rattle.dir_soft.specs.declared.places.Spot.{Spot}
-use Rattle.dir_soft.specs.declared.places.TheConstants.{END}
 use Rattle.dir_soft.specs.Tables.{Table, set_or_none, table_of, set_of_line, used_lines}
-use Rattle.dir_soft.specs.Chains.{next_at, line_at, head_at, with_next, unlinked, IsPath, IsChain, IsLinked, IsMissing, IsSpot, IsBefore, IsBeforeWithin}
-use Rattle.dir_soft.specs.Pools.{Entry, entry_of, contents, is_free, map_of, first_of, IsSingle, IsPool, IsTable, chain_of, chain_at}
-use Rattle.dir_soft.proofs.MapLengths.{length-with_new, length-with_same, length-without}
+use Rattle.dir_soft.specs.Chains.{next_at, line_at, head_at, IsPath, IsChain, IsLinked, IsMissing, IsSpot}
+use Rattle.dir_soft.specs.Pools.{Entry, entry_of, contents, is_free, map_of, first_of, IsSingle, IsTable, chain_of, chain_at}
+use Rattle.dir_soft.proofs.MapLengths.{length-with_same}
 use Rattle.dir_soft.proofs.Walks.{head-read}
-use Rattle.dir_soft.proofs.Links.{next-set, head-set, length-with_next, kept, put, linked, unlinked_at, unlinked_front, on_path}
+use Rattle.dir_soft.proofs.Links.{next-set, kept}
 use Rattle.dir_soft.proofs.Entries
 use Rattle.dir_soft.proofs.Walks
 

@@ -1,5 +1,5 @@
 -- A new table: all places are free, and stand on the last chain.
-use Rattle.std.proofs.Common.{◌≡◌, ℕ, zero, suc, ◌+◌, ◌<◌, ◌≤◌, Bool, true, false, cond, ◌==◌, nat_lt, None, List, [], ◌∷◌, ◌++◌, length, length-append, replicate, slice_set, refl, sym, ap, ◌∙◌, subst, arith}
+use Rattle.std.proofs.Common.{◌≡◌, ℕ, zero, suc, ◌+◌, ◌<◌, ◌≤◌, Bool, true, false, cond, ◌==◌, nat_lt, None, List, [], ◌∷◌, ◌++◌, length, length-append, replicate, slice_set, refl, sym, ap, ◌∙◌, arith}
 use Rattle.std.proofs.Math.Numerals.{add-one}
 use Rattle.std.proofs.lemmas.Bool.Decides.{nat_tests}
 use Rattle.std.proofs.lemmas.Bool.{eq-eqb}
@@ -10,8 +10,8 @@ use Rattle.alw_num.specs.Weights.{digit, times}
 use Rattle.alw_num.proofs.Sets.{count-none}
 use Rattle.dir_soft.specs.declared.places.Place.{Place}
 use Rattle.dir_soft.specs.declared.places.TheConstants.{END}
-use Rattle.dir_soft.specs.Chains.{next_at, head_at, IsPath, IsLinked}
-use Rattle.dir_soft.specs.Pools.{Entry, entry_of, contents, is_free, map_of, first_of, IsSingle, IsTable, chain_of, chain_at}
+use Rattle.dir_soft.specs.Chains.{next_at, head_at, IsPath}
+use Rattle.dir_soft.specs.Pools.{Entry, entry_of, contents, is_free, map_of, first_of, IsSingle, IsTable, chain_at}
 use Rattle.dir_soft.proofs.MapLengths.{length-empty}
 use Rattle.dir_soft.proofs.Entries.{length-contents}
 use Rattle.dir_soft.proofs.Links.{head-set}

@@ -1,5 +1,5 @@
 -- Chains through a pool: each place names the next one of its chain by its index.
-use Rattle.std.specs.Prelude.{◌≡◌, ◌<◌, ◌≤◌, ℕ, zero, suc, Bool, false, cond, ◌==◌, Option, Some, None, List, [], ◌∷◌, ◌++◌, length, slice_set}
+use Rattle.std.specs.Prelude.{◌≡◌, ◌<◌, ◌≤◌, ℕ, zero, suc, false, ◌==◌, Option, Some, None, List, [], ◌∷◌, ◌++◌, length, slice_set}
 use Rattle.alw_num.specs.Weights.{digit, times}
 use Rattle.dir_soft.specs.declared.places.Place.{Place}
 use Rattle.dir_soft.specs.declared.places.Spot.{Spot}

@@ -1,5 +1,5 @@
 -- A pool of places, each free or with a line and its set, as a map from lines to sets.
-use Rattle.std.specs.Prelude.{◌≡◌, ◌≤◌, ℕ, zero, suc, ◌+◌, ◌%◌, Bool, true, false, cond, ◌==◌, Option, Some, None, List, [], ◌∷◌, length}
+use Rattle.std.specs.Prelude.{◌≡◌, ◌≤◌, ℕ, zero, suc, ◌+◌, ◌%◌, Bool, false, cond, ◌==◌, Option, Some, None, List, [], ◌∷◌, length}
 use Rattle.alw_num.specs.NodeSets.{Nodes, nodes_of, count_nodes}
 use Rattle.alw_num.specs.Maps.{Map, empty_map, with_value}
 use Rattle.dir_soft.specs.declared.places.Place.{Place}

@@ -1,7 +1,7 @@
 -- What was behind the place comes behind the one before it.
-use Rattle.std.proofs.Common.{ap, sym, ◌∙◌, ℕ, Option, Some, None, List, slice_set}
+use Rattle.std.proofs.Common.{ap, ◌∙◌, ℕ, List, slice_set}
 use Rattle.dir_soft.specs.declared.places.Place.{Place}
-use Rattle.dir_soft.specs.Chains.{unlinked, with_next}
+use Rattle.dir_soft.specs.Chains.{with_next}
 use Rattle.dir_soft.proofs.Walks.{next-seen, with_next-seen}
 use Rattle.dir_soft.proofs.places.unlink.Goals as goal
 

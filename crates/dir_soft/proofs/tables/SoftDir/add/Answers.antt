@@ -1,6 +1,5 @@
 -- The node joins at the line's place, or the line gets one.
 use Rattle.std.proofs.Common.{None, arith}
-use Rattle.dir_soft.specs.Pools.{contents}
 use Rattle.dir_soft.proofs.Pools.{chain_is, IsLookUp, finds, misses, bucket-lt, joins, same_table}
 use Rattle.dir_soft.proofs.Moves.{opens_at, free_within, has_room, long_unlinked}
 use Rattle.dir_soft.proofs.tables.SoftDir.add.Goals as goal

@@ -1,5 +1,5 @@
 -- One free place more, and then all.
-use Rattle.std.proofs.Common.{◌≡◌, ℕ, List, slice_set, refl, ap, ◌∙◌, subst, arith}
+use Rattle.std.proofs.Common.{◌≡◌, ℕ, List, slice_set, refl, ap, subst, arith}
 use Rattle.dir_soft.proofs.Rooms.{IsFresh, none_yet, one_more_free, long, new_table, new_map}
 use Rattle.dir_soft.proofs.Pools.{same_table}
 use Rattle.dir_soft.proofs.tables.SoftDir.room.Goals as goal

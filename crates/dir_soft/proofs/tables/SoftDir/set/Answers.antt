@@ -1,5 +1,4 @@
 -- The set at the line's place, or none.
-use Rattle.dir_soft.specs.Pools.{contents}
 use Rattle.dir_soft.proofs.Pools.{chain_is, IsLookUp, finds, misses, bucket-lt, set_seen, set_missing}
 use Rattle.std.proofs.Common.{arith}
 use Rattle.dir_soft.proofs.tables.SoftDir.set.Goals as goal

@@ -1,5 +1,5 @@
 -- The line's place becomes free, or there is none.
-use Rattle.std.proofs.Common.{◌%◌, sym, ap, arith}
+use Rattle.std.proofs.Common.{◌%◌, sym, arith}
 use Rattle.dir_soft.specs.Pools.{contents}
 use Rattle.dir_soft.proofs.Entries.{without_none}
 use Rattle.dir_soft.proofs.Pools.{chain_is, IsLookUp, finds, misses, bucket-lt, set_seen, set_missing, same_table}
