@@ -1,2 +1,3 @@
 pub mod Spills
 pub mod Settlements
+pub mod Rooms

@@ -4,3 +4,6 @@
 mod handlers;
 
 pub use handlers::handle;
+
+#[cfg(test)]
+mod tests;

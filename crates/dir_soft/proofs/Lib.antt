@@ -1,2 +1,7 @@
 pub mod MapLengths
+pub mod Walks
+pub mod Links
+pub mod Entries
 pub mod Pools
+pub mod Moves
+pub mod Rooms

@@ -1,39 +1,63 @@
 -- A pool of places, each free or with a line and its set, as a map from lines to sets.
-use Rattle.std.specs.Prelude.{◌≡◌, ℕ, Bool, true, false, cond, not, ◌&&◌, ◌==◌, Option, Some, None, List, [], ◌∷◌, length, slice_get}
+use Rattle.std.specs.Prelude.{◌≡◌, ◌≤◌, ℕ, zero, suc, ◌+◌, ◌%◌, Bool, false, cond, ◌==◌, Option, Some, None, List, [], ◌∷◌, length}
 use Rattle.alw_num.specs.NodeSets.{Nodes, nodes_of, count_nodes}
 use Rattle.alw_num.specs.Maps.{Map, empty_map, with_value}
 use Rattle.dir_soft.specs.declared.places.Place.{Place}
+use Rattle.dir_soft.specs.declared.places.TheConstants.{END}
+use Rattle.dir_soft.specs.Chains.{IsLinked}
+
+-- what stands at a place: a line and its set
+pub record Entry : Type 0 where
+  pub line : ℕ
+  pub nodes : Nodes
+
+abbrev pub entry_of : Place → Entry
+entry_of place = record { line = place.line; nodes = nodes_of place.nodes }
+
+abbrev pub contents : List Place → List Entry
+contents [] = []
+contents (place ∷ rest) = entry_of place ∷ contents rest
 
 -- a place is free where its set is empty
-abbrev pub is_free : Place → Bool
-is_free place = count_nodes (nodes_of place.nodes) == 0
+abbrev pub is_free : Entry → Bool
+is_free entry = count_nodes entry.nodes == 0
 
 -- the map of the places that aren't free
-abbrev pub map_of : List Place → Map Nodes
+abbrev pub map_of : List Entry → Map Nodes
 map_of [] = empty_map
-map_of (place ∷ rest) = cond (is_free place) (map_of rest) (with_value (map_of rest) place.line (nodes_of place.nodes))
+map_of (entry ∷ rest) = cond (is_free entry) (map_of rest) (with_value (map_of rest) entry.line entry.nodes)
 
 -- the set that the first place of a line has
-abbrev pub first_of : List Place → ℕ → Option Nodes
+abbrev pub first_of : List Entry → ℕ → Option Nodes
 first_of [] line = None
-first_of (place ∷ rest) line = cond (is_free place) (first_of rest line) (cond (line == place.line) (Some (nodes_of place.nodes)) (first_of rest line))
+first_of (entry ∷ rest) line = cond (is_free entry) (first_of rest line) (cond (line == entry.line) (Some entry.nodes) (first_of rest line))
 
 -- no line has two places
-abbrev pub IsSingle : List Place → Type 0
+abbrev pub IsSingle : List Entry → Type 0
 IsSingle [] = Unit {0}
-IsSingle (place ∷ rest) = (is_free place ≡ false → first_of rest place.line ≡ None) × IsSingle rest
+IsSingle (entry ∷ rest) = (is_free entry ≡ false → first_of rest entry.line ≡ None) × IsSingle rest
 
--- a place that isn't free is that of its line
-abbrev pub is_of : Place → ℕ → Bool
-is_of place line = place.line == line && not (is_free place)
+-- the chain that a place belongs on: its line's, or the last one where it is free
+abbrev pub chain_of : ℕ → Entry → ℕ
+chain_of buckets entry = cond (is_free entry) buckets (entry.line % buckets)
 
--- place k is that of a line
-pub record IsPlaceOf (pool : List Place) (line k : ℕ) : Type 0 where
-  pub place : Place
-  pub here : slice_get pool k ≡ Some place
-  pub of : is_of place line ≡ true
+-- the chain that place k belongs on, a number beyond all chains where there is no such place
+abbrev pub chain_at : ℕ → List Entry → ℕ → ℕ
+chain_at buckets [] k = buckets + 1
+chain_at buckets (entry ∷ rest) zero = chain_of buckets entry
+chain_at buckets (entry ∷ rest) (suc k) = chain_at buckets rest k
 
 -- the places in use: no line has two, and there are as many as lines with a set
-pub record IsPool (pool : List Place) : Type 0 where
-  pub single : IsSingle pool
-  pub counted : length (map_of pool).entries ≡ length pool
+pub record IsPool (entries : List Entry) (used : ℕ) : Type 0 where
+  pub single : IsSingle entries
+  pub counted : length (map_of entries).entries ≡ used
+
+-- A pool with its chains: each place in use is on the chain of its line, the line modulo the number of buckets, each free place on the last
+-- chain, and each on its chain once.
+pub record IsTable (lines buckets used : ℕ) (heads : List ℕ) (places : List Place) : Type 0 where
+  pub pool : IsPool (contents places) used
+  pub linked : IsLinked (chain_at buckets (contents places)) heads places
+  pub heads_are : length heads ≡ buckets + 1
+  pub places_are : length places ≡ lines
+  pub few : lines ≤ END
+  pub some : 1 ≤ buckets

@@ -1,34 +1,80 @@
-ghost use Rattle.std.specs.Prelude.{◌≡◌, ◌<◌, None, IfSome, IfNone, length};
-ghost use Rattle.dir_soft.specs.Pools.{is_of, first_of, IsPlaceOf};
+ghost use Rattle.std.specs.Prelude.{◌≡◌, ◌<◌, ℕ, List, IfSome, IfNone, length, slice_set};
+ghost use Rattle.dir_soft.specs.Chains.{head_at, line_at, next_at, unlinked, IsPath, IsChain, IsSpot, IsMissing, IsBeforeWithin};
 
 use alw_num::NodeSet;
 
-/// A place of the pool: a line with its set of nodes.
+/// The index that ends a chain.
+pub const END: u32 = 0xffff_ffff;
+
+/// A place of the pool: a line with its set of nodes, and the index of the next place of its chain.
+/// A place whose set is empty is free.
 #[derive(Clone, Copy, Debug, PartialEq, Eq)]
 pub struct Place {
     pub line: u32,
     pub nodes: NodeSet,
+    pub next: u32,
 }
 
-impl Place {
-    // Whether it is the place of a line.
-    fn is_of(&self, line: u32) -> bool
-        ensures { result ≡ is_of self.now line }
-    {
-        self.line == line && self.nodes.count() != 0
-    }
+/// A place on a chain, and the one before it, if it isn't the first.
+#[derive(Clone, Copy, Debug, PartialEq, Eq)]
+pub struct Spot {
+    pub before: Option<u32>,
+    pub at: u32,
 }
 
-/// The place of a line.
-pub fn find(pool: &[Place], line: u32) -> Option<usize>
-    ensures found { IfSome result (λ k. IsPlaceOf pool.now line k) }
-    ensures within { IfSome result (λ k. k < length pool.now) }
-    ensures none { IfNone result (first_of pool.now line ≡ None) }
+/// The place of a line on the chain that starts at `first`.
+pub fn find(places: &[Place], first: u32, line: u32) -> Option<Spot>
+    requires { IsChain places.now first }
+    ensures found { IfSome result (λ spot. (chain : List ℕ) → IsPath places.now first chain → IsSpot places.now chain spot) }
+    ensures line { IfSome result (λ spot. line_at places.now spot.at ≡ line) }
+    ensures within { IfSome result (λ spot. spot.at < length places.now) }
+    ensures none { IfNone result ((chain : List ℕ) → IsPath places.now first chain → IsMissing places.now chain line) }
 {
-    for (k, place) in pool.iter().enumerate() {
-        if place.is_of(line) {
-            return Some(k);
+    let mut before = None;
+    let mut at = first;
+    while at != END {
+        let place = places[at as usize];
+        if place.line == line {
+            return Some(Spot { before, at });
         }
+        before = Some(at);
+        at = place.next;
     }
     None
+}
+
+/// Takes the place at a spot out of its chain.
+pub fn unlink(heads: &mut Vec<u32>, places: &mut Vec<Place>, chain: usize, spot: Spot)
+    requires chain { chain < length heads.old.items }
+    requires at { spot.at < length places.old.items }
+    requires before { IsBeforeWithin spot.before (length places.old.items) }
+    ensures { (heads.new.items, places.new.items) ≡ unlinked chain heads.old.items places.old.items spot.at spot.before }
+{
+    let next = places[spot.at as usize].next;
+    match spot.before {
+        Some(before) => places[before as usize].next = next,
+        None => heads[chain] = next,
+    }
+}
+
+/// Puts a place at the front of a chain, with this line and set.
+pub fn link(
+    heads: &mut Vec<u32>,
+    places: &mut Vec<Place>,
+    chain: usize,
+    at: u32,
+    line: u32,
+    nodes: NodeSet,
+)
+    requires chain { chain < length heads.old.items }
+    requires at { at < length places.old.items }
+    ensures heads { heads.new.items ≡ slice_set heads.old.items chain at }
+    ensures places { places.new.items ≡ slice_set places.old.items at (record { line = line; nodes = nodes; next = head_at heads.old.items chain }) }
+{
+    places[at as usize] = Place {
+        line,
+        nodes,
+        next: heads[chain],
+    };
+    heads[chain] = at;
 }

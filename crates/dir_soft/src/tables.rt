@@ -3,44 +3,64 @@ ghost use Rattle.alw_num.specs.NodeSets.{nodes_of, has_node, add_node, count_nod
 ghost use Rattle.alw_num.specs.Maps.{empty_map, value_at, with_value, without_value};
 ghost use Rattle.dir_soft.specs.Tables.{set_of_line, used_lines};
 
-use crate::places::{Place, find};
+use crate::places::{END, Place, Spot, find, link, unlink};
 use alw_num::{LineNo, MOST_NODES, NoMemory, NodeNo, NodeSet};
 use std::alloc::Global;
 use std::marker::Model;
 
 /// The software directory of a node (ASPLOS 1991, section 4): a map from lines to nonempty sets of
 /// nodes, with room for a fixed number of lines.
+///
+/// The sets stand in one pool of places, linked by index. A line's place is on the chain of its
+/// bucket, the line modulo the number of buckets; the free places are on a chain of their own, whose
+/// head stands behind the buckets'.
 #[derive(Debug, Drop)]
 pub struct SoftDir {
     lines: u32,
     buckets: u32,
-    pool: Vec<Place>,
+    used: u32,
+    heads: Vec<u32>,
+    places: Vec<Place>,
 }
 
 impl Model for SoftDir {
-    ghost use Rattle.std.specs.Prelude.{◌≤◌, length, vec_capacity};
     ghost use Rattle.dir_soft.specs.Tables.{Table};
-    ghost use Rattle.dir_soft.specs.Pools.{map_of, IsPool};
+    ghost use Rattle.dir_soft.specs.Pools.{contents, map_of, IsTable};
 
     ghost Value = { Table };
 
-    ghost view = { λ d. record { lines = d.lines; buckets = d.buckets; sets = map_of d.pool.items } };
+    ghost view = { λ d. record { lines = d.lines; buckets = d.buckets; sets = map_of (contents d.places.items) } };
 
-    ghost invariant = { λ d. IsPool d.pool.items × (d.lines ≤ vec_capacity d.pool) × (length d.pool.items ≤ d.lines) };
+    ghost invariant = { λ d. IsTable d.lines d.buckets d.used d.heads.items d.places.items };
 }
 
 impl SoftDir {
-    /// A table with room for so many lines, whose look-ups go by so many chains.
+    /// A table with room for so many lines, whose look-ups go by so many chains. It takes all the
+    /// memory that the table ever needs.
     pub fn room(alloc: Global, lines: u32, buckets: u32) -> Result<SoftDir, NoMemory>
         requires lines { 1 ≤ lines }
         requires buckets { 1 ≤ buckets }
         ensures { IfOk result (λ d. d ≡ record { lines = lines; buckets = buckets; sets = empty_map }) }
     {
-        let pool = Vec::with_capacity(alloc, lines as usize)?;
+        let mut places = Vec::with_capacity(alloc, lines as usize)?;
+        let nodes = NodeSet::empty();
+        let mut first = END;
+        for k in 0..lines {
+            places.push_reserved(Place {
+                line: 0,
+                nodes,
+                next: first,
+            });
+            first = k;
+        }
+        let mut heads = vec![in alloc; END; buckets as usize + 1]?;
+        heads[buckets as usize] = first;
         Ok(SoftDir {
             lines,
             buckets,
-            pool,
+            used: 0,
+            heads,
+            places,
         })
     }
 
@@ -50,20 +70,23 @@ impl SoftDir {
         requires room { value_at self.old.sets line.0 ≡ None → used_lines self.old < self.old.lines }
         ensures { self.new ≡ record self.old { sets = with_value self.old.sets line.0 (add_node (set_of_line self.old line.0) node.0) } }
     {
-        match find(&self.pool, line.0) {
-            Some(k) => {
-                let nodes = self.pool[k].nodes;
-                self.pool[k] = Place {
-                    line: line.0,
-                    nodes: nodes.with(node),
+        let bucket = (line.0 % self.buckets) as usize;
+        match find(&self.places, self.heads[bucket], line.0) {
+            Some(spot) => {
+                let place = self.places[spot.at as usize];
+                self.places[spot.at as usize] = Place {
+                    nodes: place.nodes.with(node),
+                    ..place
                 };
             }
             None => {
+                let free = self.buckets as usize;
+                let at = self.heads[free];
+                let spot = Spot { before: None, at };
+                unlink(&mut self.heads, &mut self.places, free, spot);
                 let nodes = NodeSet::empty().with(node);
-                self.pool.push_reserved(Place {
-                    line: line.0,
-                    nodes,
-                });
+                link(&mut self.heads, &mut self.places, bucket, at, line.0, nodes);
+                self.used += 1;
             }
         }
     }
@@ -72,8 +95,9 @@ impl SoftDir {
     pub fn set(&self, line: LineNo) -> NodeSet
         ensures { nodes_of result ≡ set_of_line self.now line.0 }
     {
-        match find(&self.pool, line.0) {
-            Some(k) => self.pool[k].nodes,
+        let bucket = (line.0 % self.buckets) as usize;
+        match find(&self.places, self.heads[bucket], line.0) {
+            Some(spot) => self.places[spot.at as usize].nodes,
             None => NodeSet::empty(),
         }
     }
@@ -98,8 +122,17 @@ impl SoftDir {
         ensures set { nodes_of result ≡ set_of_line self.old line.0 }
         ensures table { self.new ≡ record self.old { sets = without_value self.old.sets line.0 } }
     {
-        match find(&self.pool, line.0) {
-            Some(k) => self.pool.remove(k).nodes,
+        let bucket = (line.0 % self.buckets) as usize;
+        match find(&self.places, self.heads[bucket], line.0) {
+            Some(spot) => {
+                let nodes = self.places[spot.at as usize].nodes;
+                let free = self.buckets as usize;
+                unlink(&mut self.heads, &mut self.places, bucket, spot);
+                let nobody = NodeSet::empty();
+                link(&mut self.heads, &mut self.places, free, spot.at, 0, nobody);
+                self.used -= 1;
+                nodes
+            }
             None => NodeSet::empty(),
         }
     }
@@ -108,6 +141,6 @@ impl SoftDir {
     pub fn free(&self) -> u32
         ensures { result ≡ self.now.lines - used_lines self.now }
     {
-        self.lines - self.pool.len() as u32
+        self.lines - self.used
     }
 }

@@ -57,3 +57,37 @@ fn a_thousand_rounds_of_one_line(rt: HostRuntime) -> Result<(), Fail> {
     assert_eq!(rt; table.free(), 1);
     Ok(())
 }
+
+// Three chains of three lines each: places are taken from the front, the middle and the end of a chain,
+// and lines that come later get the places that became free.
+#[test]
+fn three_chains(rt: HostRuntime) -> Result<(), Fail> {
+    let mut table = SoftDir::room(rt.alloc(), 9, 3)?;
+    for line in 0..9 {
+        if table.free() > 0 {
+            table.add(LineNo(line), NodeNo(line as u16 + 200));
+        }
+    }
+    assert_eq!(rt; table.free(), 0);
+    for line in [3, 0, 6, 7, 1] {
+        let taken = table.take(LineNo(line));
+        assert!(rt; taken.has(NodeNo(line as u16 + 200)));
+        assert_eq!(rt; taken.count(), 1);
+        assert_eq!(rt; table.size(LineNo(line)), 0);
+    }
+    assert_eq!(rt; table.free(), 5);
+    for line in [30, 12, 0, 100] {
+        if table.free() > 0 {
+            table.add(LineNo(line), NodeNo(7));
+        }
+    }
+    assert_eq!(rt; table.free(), 1);
+    for line in [30, 12, 0, 100] {
+        assert!(rt; table.has(LineNo(line), NodeNo(7)));
+    }
+    for line in [2, 4, 5, 8] {
+        assert!(rt; table.has(LineNo(line), NodeNo(line as u16 + 200)));
+        assert_eq!(rt; table.size(LineNo(line)), 1);
+    }
+    Ok(())
+}

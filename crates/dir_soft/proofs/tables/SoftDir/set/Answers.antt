@@ -1,9 +1,18 @@
 -- The set at the line's place, or none.
-use Rattle.dir_soft.proofs.Pools.{set_seen, set_missing}
+use Rattle.dir_soft.proofs.Pools.{chain_is, IsLookUp, finds, misses, bucket-lt, set_seen, set_missing}
+use Rattle.std.proofs.Common.{arith}
 use Rattle.dir_soft.proofs.tables.SoftDir.set.Goals as goal
 
+pub find-requires : goal.find-requires
+find-requires c = rw (c.deref.ensures.value) (chain_is _ _ _ _ _ _ c.index.result.now c.self.invariant (omega (arith, bucket-lt c.args.line.0 c.self.inside.buckets c.self.invariant.some)) c.index.ensures)
+
 pub returns-in-Some : goal.returns-in-Some
-returns-in-Some c = rw (← c.self.view_is) (set_seen c.self.inside.pool.items c.args.line.0 c.in-Some.k c.index.result.now c.self.invariant.0 (rw c.deref.ensures.value at c.in-Some.ensures.found) c.index.ensures)
+returns-in-Some c =
+    let look : IsLookUp c.self.inside.places.items c.index.result.now c.args.line.0 c.in-Some.spot = rw (← c.deref.ensures.value) (record { found = c.in-Some.ensures.found; line_is = c.in-Some.ensures.line; within = c.in-Some.ensures.within }) in
+    let at = finds _ _ _ _ _ c.self.invariant c.args.line.0 c.index.result.now c.in-Some.spot c.index-in-Some.result.now c.index.ensures look c.index-in-Some.ensures in
+    rw (← c.self.view_is) (set_seen _ _ _ _ _ c.self.invariant c.args.line.0 c.in-Some.spot c.index-in-Some.result.now at)
 
 pub returns-in-None : goal.returns-in-None
-returns-in-None c = rw (← c.self.view_is) (set_missing c.self.inside.pool.items c.args.line.0 _ (rw c.deref.ensures.value at c.in-None.ensures.none) c.empty.ensures)
+returns-in-None c =
+    let none = misses _ _ _ _ _ c.self.invariant c.args.line.0 c.index.result.now c.index.ensures (rw c.deref.ensures.value at c.in-None.ensures.none) in
+    rw (← c.self.view_is) (set_missing c.self.inside.places.items c.args.line.0 _ none c.empty.ensures)

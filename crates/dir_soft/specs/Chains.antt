@@ -1,0 +1,75 @@
+-- Chains through a pool: each place names the next one of its chain by its index.
+use Rattle.std.specs.Prelude.{◌≡◌, ◌<◌, ◌≤◌, ℕ, zero, suc, false, ◌==◌, Option, Some, None, List, [], ◌∷◌, ◌++◌, length, slice_set}
+use Rattle.alw_num.specs.Weights.{digit, times}
+use Rattle.dir_soft.specs.declared.places.Place.{Place}
+use Rattle.dir_soft.specs.declared.places.Spot.{Spot}
+use Rattle.dir_soft.specs.declared.places.TheConstants.{END}
+
+-- what place k names as the next one
+abbrev pub next_at : List Place → ℕ → ℕ
+next_at [] k = END
+next_at (place ∷ rest) zero = place.next
+next_at (place ∷ rest) (suc k) = next_at rest k
+
+-- the line of place k
+abbrev pub line_at : List Place → ℕ → ℕ
+line_at [] k = 0
+line_at (place ∷ rest) zero = place.line
+line_at (place ∷ rest) (suc k) = line_at rest k
+
+-- the first place of a chain
+abbrev pub head_at : List ℕ → ℕ → ℕ
+head_at [] chain = END
+head_at (head ∷ rest) zero = head
+head_at (head ∷ rest) (suc chain) = head_at rest chain
+
+-- from place k on, the chain has these places and ends
+abbrev pub IsPath : List Place → ℕ → List ℕ → Type 0
+IsPath places k [] = k ≡ END
+IsPath places k (j ∷ js) = (k ≡ j) × (j < length places) × IsPath places (next_at places j) js
+
+-- From place k on there is a chain, with no more places than the pool, whose indices are all below the one that ends a chain.
+pub record IsChain (places : List Place) (k : ℕ) : Type 0 where
+  pub chain : List ℕ
+  pub path : IsPath places k chain
+  pub few : length chain ≤ length places
+  pub ends : length places ≤ END
+
+-- The places are on chains, and each is on the one that `tag` gives it, once, and on no other.
+pub record IsLinked (tag : ℕ → ℕ) (heads : List ℕ) (places : List Place) : Type 0 where
+  pub chains : ℕ → List ℕ
+  pub paths : (t : ℕ) → t < length heads → IsPath places (head_at heads t) (chains t)
+  pub each : (t j : ℕ) → t < length heads → times j (chains t) ≡ digit (tag j == t)
+
+-- the place before: none at the front
+abbrev pub IsBefore : Option ℕ → List ℕ → Type 0
+IsBefore None seen = seen ≡ []
+IsBefore (Some place) seen = (front : List ℕ) × (seen ≡ front ++ place ∷ [])
+
+-- the place before, if there is one, is in the pool
+abbrev pub IsBeforeWithin : Option ℕ → ℕ → Type 0
+IsBeforeWithin None count = Unit {0}
+IsBeforeWithin (Some place) count = place < count
+
+-- none of these places is the line's
+abbrev pub IsMissing : List Place → List ℕ → ℕ → Type 0
+IsMissing places js line = (j : ℕ) → 1 ≤ times j js → (line_at places j == line) ≡ false
+
+-- a spot is on a chain, behind the place that it names
+pub record IsSpot (places : List Place) (chain : List ℕ) (spot : Spot) : Type 0 where
+  pub seen : List ℕ
+  pub rest : List ℕ
+  pub whole : chain ≡ seen ++ spot.at ∷ rest
+  pub before : IsBefore spot.before seen
+  pub within : spot.at < length places
+
+-- the pool where a place names another next one
+abbrev pub with_next : List Place → ℕ → ℕ → List Place
+with_next [] k next = []
+with_next (place ∷ rest) zero next = record place { next = next } ∷ rest
+with_next (place ∷ rest) (suc k) next = place ∷ with_next rest k next
+
+-- the chains without the place at a spot
+abbrev pub unlinked : ℕ → List ℕ → List Place → ℕ → Option ℕ → List ℕ × List Place
+unlinked chain heads places at None = (slice_set heads chain (next_at places at), places)
+unlinked chain heads places at (Some before) = (heads, with_next places before (next_at places at))
