@@ -1,2 +1,4 @@
 pub mod Values
 pub mod FlatRuns
+pub mod Contexts
+pub mod Machines
