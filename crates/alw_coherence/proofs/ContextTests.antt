@@ -48,7 +48,7 @@ module _ (parts : Parts) (parameters : Parameters) where
 
   module _ (node : NodeState) (stands : NodeContexts parts parameters node) where
     -- the line that a slot waits on exists
-    waited_exists : (line : ℕ) → is_some (value_at node.transactions line) ≡ true → line < line_count parts
+    pub waited_exists : (line : ℕ) → is_some (value_at node.transactions line) ≡ true → line < line_count parts
     waited_exists line is = go (value_at node.transactions line) refl is
       where
         go : (o : Option Transaction) → value_at node.transactions line ≡ o → is_some o ≡ true → line < line_count parts

@@ -28,3 +28,7 @@ pub mod Greatest
 pub mod Bound
 pub mod MachineRuns
 pub mod MachineFacts
+pub mod MainEvents
+pub mod Progress
+pub mod Ends
+pub mod RunFacts

@@ -1,9 +1,13 @@
--- Contexts that have come to an end, and evictions.
+-- Contexts that have come to an end, machines that can go on, and evictions.
 use Rattle.std.specs.Prelude.{Bool, true, false}
+use Rattle.std.specs.List.{list_any}
 use Rattle.alw_msg.specs.declared.contexts.Status.{Status}
 use Rattle.alw_msg.specs.declared.contexts.Status.TheVariants.{Halted, Trapped}
 use Rattle.alw_msg.specs.declared.events.Event.{Event}
 use Rattle.alw_msg.specs.declared.events.Event.TheVariants.{Evict}
+use Rattle.alw_image.specs.declared.parts.Parts.{Parts}
+use Rattle.alw_image.specs.Parameters.{Parameters}
+use Rattle.alw_model.specs.Machine.{MachineState, is_enabled, main_events}
 
 -- a context has halted or is trapped: it takes no more turns
 abbrev pub has_ended : Status → Bool
@@ -15,3 +19,7 @@ has_ended _ = false
 abbrev pub is_evict : Event → Bool
 is_evict (Evict at set) = true
 is_evict _ = false
+
+-- a main event is enabled, the limit aside
+abbrev pub may_go_on : Parts → Parameters → MachineState → Bool
+may_go_on parts parameters machine = list_any (is_enabled parts parameters machine) (main_events parts)

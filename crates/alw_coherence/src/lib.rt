@@ -6,6 +6,7 @@ mod flat_laws;
 mod full_map_laws;
 mod line_laws;
 mod machine_laws;
+mod run_laws;
 mod standing_machine;
 
 pub use flat_laws::{memory_is_flat, same_turns_same_memory};
@@ -17,4 +18,5 @@ pub use line_laws::{
 pub use machine_laws::{
     clocks_are_small, holders_have_copies, machine_is_sound, waiting_has_a_transaction,
 };
+pub use run_laws::{ended_contexts_stay, never_stuck};
 pub use standing_machine::{entries_and_caches_stand, lines_are_sound};

@@ -1,0 +1,25 @@
+ghost use Rattle.std.specs.Prelude.{◌≡◌, ℕ, ◌<◌, false, Some, IsTrue};
+ghost use Rattle.alw_msg.specs.declared.events.Entry.{Entry};
+ghost use Rattle.alw_image.specs.Images.{node_count};
+ghost use Rattle.alw_model.specs.Contexts.{slot_at};
+ghost use Rattle.alw_model.specs.Machine.{node_at, step, has_halted, is_settled, end_of, Limit, IsNext};
+ghost use Rattle.alw_coherence.specs.Contexts.{has_ended, may_go_on};
+ghost use Rattle.alw_coherence.specs.Machines.{OnEveryMachine};
+
+/// No machine is stuck. While some context has neither halted nor trapped, a main event is enabled,
+/// the limit aside; and so it is while every context has halted and a message or a packet is left.
+/// So a run that ends by the limit has a main event enabled, which is beyond it.
+pub fn never_stuck()
+    ensures live { OnEveryMachine (λ parts parameters journal machine. (n slot : ℕ) → n < node_count parts →
+        has_ended (slot_at (node_at machine n).slots slot).status ≡ false → IsTrue (may_go_on parts parameters machine)) }
+    ensures unsettled { OnEveryMachine (λ parts parameters journal machine. IsTrue (has_halted machine) → is_settled machine ≡ false → IsTrue (may_go_on parts parameters machine)) }
+    ensures limit { OnEveryMachine (λ parts parameters journal machine. end_of parts parameters machine ≡ Some Limit → IsTrue (may_go_on parts parameters machine)) }
+{}
+
+/// A context that has halted or is trapped stays so, with its trap; and once every context has
+/// halted, every context has.
+pub fn ended_contexts_stay()
+    ensures status { OnEveryMachine (λ parts parameters journal machine. (entry : Entry) → IsNext parts parameters machine entry → (n slot : ℕ) → IsTrue (has_ended (slot_at (node_at machine n).slots slot).status) →
+        (slot_at (node_at (step parts parameters machine entry.event) n).slots slot).status ≡ (slot_at (node_at machine n).slots slot).status) }
+    ensures halted { OnEveryMachine (λ parts parameters journal machine. (entry : Entry) → IsNext parts parameters machine entry → IsTrue (has_halted machine) → IsTrue (has_halted (step parts parameters machine entry.event))) }
+{}
