@@ -56,7 +56,7 @@ module _ (parts : Parts) (parameters : Parameters) where
       small line = omega arith
 
   module _ (s : MachineState) (has : HasContexts parts parameters s) (times : HasTimes parts parameters s) where
-    cached_few : 1 ≤ parameters.sets → cached_of s ≤ node_count parts * parameters.sets
+    pub cached_few : 1 ≤ parameters.sets → cached_of s ≤ node_count parts * parameters.sets
     cached_few some =
         let all = weigh_most (λ (node : NodeState). length node.cache.entries) parameters.sets s.nodes no_node (λ i l. cache_few (node_at s i).cache (has.sound.standing.each i (subst (λ n. i < n) has.sound.standing.nodes l)).caches some) in
         let size = ap (λ n. n * parameters.sets) has.sound.standing.nodes in

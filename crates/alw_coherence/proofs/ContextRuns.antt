@@ -116,7 +116,7 @@ module _ (parts : Parts) (parameters : Parameters) (s : MachineState) (values : 
 
 -- ---- the start
 
-mapped : (P : Slot → Type 0) (f : ℕ → Slot) (low count i : ℕ) → ((k : ℕ) → P (f k)) → P no_slot → P (slot_at (map f (range_with_len low count)) i)
+pub mapped : (P : Slot → Type 0) (f : ℕ → Slot) (low count i : ℕ) → ((k : ℕ) → P (f k)) → P no_slot → P (slot_at (map f (range_with_len low count)) i)
 mapped P f low zero i each none = none
 mapped P f low (suc count) zero each none = each low
 mapped P f low (suc count) (suc i) each none = mapped P f (low + 1) count i each none

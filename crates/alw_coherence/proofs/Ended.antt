@@ -27,7 +27,7 @@ use Rattle.alw_model.proofs.Journals.{and_parts, and_is}
 use Rattle.alw_lift.specs.Standing.{IsStanding}
 use Rattle.alw_lift.proofs.Links.{read_set}
 use Rattle.alw_lift.proofs.Steps.{enabled_is}
-use Rattle.alw_coherence.specs.Contexts.{has_ended}
+use Rattle.alw_coherence.specs.Endings.{has_ended}
 use Rattle.alw_coherence.proofs.FlatSlots.{Chosen, runs_ready}
 use Rattle.alw_coherence.proofs.ContextFacts.{wake_at, hold_status}
 

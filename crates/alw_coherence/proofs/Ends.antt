@@ -12,7 +12,7 @@ use Rattle.alw_model.specs.Contexts.{Slot, slot_at, no_slot, is_halted, has_trap
 use Rattle.alw_model.specs.NodeStates.{NodeState}
 use Rattle.alw_model.specs.Machine.{MachineState, no_node, node_at, has_halted, is_settled, any_trapped, goes_on, end_of, End}
 use Rattle.alw_model.specs.Machine as machine
-use Rattle.alw_coherence.specs.Contexts.{has_ended, may_go_on}
+use Rattle.alw_coherence.specs.Endings.{has_ended, may_go_on}
 use Rattle.alw_coherence.proofs.MachineRuns.{IsKept}
 use Rattle.alw_coherence.proofs.Progress.{live_goes, unsettled_goes}
 

@@ -32,3 +32,6 @@ pub mod MainEvents
 pub mod Progress
 pub mod Ends
 pub mod RunFacts
+pub mod HoldEvents
+pub mod HoldCounts
+pub mod Lengths

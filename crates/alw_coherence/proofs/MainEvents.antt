@@ -17,7 +17,7 @@ use Rattle.alw_model.specs.Contexts.{Slot, slot_at, no_slot, is_ready, running}
 use Rattle.alw_model.specs.NodeStates.{node_of, may, may_deliver, is_nonempty}
 use Rattle.alw_model.specs.Machine.{MachineState, node_at, link_at, front, taken_by, is_enabled, main_events}
 use Rattle.alw_model.proofs.Journals.{and_is}
-use Rattle.alw_coherence.specs.Contexts.{may_go_on}
+use Rattle.alw_coherence.specs.Endings.{may_go_on}
 
 -- ---- lists
 

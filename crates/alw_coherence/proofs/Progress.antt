@@ -26,7 +26,7 @@ use Rattle.alw_line.proofs.Consequences.{moves}
 use Rattle.alw_lift.proofs.CacheSide.{old_part}
 use Rattle.alw_lift.proofs.Following.{home_below}
 use Rattle.alw_lift.proofs.Views.{seen_transaction}
-use Rattle.alw_coherence.specs.Contexts.{has_ended, may_go_on}
+use Rattle.alw_coherence.specs.Endings.{has_ended, may_go_on}
 use Rattle.alw_coherence.proofs.ContextTests.{waited_exists}
 use Rattle.alw_coherence.proofs.Sends.{MsgStands}
 use Rattle.alw_coherence.proofs.Timing.{each_front}

@@ -71,7 +71,7 @@ module _ (parts : Parts) where
         free true = refl
         free false = refl
 
-    stands_at_start : IsStanding parts parameters (machine_start parts)
+    pub stands_at_start : IsStanding parts parameters (machine_start parts)
     stands_at_start = record {
       nodes = length-map (range_with_len 0 (node_count parts)) _ ∙ length-range_with_len 0 (node_count parts);
       links = length-replicate (node_count parts * node_count parts) [];

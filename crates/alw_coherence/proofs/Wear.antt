@@ -32,7 +32,7 @@ use Rattle.alw_model.proofs.Journals.{and_parts}
 use Rattle.alw_lift.specs.Standing.{IsPacket}
 use Rattle.alw_lift.proofs.Taken.{split_front}
 use Rattle.alw_lift.proofs.Steps.{Fit, fit_is, enabled_is}
-use Rattle.alw_coherence.specs.Contexts.{is_evict}
+use Rattle.alw_coherence.specs.Endings.{is_evict}
 use Rattle.alw_coherence.proofs.FlatSlots.{runs_ready}
 use Rattle.alw_coherence.proofs.ContextRuns.{HasContexts}
 use Rattle.alw_coherence.proofs.Ended.{halted_at}

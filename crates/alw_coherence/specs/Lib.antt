@@ -1,4 +1,5 @@
 pub mod Values
 pub mod FlatRuns
-pub mod Contexts
+pub mod Endings
 pub mod Machines
+pub mod Holds

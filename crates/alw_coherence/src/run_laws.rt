@@ -1,9 +1,13 @@
-ghost use Rattle.std.specs.Prelude.{◌≡◌, ℕ, ◌<◌, false, Some, IsTrue};
+ghost use Rattle.std.specs.Prelude.{◌≡◌, ℕ, ◌+◌, ◌*◌, ◌<◌, ◌≤◌, false, Some, length, IsTrue};
+ghost use Rattle.std.specs.List.{AllByRecursion};
 ghost use Rattle.alw_msg.specs.declared.events.Entry.{Entry};
 ghost use Rattle.alw_image.specs.Images.{node_count};
 ghost use Rattle.alw_model.specs.Contexts.{slot_at};
 ghost use Rattle.alw_model.specs.Machine.{node_at, step, has_halted, is_settled, end_of, Limit, IsNext};
-ghost use Rattle.alw_coherence.specs.Contexts.{has_ended, may_go_on};
+ghost use Rattle.alw_model.specs.Runs.{moments};
+ghost use Rattle.alw_model.specs.Counts.{counts_of, count_holds};
+ghost use Rattle.alw_coherence.specs.Endings.{has_ended, may_go_on, EvictsInTime};
+ghost use Rattle.alw_coherence.specs.Holds.{UsesHold};
 ghost use Rattle.alw_coherence.specs.Machines.{OnEveryMachine};
 
 /// No machine is stuck. While some context has neither halted nor trapped, a main event is enabled,
@@ -22,4 +26,23 @@ pub fn ended_contexts_stay()
     ensures status { OnEveryMachine (λ parts parameters journal machine. (entry : Entry) → IsNext parts parameters machine entry → (n slot : ℕ) → IsTrue (has_ended (slot_at (node_at machine n).slots slot).status) →
         (slot_at (node_at (step parts parameters machine entry.event) n).slots slot).status ≡ (slot_at (node_at machine n).slots slot).status) }
     ensures halted { OnEveryMachine (λ parts parameters journal machine. (entry : Entry) → IsNext parts parameters machine entry → IsTrue (has_halted machine) → IsTrue (has_halted (step parts parameters machine entry.event))) }
+{}
+
+/// Replies are used: the RDATA and WDATA delivered are the turns that ended a hold and the holds
+/// that stand at the end. Each such turn needed the held line, and no slot with a hold misses.
+pub fn replies_are_used()
+    ensures count { OnEveryMachine (λ parts parameters journal machine.
+        (counts_of parts (moments parts parameters journal)).replies ≡ (counts_of parts (moments parts parameters journal)).used + count_holds machine) }
+    ensures accessed { OnEveryMachine (λ parts parameters journal machine. AllByRecursion (UsesHold parts) (moments parts parameters journal)) }
+{}
+
+/// Runs are bounded. With N nodes, K home lines a node and limit L, a legal journal that makes no
+/// eviction once every context has halted has at most N * L + 2 * N * K entries: before the last
+/// halt each entry raises its node's clock, which stays within L, and after it only REPMs are left.
+/// With evictions there are at most three more for each set of each node.
+pub fn runs_are_bounded()
+    ensures in_time { OnEveryMachine (λ parts parameters journal machine. EvictsInTime parts parameters journal →
+        length journal ≤ node_count parts * parameters.limit + 2 * (node_count parts * parts.per_node)) }
+    ensures any { OnEveryMachine (λ parts parameters journal machine.
+        length journal ≤ node_count parts * parameters.limit + (3 * (node_count parts * parameters.sets) + 2 * (node_count parts * parts.per_node))) }
 {}
