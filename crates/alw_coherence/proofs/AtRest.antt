@@ -63,7 +63,7 @@ repm_silent h i (REPM body) is = go h.state
 
 module _ (parts : Parts) (parameters : Parameters) (s : MachineState) (has : HasContexts parts parameters s) (halted : has_halted s ≡ true) where
   -- no transaction is open: its opener would wait
-  none_open : (n line : ℕ) → n < node_count parts → (o : Option Transaction) → value_at (node_at s n).transactions line ≡ o → o ≡ None
+  pub none_open : (n line : ℕ) → n < node_count parts → (o : Option Transaction) → value_at (node_at s n).transactions line ≡ o → o ≡ None
   none_open n line here None e = refl
   none_open n line here (Some t) e = absurd (halted_not_waiting line (slot_at (node_at s n).slots t.opener).status (halted_at s halted n t.opener) ((has.contexts n here).opened line t e).waits)
 

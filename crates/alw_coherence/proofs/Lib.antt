@@ -35,3 +35,4 @@ pub mod RunFacts
 pub mod HoldEvents
 pub mod HoldCounts
 pub mod Lengths
+pub mod HaltFacts

@@ -197,7 +197,7 @@ module _ (parts : Parts) (parameters : Parameters) (s : MachineState) (has : Has
     -- ---- by the kind of event
 
     -- no context runs
-    none_runs : (n : ℕ) (o : Option ℕ) → running (node_at s n).slots (node_at s n).current ≡ o → is_some o ≡ true → ⊥
+    pub none_runs : (n : ℕ) (o : Option ℕ) → running (node_at s n).slots (node_at s n).current ≡ o → is_some o ≡ true → ⊥
     none_runs n None e some = false≢true some
     none_runs n (Some slot) e some = ready_not_halted (slot_at (node_at s n).slots slot).status (runs_ready (node_at s n).slots (node_at s n).current slot e).passes (halted_at s halted n slot)
 

@@ -18,5 +18,7 @@ pub use line_laws::{
 pub use machine_laws::{
     clocks_are_small, holders_have_copies, machine_is_sound, waiting_has_a_transaction,
 };
-pub use run_laws::{ended_contexts_stay, never_stuck, replies_are_used, runs_are_bounded};
+pub use run_laws::{
+    ended_contexts_stay, halted_machines_rest, never_stuck, replies_are_used, runs_are_bounded,
+};
 pub use standing_machine::{entries_and_caches_stand, lines_are_sound};
