@@ -49,7 +49,7 @@ module _ (parts : Parts) where
   pub node_at_start : (n : ℕ) → n < node_count parts → node_at (machine_start parts) n ≡ node_start parts n
   node_at_start n here = get_or-map-range_with_len (node_start parts) 0 (node_count parts) n n _ here (omega arith)
 
-  link_at_start : (a b : ℕ) → link_at parts (machine_start parts) a b ≡ []
+  pub link_at_start : (a b : ℕ) → link_at parts (machine_start parts) a b ≡ []
   link_at_start a b = cases_lt_then (node_count parts * node_count parts) (link_place parts a b)
       (λ l. get_or-replicate (node_count parts * node_count parts) (link_place parts a b) [] [] l)
       (λ l. get_or_past _ (link_place parts a b) [] (rw (length-replicate {A = List Msg} (node_count parts * node_count parts) []) l))
@@ -71,7 +71,7 @@ module _ (parts : Parts) where
         free true = refl
         free false = refl
 
-    stands_at_start : IsStanding parts parameters (machine_start parts)
+    pub stands_at_start : IsStanding parts parameters (machine_start parts)
     stands_at_start = record {
       nodes = length-map (range_with_len 0 (node_count parts)) _ ∙ length-range_with_len 0 (node_count parts);
       links = length-replicate (node_count parts * node_count parts) [];

@@ -20,7 +20,7 @@ use Rattle.alw_lift.specs.Standing.{IsCache}
 use Rattle.alw_lift.proofs.Following.{home_below}
 use Rattle.alw_coherence.specs.Values.{IsSoundWith}
 
-all_of : {X : Type 0} (test : X → Bool) (xs : List X) → AllByRecursion (λ x. IsTrue (test x)) xs → IsTrue (list_all test xs)
+pub all_of : {X : Type 0} (test : X → Bool) (xs : List X) → AllByRecursion (λ x. IsTrue (test x)) xs → IsTrue (list_all test xs)
 all_of test [] all = refl
 all_of test (x ∷ rest) all = and_is (test x) (list_all test rest) all.0 (all_of test rest all.1)
 
@@ -44,7 +44,7 @@ module _ {X : Type 0} where
       behind key value e l = grind (arith, nat_tests)
 
   -- each entry of a map is what the map answers
-  each_entry : (P : ℕ × X → Type 0) (m : Map X) → ((key : ℕ) (value : X) → value_at m key ≡ Some value → P (key, value)) → AllByRecursion P m.entries
+  pub each_entry : (P : ℕ × X → Type 0) (m : Map X) → ((key : ℕ) (value : X) → value_at m key ≡ Some value → P (key, value)) → AllByRecursion P m.entries
   unfolding value_at
   each_entry P m each = each_found P 0 m.entries m.ascending each
 

@@ -1,2 +1,5 @@
 pub mod Values
 pub mod FlatRuns
+pub mod Endings
+pub mod Machines
+pub mod Holds
