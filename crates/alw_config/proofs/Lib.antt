@@ -1,0 +1,5 @@
+pub mod Lookups
+pub mod Spelled
+pub mod Stops
+pub mod UnderWay
+pub mod Whole

@@ -1,0 +1,13 @@
+use Rattle.std.proofs.Common.{◌≡◌, ℕ, true, false, map, string_bytes, IfOk, IfSome, MatchOption, MatchResult, ◌+◌, ◌-◌, ◌*◌, ◌<◌, ◌≤◌, length}
+use Rattle.alw_config.specs.Choices.{AreWithin}
+use Rattle.alw_config.proofs.UnderWay.{IsUnderWay}
+use Rattle.alw_config.proofs.options.options.Given as goal
+
+abbrev pub invariant-pairs : goal.invariant-pairs
+invariant-pairs l = record {
+  under_way : IsUnderWay l.name (map string_bytes l.words) (map string_bytes l.rest) l.chosen l.at;
+  within : AreWithin l.chosen;
+}
+
+abbrev pub decreases-pairs : goal.decreases-pairs
+decreases-pairs l = length l.rest

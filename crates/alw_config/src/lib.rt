@@ -1,0 +1,13 @@
+//! The command words: what the simulator is asked to do, or the first word that is refused.
+#![tactic(auto)]
+
+mod commands;
+mod numbers;
+mod options;
+mod words;
+
+pub use commands::{AsmForm, Command, Form, How, WordErr};
+pub use words::command;
+
+#[cfg(test)]
+mod tests;
