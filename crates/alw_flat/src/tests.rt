@@ -3,7 +3,7 @@ ghost use Rattle.alw_image.specs.Images.{context_count};
 
 use crate::Flat;
 use crate::machines::with_code;
-use alw_image::{Code, Image, read_first};
+use alw_image::{Code, Image, read_image};
 use alw_msg::Status;
 use sparc_exec::Outcome;
 use std::alloc::Global;
@@ -63,7 +63,7 @@ fn plays(flat: &mut Flat, wanted: &[Outcome]) -> bool
 
 #[test]
 fn smallest(rt: HostRuntime) -> Result<(), Fail> {
-    let read = read_first(rt.alloc(), &SMALLEST)?;
+    let read = read_image(rt.alloc(), &SMALLEST).ok();
     assert!(rt; read.is_some());
     if let Some(image) = read {
         assert!(rt; image.width() == 1 && image.height() == 1 && image.contexts() == 1);
@@ -76,7 +76,7 @@ fn smallest(rt: HostRuntime) -> Result<(), Fail> {
 
 #[test]
 fn link_to_itself(rt: HostRuntime) -> Result<(), Fail> {
-    let read = read_first(rt.alloc(), &SMALLEST)?;
+    let read = read_image(rt.alloc(), &SMALLEST).ok();
     assert!(rt; read.is_some());
     if let Some(image) = read {
         assert!(rt; image.width() == 1 && image.height() == 1 && image.contexts() == 1);
@@ -97,7 +97,7 @@ fn link_to_itself(rt: HostRuntime) -> Result<(), Fail> {
 // A program without a word traps at its first turn, and its context stays trapped.
 #[test]
 fn no_word_at_all(rt: HostRuntime) -> Result<(), Fail> {
-    let read = read_first(rt.alloc(), &SMALLEST)?;
+    let read = read_image(rt.alloc(), &SMALLEST).ok();
     assert!(rt; read.is_some());
     if let Some(image) = read {
         assert!(rt; image.width() == 1 && image.height() == 1 && image.contexts() == 1);

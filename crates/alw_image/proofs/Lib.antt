@@ -1,5 +1,3 @@
-pub mod Layouts
-pub mod Programs
 pub mod TableReads
 pub mod Members
 pub mod HeaderFields

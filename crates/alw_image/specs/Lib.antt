@@ -1,4 +1,3 @@
-pub mod First
 pub mod Images
 pub mod Parameters
 pub mod Faults

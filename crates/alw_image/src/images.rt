@@ -1,10 +1,8 @@
 ghost use Rattle.std.specs.Prelude.{◌≡◌, ◌<◌, ◌≤◌, ◌*◌, ◌+◌, ◌/◌, ◌%◌, ◌↔◌, length, IfOk, IfSome, IsSome};
-ghost use Rattle.alw_image.specs.First.{IsAtWord, plain_parts};
 
 use crate::checks::is_image;
-use crate::parts::{Bodies, Code, LineList, Parts, Starts};
-use alw_num::{Line, LineNo, NoMemory, NodeNo};
-use std::alloc::Global;
+use crate::parts::{Code, Parts};
+use alw_num::{Line, LineNo, NoMemory};
 use std::marker::Model;
 
 /// An image: parts that are within their ranges and in order. Contracts see the parts.
@@ -144,32 +142,4 @@ impl Image {
     {
         self.parts.always.members().binary_search(&line.0).is_ok()
     }
-}
-
-// The image of one node and one context with these lines, this program and this one start.
-pub fn plain_image(
-    alloc: Global,
-    per_node: u16,
-    code: Code,
-    address: u32,
-) -> Result<Image, NoMemory>
-    requires lines { (1 ≤ per_node) × (per_node ≤ 4096) }
-    requires code { (1 ≤ length code) × (length code ≤ 4096) }
-    requires start { IsAtWord (length code) address }
-    ensures { IfOk result (λ image. image ≡ plain_parts per_node code address) }
-{
-    let mut starts = Starts::empty(alloc);
-    starts.push((NodeNo(0), 0, address))?;
-    Ok(Image {
-        parts: Parts {
-            width: 1,
-            height: 1,
-            contexts: 1,
-            per_node,
-            code,
-            bodies: Bodies::empty(alloc),
-            starts,
-            always: LineList::empty(alloc),
-        },
-    })
 }

@@ -3,7 +3,6 @@
 
 mod checks;
 mod faults;
-mod first;
 mod headers;
 mod images;
 mod laws;
@@ -15,7 +14,6 @@ mod tables;
 mod writing;
 
 pub use faults::ImageErr;
-pub use first::read_first;
 pub use images::Image;
 pub use laws::images_are_read;
 pub use parameters::Params;

@@ -1,6 +1,6 @@
 -- No member so far is out of range or out of order.
 use Rattle.std.proofs.Common.{◌≡◌, ◌+◌, ◌*◌, drop, None}
-use Rattle.alw_image.specs.Faults.{fits_body, fits_start, fits_line, body_key, line_key, table_fault}
+use Rattle.alw_image.specs.Faults.{fits_body, body_key, table_fault}
 use Rattle.alw_image.proofs.checks.bodies_fault.Given as goal
 
 abbrev pub invariant-loop-body : goal.invariant-loop-body

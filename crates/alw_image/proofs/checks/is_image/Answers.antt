@@ -1,5 +1,4 @@
-use Rattle.std.proofs.Common.{◌≡◌, sym, ap, ◌∙◌, IsTrue, false, true, None}
-use Rattle.alw_image.specs.Sizes.{has_sizes}
+use Rattle.std.proofs.Common.{◌≡◌, sym, ◌∙◌, false, true}
 use Rattle.alw_image.proofs.Checked.{has_sizes_of, image_sizes, tested}
 use Rattle.alw_image.proofs.checks.is_image.Goals as goal
 

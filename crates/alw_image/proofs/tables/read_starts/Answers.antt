@@ -1,4 +1,4 @@
-use Rattle.std.proofs.Common.{ap, ◌≤◌, arith}
+use Rattle.std.proofs.Common.{arith}
 use Rattle.alw_image.specs.Images.{start_bytes}
 use Rattle.alw_image.specs.Faults.{start_of_bytes}
 use Rattle.alw_image.specs.TableReads.{IsSlot}

@@ -1,4 +1,4 @@
-use Rattle.std.proofs.Common.{ap, ◌≤◌, arith}
+use Rattle.std.proofs.Common.{arith}
 use Rattle.std.specs.Int.{w32, to_be_bytes}
 use Rattle.alw_image.specs.Faults.{word_of}
 use Rattle.alw_image.specs.TableReads.{IsAny}

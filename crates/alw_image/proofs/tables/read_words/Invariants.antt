@@ -1,9 +1,8 @@
 -- So many members are read, and the rest is to come.
 use Rattle.std.proofs.Common.{length}
 use Rattle.std.specs.Int.{w32, to_be_bytes}
-use Rattle.alw_image.specs.Images.{data_line, start_bytes}
-use Rattle.alw_image.specs.Faults.{word_of, body_of_bytes, start_of_bytes}
-use Rattle.alw_image.specs.TableReads.{IsAny, IsSlot}
+use Rattle.alw_image.specs.Faults.{word_of}
+use Rattle.alw_image.specs.TableReads.{IsAny}
 use Rattle.alw_image.proofs.TableReads.{IsRead}
 use Rattle.alw_image.proofs.tables.read_words.Given as goal
 

@@ -1,7 +1,6 @@
 -- What is written so far, and what is left to write, is the whole.
 use Rattle.std.proofs.Common.{◌≡◌, ◌++◌, drop}
-use Rattle.std.specs.List.{flat_map}
-use Rattle.alw_image.specs.Images.{words, data_line, start_bytes}
+use Rattle.alw_image.specs.Images.{words}
 use Rattle.alw_image.proofs.writing.put_words.Given as goal
 
 abbrev pub invariant-loop-word : goal.invariant-loop-word
