@@ -1,4 +1,3 @@
-pub mod Examples
 pub mod Grammar
 pub mod InstrWords
 pub mod Passes
