@@ -3,6 +3,7 @@ pub mod Expressions
 pub mod Lexemes
 pub mod Mnemonics
 pub mod Names
+pub mod Ranges
 pub mod Sources
 pub mod Statements
 pub mod Values

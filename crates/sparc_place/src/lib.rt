@@ -11,7 +11,7 @@ mod steps;
 
 pub use cursors::{Cursor, Place, Places};
 pub use marks::Marks;
-pub use passes::{Laid, lay_out};
+pub use passes::{Laid, fault_at, lay_out};
 pub use plans::Plan;
 pub use sizes::Sizes;
 
