@@ -1,6 +1,9 @@
+pub mod Allowed
 pub mod Coded
 pub mod Gathering
 pub mod Growth
+pub mod Rising
 pub mod Spellings
+pub mod Starts
 pub mod Tables
 pub mod Walks
