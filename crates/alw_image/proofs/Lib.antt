@@ -1,2 +1,11 @@
 pub mod Layouts
 pub mod Programs
+pub mod TableReads
+pub mod Members
+pub mod HeaderFields
+pub mod Orders
+pub mod Checked
+pub mod Readings
+pub mod Pieces
+pub mod Spelled
+pub mod Searches

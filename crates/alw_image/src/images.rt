@@ -1,7 +1,7 @@
-ghost use Rattle.std.specs.Prelude.{◌≡◌, ◌<◌, ◌≤◌, ◌*◌, ◌+◌, ◌/◌, ◌%◌, length, IfOk};
-ghost use Rattle.alw_image.specs.Images.{body_in};
+ghost use Rattle.std.specs.Prelude.{◌≡◌, ◌<◌, ◌≤◌, ◌*◌, ◌+◌, ◌/◌, ◌%◌, ◌↔◌, length, IfOk, IfSome, IsSome};
 ghost use Rattle.alw_image.specs.First.{IsAtWord, plain_parts};
 
+use crate::checks::is_image;
 use crate::parts::{Bodies, Code, LineList, Parts, Starts};
 use alw_num::{Line, LineNo, NoMemory, NodeNo};
 use std::alloc::Global;
@@ -25,6 +25,50 @@ impl Model for Image {
 }
 
 impl Image {
+    /// The image of these parts. None exactly where no image has them.
+    pub fn from_parts(parts: Parts) -> Option<Image>
+        ensures same { IfSome result (λ image. image ≡ parts) }
+        ensures allowed { IsSome result ↔ IsImage parts }
+    {
+        if is_image(&parts) {
+            Some(Image { parts })
+        } else {
+            None
+        }
+    }
+
+    /// The same image, in memory of its own.
+    pub fn copy(&self) -> Result<Image, NoMemory>
+        ensures { IfOk result (λ copy. copy ≡ self.now) }
+    {
+        let parts = Parts {
+            width: self.parts.width,
+            height: self.parts.height,
+            contexts: self.parts.contexts,
+            per_node: self.parts.per_node,
+            code: self.parts.code.copy()?,
+            bodies: self.parts.bodies.copy()?,
+            starts: self.parts.starts.copy()?,
+            always: self.parts.always.copy()?,
+        };
+        Ok(Image { parts })
+    }
+
+    // The parts.
+    pub fn parts(&self) -> &Parts
+        ensures { result.now ≡ self.now }
+    {
+        &self.parts
+    }
+
+    // The image of parts that are known to be one's.
+    pub fn checked(parts: Parts) -> Image
+        requires { IsImage parts }
+        ensures { result ≡ parts }
+    {
+        Image { parts }
+    }
+
     ghost use Rattle.alw_image.specs.Images.{IsImage, line_count, context_count, body_of, started_at, is_always};
 
     /// Columns of the mesh.
@@ -68,7 +112,11 @@ impl Image {
         requires { line.0 < line_count self.now }
         ensures { result ≡ body_of self.now line.0 }
     {
-        listed_body(self.parts.bodies.members(), line.0)
+        let bodies = self.parts.bodies.members();
+        match bodies.binary_search_by_key(&line.0, |listed| listed.0.0) {
+            Ok(place) => bodies[place].1,
+            Err(_) => Line::ZERO,
+        }
     }
 
     /// The address at which a context starts. None exactly where the image has no start for it.
@@ -93,11 +141,7 @@ impl Image {
         requires { line.0 < line_count self.now }
         ensures { result ≡ is_always self.now line.0 }
     {
-        self.parts
-            .always
-            .members()
-            .iter()
-            .any(|listed| line.0 == *listed)
+        self.parts.always.members().binary_search(&line.0).is_ok()
     }
 }
 
@@ -127,16 +171,4 @@ pub fn plain_image(
             always: LineList::empty(alloc),
         },
     })
-}
-
-// The bytes that data lines give a line.
-fn listed_body(bodies: &[(LineNo, Line)], number: u32) -> Line
-    ensures { result ≡ body_in bodies.now number }
-{
-    for (line, body) in bodies {
-        if line.0 == number {
-            return *body;
-        }
-    }
-    Line::ZERO
 }

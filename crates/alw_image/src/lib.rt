@@ -1,13 +1,24 @@
 //! Images: a mesh's sizes, its code, its first data and its contexts' starts.
 #![tactic(auto)]
 
+mod checks;
+mod faults;
 mod first;
+mod headers;
 mod images;
+mod laws;
 mod parameters;
 mod parts;
 mod readers;
+mod reading;
+mod tables;
+mod writing;
 
+pub use faults::ImageErr;
 pub use first::read_first;
 pub use images::Image;
+pub use laws::images_are_read;
 pub use parameters::Params;
 pub use parts::{Bodies, Code, LineList, Parts, Starts};
+pub use reading::read_image;
+pub use writing::write_image;

@@ -1,4 +1,4 @@
-ghost use Rattle.std.specs.Prelude.{◌≡◌, ◌≢◌, ◌<◌, ◌^◌, ◌++◌, List, ℕ, length, IfSome, IfNone, MatchOption};
+ghost use Rattle.std.specs.Prelude.{◌≡◌, ◌≢◌, ◌<◌, ◌^◌, ◌++◌, ◌∷◌, List, ℕ, length, IfSome, IfNone, MatchOption};
 ghost use Rattle.std.specs.Int.{w16, w32, to_be_bytes};
 
 // What follows these bytes at the front. None exactly where they don't stand there.
@@ -37,4 +37,14 @@ pub fn word_at(bytes: &[u8]) -> Option<(u32, &[u8])>
         u32::from_be_bytes([front[0], front[1], front[2], front[3]]),
         rest,
     ))
+}
+
+// The first byte, and what follows it. None exactly where there is none.
+pub fn byte_at(bytes: &[u8]) -> Option<(u8, &[u8])>
+    ensures found { IfSome result (λ read. bytes.now ≡ read.0 ∷ read.1.now) }
+    ensures range { IfSome result (λ read. read.0 < 256) }
+    ensures none { IfNone result (length bytes.now < 1) }
+{
+    let (first, rest) = bytes.split_first()?;
+    Some((*first, rest))
 }

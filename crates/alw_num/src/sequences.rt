@@ -1,4 +1,4 @@
-ghost use Rattle.std.specs.Prelude.{◌≡◌, ◌<◌, ◌-◌, ◌^◌, ◌↔◌, ◌++◌, [], ◌∷◌, length, slice_get, Some, IsTrue, OnOk, OnErr, MatchOption};
+ghost use Rattle.std.specs.Prelude.{◌≡◌, ◌<◌, ◌-◌, ◌^◌, ◌↔◌, ◌++◌, [], ◌∷◌, length, slice_get, Some, IsTrue, IfOk, OnOk, OnErr, MatchOption};
 
 use crate::memory::NoMemory;
 use std::alloc::Global;
@@ -81,6 +81,17 @@ impl<T> Sequence<T> {
     {
         self.items.push(member)?;
         Ok(())
+    }
+
+    /// The same list, in memory of its own.
+    pub fn copy(&self) -> Result<Self, NoMemory>
+    where
+        T: Copy,
+        ensures { IfOk result (λ copy. copy ≡ self.now) }
+    {
+        let mut items = Vec::with_capacity(*self.items.allocator(), self.items.len())?;
+        items.extend_from_slice(&self.items)?;
+        Ok(Sequence { items })
     }
 
     /// Takes the last member off. None exactly where the list is empty.

@@ -102,6 +102,8 @@ fn lists_give_back_what_was_pushed(rt: HostRuntime) -> Result<(), Fail> {
     assert_eq!(rt; words.at(0), 7);
     assert_eq!(rt; *words.at_ref(1), 9);
     assert_eq!(rt; words.words(), words.members());
+    let copy = words.copy()?;
     assert_eq!(rt; words.pop(), Some(9));
+    assert_eq!(rt; copy.words(), [7, 9].as_slice());
     Ok(())
 }

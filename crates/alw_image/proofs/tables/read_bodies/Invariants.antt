@@ -1,0 +1,14 @@
+-- So many members are read, and the rest is to come.
+use Rattle.std.proofs.Common.{length}
+use Rattle.std.specs.Int.{w32, to_be_bytes}
+use Rattle.alw_image.specs.Images.{data_line, start_bytes}
+use Rattle.alw_image.specs.Faults.{word_of, body_of_bytes, start_of_bytes}
+use Rattle.alw_image.specs.TableReads.{IsAny, IsSlot}
+use Rattle.alw_image.proofs.TableReads.{IsRead}
+use Rattle.alw_image.proofs.tables.read_bodies.Given as goal
+
+abbrev pub invariant-loop-body : goal.invariant-loop-body
+invariant-loop-body l = IsRead body_of_bytes data_line IsAny 20 l.count l.bytes l.bodies l.rest
+
+abbrev pub decreases-loop-body : goal.decreases-loop-body
+decreases-loop-body l = length l.rest
