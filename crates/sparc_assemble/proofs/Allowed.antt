@@ -83,8 +83,8 @@ node_rises starts slots node =
     let to : node * slots + slots ≡ suc node * slots = sym (suc-mul node slots) in
     let all = rises_gathered (λ slot. map (λ (s : NodeNo × ℕ × ℕ). s.0.0 * slots + s.1) (start_at starts node slot)) (λ slot. node * slots + slot) (one_start starts slots node) slots in
     subst (λ xs. Rises (node * slots) (suc node * slots) xs) (sym (map_gathered (λ (s : NodeNo × ℕ × ℕ). s.0.0 * slots + s.1) (start_at starts node) slots))
-      (subst (λ high. Rises (node * slots) high (gathered (λ slot. map (λ (s : NodeNo × ℕ × ℕ). s.0.0 * slots + s.1) (start_at starts node slot)) slots)) to
-      (subst (λ low. Rises low (node * slots + slots) (gathered (λ slot. map (λ (s : NodeNo × ℕ × ℕ). s.0.0 * slots + s.1) (start_at starts node slot)) slots)) from all))
+    (subst (λ high. Rises (node * slots) high (gathered (λ slot. map (λ (s : NodeNo × ℕ × ℕ). s.0.0 * slots + s.1) (start_at starts node slot)) slots)) to
+    (subst (λ low. Rises low (node * slots + slots) (gathered (λ slot. map (λ (s : NodeNo × ℕ × ℕ). s.0.0 * slots + s.1) (start_at starts node slot)) slots)) from all))
 
 starts_rise : (starts : ℕ → ℕ → Option ℕ) (nodes slots : ℕ) → IsStrictlyIncreasing (map (λ (s : NodeNo × ℕ × ℕ). s.0.0 * slots + s.1) (starts_of starts nodes slots))
 starts_rise starts nodes slots =

@@ -1,5 +1,6 @@
 pub mod Allowed
 pub mod Coded
+pub mod Examples
 pub mod Gathering
 pub mod Growth
 pub mod Rising
@@ -7,3 +8,4 @@ pub mod Spellings
 pub mod Starts
 pub mod Tables
 pub mod Walks
+pub mod Whole

@@ -1,5 +1,5 @@
 -- The third pass, where all names are known, and the image of a source with the line of each of its code words.
-use Rattle.std.specs.Prelude.{ℕ, zero, suc, ◌+◌, ◌-◌, ◌*◌, ◌%◌, ◌^◌, ◌==◌, ◌&&◌, Bool, false, not, if◌then◌else◌, nat_lt, nat_le, List, [], ◌∷◌, ◌++◌, length, map, slice_index, Option, Some, None, is_none, Result, Ok, Err}
+use Rattle.std.specs.Prelude.{◌≡◌, ℕ, zero, suc, ◌+◌, ◌-◌, ◌*◌, ◌%◌, ◌^◌, ◌==◌, ◌&&◌, Bool, false, not, if◌then◌else◌, nat_lt, nat_le, List, [], ◌∷◌, ◌++◌, length, map, slice_index, Option, Some, None, is_none, Result, Ok, Err, ⊤}
 use Rattle.std.specs.Option.{option_map_or}
 use Rattle.std.specs.List.{list_any, flat_map}
 use Rattle.std.specs.Int.{w8, w16, w32, to_be_bytes, from_be_bytes}
@@ -25,6 +25,7 @@ use Rattle.sparc_asm.specs.Encoding.{coded}
 use Rattle.sparc_asm.specs.Sources.{read_source}
 use Rattle.sparc_asm.specs.Words.{coded_words}
 use Rattle.sparc_place.specs.declared.cursors.Place.{Place}
+use Rattle.sparc_assemble.specs.declared.assembling.Assembled.{Assembled}
 use Rattle.sparc_place.specs.Sizes.{size_of}
 use Rattle.sparc_place.specs.Places.{Layout, nothing_laid, node_count, line_count, fault_at, places, places_of}
 
@@ -202,28 +203,28 @@ parts_of l f = record {
   always = gathered (always_at l.always) (line_count l);
 }
 
--- an image, and the source line of each code word
-pub record Whole : Type 0 where
-  pub image : Parts
-  pub lines : List ℕ
-
 -- a source without a code word is Range at line 0
-abbrev pub whole_of : Layout → Filled → Result Whole AsmErr
+abbrev pub whole_of : Layout → Filled → Result Assembled AsmErr
 whole_of l f = if l.code == 0 then Err (error.Range 0) else Ok (record { image = parts_of l f; lines = map (λ w. w.1) f.words })
 
-abbrev pub after_values : Option AsmErr → Result Whole AsmErr → Result Whole AsmErr
+abbrev pub after_values : Option AsmErr → Result Assembled AsmErr → Result Assembled AsmErr
 after_values None found = found
 after_values (Some e) found = Err e
 
 -- what follows the second pass, with the places that it gives the lines
-abbrev pub after_places : List Place → List Line → Result Layout AsmErr → Result Whole AsmErr
+abbrev pub after_places : List Place → List Line → Result Layout AsmErr → Result Assembled AsmErr
 after_places ps lines (Err e) = Err e
 after_places ps lines (Ok l) = after_values (values_fault l.names l.code 1 ps lines) (whole_of l (all_filled l.names 1 ps lines nothing_filled))
 
-abbrev pub after_lines : Result (List Line) AsmErr → Result Whole AsmErr
+abbrev pub after_lines : Result (List Line) AsmErr → Result Assembled AsmErr
 after_lines (Err e) = Err e
 after_lines (Ok lines) = after_places (places_of nothing_laid lines) lines (places 1 nothing_laid lines)
 
 -- what a source is assembled to: its image and the line of each code word, or the fault that decides
-unfoldable pub assembled : List ℕ → Result Whole AsmErr
+unfoldable pub assembled : List ℕ → Result Assembled AsmErr
 assembled source = after_lines (read_source source)
+
+-- an answer is the wanted one, or memory was refused
+abbrev pub Answers : Result Assembled AsmErr → Result Assembled AsmErr → Type 0
+Answers wanted (Err error.NoMemory) = ⊤
+Answers wanted answer = wanted ≡ answer

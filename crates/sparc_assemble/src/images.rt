@@ -156,8 +156,8 @@ fn code_of(alloc: Global, words: &Sequence<(u32, u32)>) -> Result<Code, NoMemory
     Ok(code)
 }
 
-// The source lines of a program's words.
-fn lines_of(alloc: Global, words: &Sequence<(u32, u32)>) -> Result<LineList, NoMemory>
+/// The source lines of a program's words.
+pub(crate) fn lines_of(alloc: Global, words: &Sequence<(u32, u32)>) -> Result<LineList, NoMemory>
     ensures { IfOk result (λ lines. lines ≡ map (λ word. word.1) words.now) }
 {
     let mut lines = LineList::empty(alloc);
@@ -166,4 +166,26 @@ fn lines_of(alloc: Global, words: &Sequence<(u32, u32)>) -> Result<LineList, NoM
         lines.push(number)?;
     }
     Ok(lines)
+}
+
+/// The parts of the image that lines have laid down and filled in.
+pub(crate) fn parts_of(alloc: Global, plan: &Plan, filling: &Filling) -> Result<Parts, NoMemory>
+    ensures { IfOk result (λ parts. parts ≡ parts_of (layout_of plan.now) (filled_of filling.now)) }
+{
+    let sizes = plan.sizes();
+    let count = sizes.lines();
+    let code = code_of(alloc, &filling.words)?;
+    let bodies = bodies_of(alloc, &filling.memory, count)?;
+    let starts = some_starts(alloc, &filling.starts, sizes.nodes(), sizes.slots())?;
+    let always = always_of(alloc, plan, count)?;
+    Ok(Parts {
+        width: sizes.width.unwrap_or(1),
+        height: sizes.height.unwrap_or(1),
+        contexts: sizes.contexts.unwrap_or(1),
+        per_node: sizes.per_node.unwrap_or(1),
+        code,
+        bodies,
+        starts,
+        always,
+    })
 }

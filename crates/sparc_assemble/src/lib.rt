@@ -2,10 +2,15 @@
 #![tactic(auto)]
 
 mod addresses;
+mod assembling;
 mod data;
 mod fillings;
 mod images;
 mod memory;
 mod refusals;
 
+pub use assembling::{Assembled, assemble};
 pub use fillings::{Filling, fill_in};
+
+#[cfg(test)]
+mod tests;
