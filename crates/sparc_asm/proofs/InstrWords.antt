@@ -6,7 +6,7 @@ use Rattle.sparc_table.specs.declared.instructions.Operand.TheVariants.{Reg, Imm
 use Rattle.sparc_table.specs.declared.instructions.Instr.{Instr}
 use Rattle.sparc_table.specs.declared.instructions.Instr.TheVariants.{Call, Sethi, Branch, Arith, Shift, ReadY, WriteY, Jmpl, TrapOn, Memory}
 use Rattle.sparc_table.specs.Table.{is_in, arithmetic, shifts, accesses, FitsOperand, Fits, IsFormat3, IsSpelled}
-use Rattle.sparc_asm.specs.Assembly.{format_3, instr_word}
+use Rattle.sparc_asm.specs.Words.{format_3, instr_word}
 
 abbrev all_small : List ℕ → Bool
 all_small [] = true

@@ -18,7 +18,7 @@ use Rattle.sparc_asm.specs.Values.{value_of, above, is_between, modulo, quarter}
 
 infixl 10 ◌>>=◌
 -- what the next step makes of what the last one found
-abbrev ◌>>=◌ : {A B : Type 0} → Result A Fault → (A → Result B Fault) → Result B Fault
+abbrev pub ◌>>=◌ : {A B : Type 0} → Result A Fault → (A → Result B Fault) → Result B Fault
 Err fault >>= next = Err fault
 Ok x >>= next = next x
 

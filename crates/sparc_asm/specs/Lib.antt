@@ -1,10 +1,10 @@
-pub mod Assembly
 pub mod Encoding
 pub mod Expressions
 pub mod Lexemes
 pub mod Mnemonics
 pub mod Names
-pub mod Places
+pub mod Ranges
 pub mod Sources
 pub mod Statements
 pub mod Values
+pub mod Words

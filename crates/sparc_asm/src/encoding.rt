@@ -3,7 +3,7 @@ ghost use Rattle.sparc_asm.specs.Names.{value_in};
 ghost use Rattle.sparc_asm.specs.Values.{above, below};
 ghost use Rattle.sparc_asm.specs.Encoding.{known, between, number_of, word_of, immediate, operand_of, target_of, aligned, ahead, call_distance, branch_distance, plain_operand, set_word, HasOperand, coded};
 ghost use Rattle.sparc_table.specs.Table.{Fits};
-ghost use Rattle.sparc_asm.specs.Assembly.{instr_word};
+ghost use Rattle.sparc_asm.specs.Words.{instr_word};
 
 use crate::faults::Fault;
 use crate::names::Names;

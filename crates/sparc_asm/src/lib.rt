@@ -18,6 +18,7 @@ pub use faults::{AsmErr, Fault};
 pub use names::{Name, Names, Value};
 pub use sources::read_source;
 pub use statements::{Address, Expression, Line, Lines, Signed, Source, Statement, Term};
+pub use values::{Sum, value_of};
 
 #[cfg(test)]
 mod tests;

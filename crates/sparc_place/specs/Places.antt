@@ -4,6 +4,7 @@ use Rattle.std.specs.List.{list_any}
 use Rattle.std.specs.Str.{bytes_eq}
 use Rattle.alw_num.specs.declared.addresses.Width.{Width}
 use Rattle.alw_num.specs.declared.addresses.Width.TheVariants.{Byte, Half, Word}
+use Rattle.alw_num.specs.Lanes.{bytes_in}
 use Rattle.sparc_asm.specs.declared.names.Value.{Value}
 use Rattle.sparc_asm.specs.declared.values.Sum.{Sum}
 use Rattle.sparc_asm.specs.declared.faults.Fault.{Fault}
@@ -15,6 +16,9 @@ use Rattle.sparc_asm.specs.declared.statements.Statement.{Statement}
 use Rattle.sparc_asm.specs.declared.statements.Statement.TheVariants.{Set, Mesh, Contexts, Lines, Text, Shared, Data, Skip, Align, Equ, Start, Always}
 use Rattle.sparc_asm.specs.declared.statements.Line.{Line}
 use Rattle.sparc_asm.specs.Values.{value_of, above, below, is_between}
+use Rattle.sparc_place.specs.declared.cursors.Place.{Place}
+use Rattle.sparc_place.specs.Marks.{any_below}
+use Rattle.sparc_place.specs.Sizes.{size_of}
 
 -- ---- what the lines so far have laid down
 
@@ -32,11 +36,12 @@ pub record Layout : Type 0 where
   pub code : ℕ
   -- the place in shared data, from its first byte
   pub shared : ℕ
-  -- written bytes of shared data: where they begin, and how many
-  pub written : List (ℕ × ℕ)
-  -- contexts with a start: node and slot
-  pub started : List (ℕ × ℕ)
-  pub always : List ℕ
+  -- the bytes of shared data that are written
+  pub written : ℕ → Bool
+  -- the contexts with a start, by node and slot
+  pub started : ℕ → ℕ → Bool
+  -- the Trap-Always lines
+  pub always : ℕ → Bool
 
 -- nothing is laid down
 abbrev pub nothing_laid : Layout
@@ -50,14 +55,10 @@ nothing_laid = record {
   in_data = false;
   code = 0;
   shared = 0;
-  written = [];
-  started = [];
-  always = [];
+  written = λ place. false;
+  started = λ node slot. false;
+  always = λ line. false;
 }
-
--- sizes that no directive gives are 1
-abbrev pub size_of : Option ℕ → ℕ
-size_of size = unwrap_or size 1
 
 abbrev pub node_count : Layout → ℕ
 node_count l = size_of l.width * size_of l.height
@@ -87,13 +88,17 @@ early (Start node slot address) = node ∷ slot ∷ []
 early (Always line) = line ∷ []
 early _ = []
 
+-- the value of an expression at a layout: None where one of its names is defined on no earlier line
+abbrev pub value_at : Layout → List Signed → Option Sum
+value_at l e = value_of l.names (here_of l) e
+
 -- one of the names is defined on no earlier line
 abbrev pub is_unknown : Layout → Statement → Bool
-is_unknown l s = list_any (λ e. is_none (value_of l.names (here_of l) e)) (early s)
+is_unknown l s = list_any (λ e. is_none (value_at l e)) (early s)
 
 -- the value of an expression whose names are known
 abbrev pub valued : Layout → List Signed → Sum
-valued l e = unwrap_or (value_of l.names (here_of l) e) (record { plus = 0; minus = 0 })
+valued l e = unwrap_or (value_at l e) (record { plus = 0; minus = 0 })
 
 -- a number from 1 to a greatest one
 abbrev pub is_size : ℕ → Sum → Bool
@@ -105,30 +110,13 @@ is_index count s = (below s == 0) && nat_lt (above s) count
 
 -- ---- what a statement lays down
 
--- the bytes of a value
-abbrev pub bytes_in : Width → ℕ
-bytes_in Byte = 1
-bytes_in Half = 2
-bytes_in Word = 4
-
 abbrev pub is_word : Width → Bool
 is_word Word = true
 is_word _ = false
 
--- the code words of a statement: `set` has two, a `.word` one for each value, and a directive none
+-- the code words of an instruction: `set` has two
 abbrev pub word_count : Statement → ℕ
 word_count (Set value rd) = 2
-word_count (Data width values) = length values
-word_count (Mesh width height) = 0
-word_count (Contexts count) = 0
-word_count (Lines count) = 0
-word_count Text = 0
-word_count (Shared offset) = 0
-word_count (Skip count) = 0
-word_count (Align unit) = 0
-word_count (Equ name value) = 0
-word_count (Start node slot address) = 0
-word_count (Always line) = 0
 word_count _ = 1
 
 -- the place moved on by a value that may be negative
@@ -159,13 +147,20 @@ label_again l (Some label) = is_defined l label
 abbrev pub size_again : Layout → Option (List ℕ) → Option ℕ → Bool
 size_again l label size = is_some label || (l.begun || is_some size)
 
+-- a context or a line: a number below 0 is none
+abbrev pub start_again : Layout → Sum → Sum → Bool
+start_again l node slot = (below node == 0) && ((below slot == 0) && l.started (above node) (above slot))
+
+abbrev pub always_again : Layout → Sum → Bool
+always_again l line = (below line == 0) && l.always (above line)
+
 abbrev pub statement_again : Layout → Option (List ℕ) → Statement → Bool
 statement_again l label (Mesh width height) = size_again l label l.width
 statement_again l label (Contexts count) = size_again l label l.contexts
 statement_again l label (Lines count) = size_again l label l.per_node
 statement_again l label (Equ name value) = is_label label name || is_defined l name
-statement_again l label (Start node slot address) = list_any (λ s. (s.0 == above (valued l node)) && (s.1 == above (valued l slot))) l.started
-statement_again l label (Always line) = list_any (λ n. n == above (valued l line)) l.always
+statement_again l label (Start node slot address) = start_again l (valued l node) (valued l slot)
+statement_again l label (Always line) = always_again l (valued l line)
 statement_again l label _ = false
 
 -- values of data within shared data, or words of code
@@ -196,7 +191,7 @@ is_aligned l s = true
 
 -- a byte is written again
 abbrev pub overlaps : Layout → Statement → Bool
-overlaps l (Data width values) = l.in_data && list_any (λ piece. nat_lt piece.0 (l.shared + bytes_in width * length values) && nat_lt l.shared (piece.0 + piece.1)) l.written
+overlaps l (Data width values) = l.in_data && any_below (bytes_in width * length values) (λ i. l.written (l.shared + i))
 overlaps l s = false
 
 -- the fault of a statement: the first in the order of the numbers
@@ -222,17 +217,29 @@ place_fault l line = fault_with l line.label line.statement
 abbrev pub named_so : List ℕ → Value → (List ℕ → Option Value) → List ℕ → Option Value
 named_so name value names other = if bytes_eq name other then Some value else names other
 
+-- names and that of a label, which stands for an address
+abbrev pub with_label : Option (List ℕ) → ℕ → (List ℕ → Option Value) → List ℕ → Option Value
+with_label None address names = names
+with_label (Some label) address names = named_so label (record { plus = address; minus = 0 }) names
+
 -- a label stands for the address of its line
 abbrev pub labelled : Option (List ℕ) → Layout → Layout
-labelled None l = l
-labelled (Some label) l = record l { begun = true; names = named_so label (record { plus = here_of l; minus = 0 }) l.names }
+labelled label l = record l { begun = l.begun || is_some label; names = with_label label (here_of l) l.names }
 
 abbrev pub code_behind : ℕ → Layout → Layout
-code_behind count l = record l { code = l.code + count }
+code_behind count l = record l { begun = true; code = l.code + count }
+
+-- a set of numbers with those from one up to another, without that one
+abbrev pub with_range : ℕ → ℕ → (ℕ → Bool) → ℕ → Bool
+with_range from to set n = (nat_le from n && nat_lt n to) || set n
 
 -- bytes of data are written, and stand
 abbrev pub data_behind : ℕ → Layout → Layout
-data_behind count l = record l { shared = l.shared + count; written = (l.shared, count) ∷ l.written }
+data_behind count l = record l { begun = true; shared = l.shared + count; written = with_range l.shared (l.shared + count) l.written }
+
+-- contexts and one more
+abbrev pub with_start : ℕ → ℕ → (ℕ → ℕ → Bool) → ℕ → ℕ → Bool
+with_start node slot set n s = ((n == node) && (s == slot)) || set n s
 
 -- `l` is what stands before the line, `m` the same with the line's label
 abbrev pub laid : Layout → Statement → Layout → Layout
@@ -241,15 +248,13 @@ laid l (Contexts count) m = record m { contexts = Some (above (valued l count)) 
 laid l (Lines count) m = record m { per_node = Some (above (valued l count)) }
 laid l Text m = record m { begun = true; in_data = false }
 laid l (Shared offset) m = record m { begun = true; in_data = true; shared = above (valued l offset) }
-laid l (Data width values) m =
-    if l.in_data then data_behind (bytes_in width * length values) (record m { begun = true })
-    else code_behind (length values) (record m { begun = true })
+laid l (Data width values) m = if l.in_data then data_behind (bytes_in width * length values) m else code_behind (length values) m
 laid l (Skip count) m = record m { begun = true; shared = above (moved_on l.shared (valued l count)) }
 laid l (Align unit) m = record m { begun = true; shared = rounded_up l.shared (above (valued l unit)) }
 laid l (Equ name value) m = record m { begun = true; names = named_so name (record { plus = above (valued l value); minus = below (valued l value) }) m.names }
-laid l (Start node slot address) m = record m { begun = true; started = (above (valued l node), above (valued l slot)) ∷ m.started }
-laid l (Always line) m = record m { begun = true; always = above (valued l line) ∷ m.always }
-laid l s m = code_behind (word_count s) (record m { begun = true })
+laid l (Start node slot address) m = record m { begun = true; started = with_start (above (valued l node)) (above (valued l slot)) m.started }
+laid l (Always line) m = record m { begun = true; always = with_range (above (valued l line)) (above (valued l line) + 1) m.always }
+laid l s m = code_behind (word_count s) m
 
 abbrev pub laid_with : Layout → Option Statement → Layout → Layout
 laid_with l None m = m
@@ -277,3 +282,15 @@ place_or number None rest = rest
 abbrev pub places : ℕ → Layout → List Line → Result Layout AsmErr
 places number l [] = Ok l
 places number l (line ∷ rest) = place_or number (place_fault l line) (places (number + 1) (behind l line) rest)
+
+-- ---- places
+
+-- where a statement stands, and the context that it starts
+abbrev pub place_of : Layout → Option Statement → Place
+place_of l (Some (Start node slot address)) = record { here = here_of l; in_data = l.in_data; node = above (valued l node); slot = above (valued l slot) }
+place_of l _ = record { here = here_of l; in_data = l.in_data; node = 0; slot = 0 }
+
+-- the places of lines that stand behind a layout
+abbrev pub places_of : Layout → List Line → List Place
+places_of l [] = []
+places_of l (line ∷ rest) = place_of l line.statement ∷ places_of (behind l line) rest

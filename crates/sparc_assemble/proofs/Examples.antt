@@ -5,7 +5,8 @@ use Rattle.sparc_asm.specs.Mnemonics.{form_of, directive_of}
 use Rattle.sparc_asm.specs.Statements.{statement_of}
 use Rattle.sparc_asm.specs.Encoding.{coded}
 use Rattle.sparc_asm.specs.Sources.{read_line, read_source}
-use Rattle.sparc_asm.specs.Assembly.{assembled, Whole}
+use Rattle.sparc_assemble.specs.declared.assembling.Assembled.{Assembled}
+use Rattle.sparc_assemble.specs.Assembly.{assembled}
 use Rattle.alw_num.specs.declared.addresses.Line.{Line as Body}
 use Rattle.alw_num.specs.declared.addresses.LineNo.{LineNo}
 use Rattle.sparc_asm.specs.declared.faults.AsmErr.{AsmErr}
@@ -36,11 +37,11 @@ no_such_name : assembled (codes "addd %g1,1,%g1") ≡ Err (Syntax 1)
 unfolding assembled read_source read_line line_tokens form_of directive_of statement_of coded
 no_such_name = refl
 
-abbrev words_in : Result Whole AsmErr → List ℕ
+abbrev words_in : Result Assembled AsmErr → List ℕ
 words_in (Ok w) = w.image.code
 words_in (Err e) = []
 
-abbrev lines_in : Result Whole AsmErr → List ℕ
+abbrev lines_in : Result Assembled AsmErr → List ℕ
 lines_in (Ok w) = w.lines
 lines_in (Err e) = []
 
@@ -54,10 +55,19 @@ unfolding assembled read_source read_line line_tokens form_of directive_of state
 branching_lines = refl
 
 -- a data line of zeros isn't listed
-bodies_in : Result Whole AsmErr → List (LineNo × Body)
+bodies_in : Result Assembled AsmErr → List (LineNo × Body)
 bodies_in (Ok w) = w.image.bodies
 bodies_in (Err e) = []
 
 listed : bodies_in (assembled (codes ".lines 2\nnop\n.shared 0\n.word 0\n.shared 16\n.half -1,258")) ≡ (record { 0 = 1 }, record { a = 0xFFFF0102; b = 0; c = 0; d = 0 }) ∷ []
 unfolding bodies_in assembled read_source read_line line_tokens form_of directive_of statement_of coded
 listed = refl
+
+-- a negative node is no context, so its second start is out of range
+no_context : assembled (codes "nop\n.start 0,0,0\n.start -1,0,0") ≡ Err (Range 3)
+unfolding assembled read_source read_line line_tokens form_of directive_of statement_of coded
+no_context = refl
+
+no_word : assembled (codes "! nothing") ≡ Err (Range 0)
+unfolding assembled read_source read_line line_tokens form_of directive_of statement_of coded
+no_word = refl

@@ -1,0 +1,11 @@
+pub mod Allowed
+pub mod Coded
+pub mod Examples
+pub mod Gathering
+pub mod Growth
+pub mod Rising
+pub mod Spellings
+pub mod Starts
+pub mod Tables
+pub mod Walks
+pub mod Whole

@@ -1,0 +1,13 @@
+use Rattle.std.proofs.Common.{◌≡◌, List, [], ◌∷◌, ◌++◌, ◌∙◌, ap, sym, arith, slice_index}
+use Rattle.sparc_asm.proofs.Reading.{pushed_length}
+use Rattle.sparc_assemble.specs.Assembly.{data_line}
+use Rattle.sparc_assemble.proofs.Gathering.{with_more, listed}
+use Rattle.sparc_assemble.proofs.images.bodies_of.Goals as goal
+
+pub loop-number-preserved : goal.loop-number-preserved
+loop-number-preserved c =
+    let found : data_line (slice_index c.args.memory.now) c.loop-number.number ≡ (record { 0 = c.loop-number.number }, c.body_at-body.result) ∷ [] = listed (slice_index c.args.memory.now) c.loop-number.number c.body_at-body.result c.body_at-body.ensures (sym c.if-is_zero.ensures) in
+    record {
+      found = with_more (data_line (slice_index c.args.memory.now)) c.loop-number.number c.loop-number.bodies c.push.new.self c.loop-number.invariant.found (c.in_ok-push.ensures.ok ∙ ap (λ xs. c.loop-number.bodies ++ xs) (sym found));
+      count = omega (arith, pushed_length _ _ _ c.in_ok-push.ensures.ok);
+    }

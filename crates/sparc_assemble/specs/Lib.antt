@@ -1,0 +1,3 @@
+pub mod Assembly
+pub mod Data
+pub mod Fillings

@@ -1,0 +1,54 @@
+ghost use Rattle.std.specs.Prelude.{◌≡◌, ◌<◌, ◌-◌, ◌^◌, length};
+ghost use Rattle.sparc_assemble.specs.Assembly.{assembled, Answers};
+
+use crate::fillings::fill_in;
+use crate::images::{lines_of, parts_of};
+use alw_image::{Image, LineList};
+use sparc_asm::{AsmErr, read_source};
+use sparc_place::lay_out;
+use std::alloc::Global;
+
+/// An assembled source.
+#[derive(Debug, Drop)]
+pub struct Assembled {
+    pub image: Image,
+    /// The source line of each code word, counted from 1.
+    pub lines: LineList,
+}
+
+/// Assembles a source, in three passes: its lines, each by itself; where each of them stands; and their values. The
+/// first pass with a fault decides, in it the first line, and on that line the fault that stands first in `AsmErr`.
+/// A source without a code word is Range at line 0.
+#[tactic(auto, unfolding(crate::specs::Assembly::assembled))]
+pub fn assemble(alloc: Global, text: &[u8]) -> Result<Assembled, AsmErr>
+    requires { length text.now < 2 ^ 32 - 1 }
+    ensures { Answers (assembled text.now) result }
+{
+    let lines = match read_source(alloc, text) {
+        Ok(lines) => lines,
+        Err(e) => return Err(e),
+    };
+    let laid = match lay_out(alloc, &lines) {
+        Ok(laid) => laid,
+        Err(e) => return Err(e),
+    };
+    let filling = match fill_in(alloc, &laid, &lines) {
+        Ok(filling) => filling,
+        Err(e) => return Err(e),
+    };
+    if laid.plan.code() == 0 {
+        return Err(AsmErr::Range { line: 0 });
+    }
+    let parts = match parts_of(alloc, &laid.plan, &filling) {
+        Ok(parts) => parts,
+        Err(_e) => return Err(AsmErr::NoMemory),
+    };
+    let lines = match lines_of(alloc, &filling.words) {
+        Ok(lines) => lines,
+        Err(_e) => return Err(AsmErr::NoMemory),
+    };
+    match Image::from_parts(parts) {
+        Some(image) => Ok(Assembled { image, lines }),
+        None => unreachable!(),
+    }
+}
