@@ -130,6 +130,10 @@ parts_in h bytes = record {
   always = table_of word_of 4 h.always (piece (always_at h) (end_of h) bytes);
 }
 
+-- the same, whatever stands in the header
+abbrev pub image_in : List ℕ → Parts
+image_in bytes = parts_in (header_of bytes) bytes
+
 -- ---- members out of range or out of order
 
 -- a key is above the one before it, if there is one

@@ -1,7 +1,7 @@
 ghost use Rattle.std.specs.Prelude.{◌≡◌, ◌≢◌, ◌<◌, ◌^◌, length, None, Some, IfOk, IfErr, IsTrue};
 ghost use Rattle.alw_image.specs.declared.faults.ImageErr.TheVariants as faults;
 ghost use Rattle.alw_image.specs.Images.{spelling};
-ghost use Rattle.alw_image.specs.Faults.{range_fault, end_of, header_of, parts_in, image_fault};
+ghost use Rattle.alw_image.specs.Faults.{range_fault, end_of, header_of, image_in, image_fault};
 ghost use Rattle.alw_image.specs.Sizes.{IsShort};
 ghost use Rattle.alw_image.specs.TableReads.{AreRead};
 
@@ -20,6 +20,7 @@ use std::alloc::Global;
 pub fn read_image(alloc: Global, bytes: &[u8]) -> Result<Image, ImageErr>
     requires { length bytes.now < 2 ^ 32 }
     ensures found { IfOk result (λ image. bytes.now ≡ spelling image) }
+    ensures parts { IfOk result (λ image. image ≡ image_in bytes.now) }
     ensures accepted { IfOk result (λ image. image_fault bytes.now ≡ None) }
     ensures fault { IfErr result (λ fault. fault ≢ faults.NoMemory → image_fault bytes.now ≡ Some fault) }
 {

@@ -1,9 +1,10 @@
 use Rattle.std.proofs.Common.{◌≡◌, ◌≢◌, ◌++◌, sym, ap, subst, ◌∙◌, refl, Some, None, drop, List, ℕ}
 use Rattle.alw_image.specs.Images.{spelling, IsImage}
-use Rattle.alw_image.specs.Faults.{image_fault, tables_fault, bodies_at, starts_at, always_at}
+use Rattle.alw_image.specs.Faults.{image_fault, parts_in, tables_fault, bodies_at, starts_at, always_at}
+use Rattle.alw_image.specs.declared.headers.Header.{Header}
 use Rattle.alw_image.specs.Spellings.{header_bytes}
 use Rattle.alw_image.proofs.Checked.{sizes_of, is_image}
-use Rattle.alw_image.proofs.Readings.{sizes_read, fault_of, spelled_so}
+use Rattle.alw_image.proofs.Readings.{sizes_read, fault_of, spelled_so, parts_are}
 use Rattle.alw_image.proofs.reading.read_image.Goals as goal
 
 pub tables_fault-requires-clause-sizes : goal.tables_fault-requires-clause-sizes
@@ -26,3 +27,6 @@ returns-in-None-clause-found c =
     let front : c.args.bytes.now ≡ header_bytes c.header_at.result.0 ++ drop 28 c.args.bytes.now = c.header_at.ensures.spelled ∙ ap (λ (rest : List ℕ). header_bytes c.header_at.result.0 ++ rest) c.header_at.ensures.rest in
     spelled_so c.header_at.result.0 c.args.bytes.now c.in_ok-parts.parts c.header_at.ensures.header c.in_default.ensures.version front c.in_default-size_fault.ensures.fits c.in_default-size_fault.ensures.whole c.in_ok-parts.ensures image
     ∙ ap spelling (sym c.checked.ensures)
+
+pub returns-in-None-clause-parts : goal.returns-in-None-clause-parts
+returns-in-None-clause-parts c = c.checked.ensures ∙ sym (parts_are c.header_at.result.0 c.args.bytes.now c.in_ok-parts.parts c.in_ok-parts.ensures) ∙ ap (λ (h : Header). parts_in h c.args.bytes.now) c.header_at.ensures.header
