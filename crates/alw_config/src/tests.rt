@@ -85,6 +85,30 @@ fn options_of_run(rt: HostRuntime) -> Result<(), Fail> {
     Ok(())
 }
 
+// The seed of a run.
+fn seed_of(words: &[String]) -> Option<u64> {
+    match command(words) {
+        Ok(
+            Command::Run {
+                how: How::Seed(seed),
+                ..
+            },
+        ) => Some(seed),
+        _ => None,
+    }
+}
+
+#[test]
+fn a_seed_is_read(rt: HostRuntime) -> Result<(), Fail> {
+    let alloc = rt.alloc();
+    assert_eq!(rt;
+        seed_of(&words_of(alloc, "run --sets 8 --seed 77")?),
+        Some(77)
+    );
+    assert_eq!(rt; seed_of(&words_of(alloc, "asm")?), None);
+    Ok(())
+}
+
 // Words that begin with no command, and the place of the first that is refused.
 const NO_COMMAND: [(&str, u32); 11] = [
     ("", 0),
