@@ -1,3 +1,5 @@
+mod Examples
+pub mod Laws
 pub mod Lookups
 pub mod Spelled
 pub mod Stops

@@ -1,7 +1,7 @@
 -- The pairs of an option and its value that are read, and what is left of the words.
-use Rattle.std.proofs.Common.{◌≡◌, ◌≢◌, ℕ, zero, suc, ◌+◌, ◌-◌, ◌*◌, ◌%◌, ◌<◌, ◌≤◌, ◌||◌, Bool, true, false, List, [], ◌∷◌, ◌++◌, map, length, refl, sym, ap, ◌∙◌, ⊎_elim, arith, append_assoc, length-append}
-use Rattle.std.specs.Prelude.{Option, None, Some, is_some, is_none, slice_get, ⊤}
-use Rattle.std.proofs.lemmas.Bool.{cases_lt}
+use Rattle.std.proofs.Common.{◌≡◌, ℕ, ◌+◌, ◌-◌, ◌*◌, ◌<◌, ◌≤◌, ◌||◌, true, false, List, [], ◌∷◌, ◌++◌, map, length, refl, sym, ap, ◌∙◌, ⊎_elim, arith, append_assoc, length-append}
+use Rattle.std.specs.Prelude.{Option, None, Some, is_some, is_none, slice_get}
+use Rattle.std.proofs.lemmas.Bool.{cases_lt, false_from_ne_true}
 use Rattle.std.proofs.lemmas.List.{append-nil}
 use Rattle.alw_config.specs.declared.options.Name.{Name}
 use Rattle.alw_config.specs.declared.options.Name.TheVariants as names
@@ -9,7 +9,7 @@ use Rattle.alw_config.specs.declared.options.Choice.{Choice}
 use Rattle.alw_config.specs.declared.options.Choice.TheVariants.{Seed, Pointers, Sets, Limit, Evict, AsmWrite, Write}
 use Rattle.alw_config.specs.declared.options.Chosen.{Chosen}
 use Rattle.alw_config.specs.Table.{OptionRow, option_row, value_behind}
-use Rattle.alw_config.specs.Places.{IsFirst, IsRefusedBehind, is_bad_option, is_no_value}
+use Rattle.alw_config.specs.Places.{IsRefusedBehind, is_bad_option, is_no_value}
 use Rattle.alw_config.specs.Choices.{row_of_name, row_of, IsOption, is_chosen, with_value, chosen_by, no_choice, AreGiven}
 use Rattle.alw_config.proofs.Lookups.{is_chosen-by, chosen_by-more}
 use Rattle.alw_config.proofs.Stops.{bad_name, bad_value, right_behind}
@@ -160,8 +160,8 @@ pub missing : {X : Type 0} (f : X → List ℕ) (xs : List X) (row : OptionRow) 
 missing f [] row e = refl
 missing f (x ∷ xs) row e = absurd (omega (arith, e))
 
-pub disallowed : {X : Type 0} (f : X → List ℕ) (xs : List X) (x : X) (rest : List X) (row : OptionRow) → xs ≡ x ∷ rest → row.allows (f x) ≡ false → is_no_value (Some row) (slice_get (map f xs) 0) ≡ true
-disallowed f xs x rest row parts refused = rw (parts, refused)
+pub disallowed : {X : Type 0} (f : X → List ℕ) (xs : List X) (x : X) (rest : List X) (row : OptionRow) → xs ≡ x ∷ rest → (row.allows (f x) ≡ true → ⊥) → is_no_value (Some row) (slice_get (map f xs) 0) ≡ true
+disallowed f xs x rest row parts refused = rw (parts, false_from_ne_true _ refused)
 
 pub no_word : {X : Type 0} (f : X → List ℕ) (xs : List X) → length xs ≡ 0 → map f xs ≡ []
 no_word f [] e = refl

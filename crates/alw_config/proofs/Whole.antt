@@ -1,12 +1,12 @@
 -- From the words behind a command's name to all words.
-use Rattle.std.proofs.Common.{◌≡◌, ◌≢◌, ℕ, zero, suc, ◌+◌, ◌-◌, ◌<◌, ◌≤◌, Bool, true, false, List, [], ◌∷◌, length, refl, sym, ap, ◌∙◌, arith}
-use Rattle.std.specs.Prelude.{Option, None, Some, option_map, unwrap_or}
+use Rattle.std.proofs.Common.{◌≡◌, ℕ, zero, suc, ◌-◌, ◌<◌, false, List, ◌∷◌, refl, sym, ap, ◌∙◌, arith}
+use Rattle.std.specs.Prelude.{Some}
 use Rattle.alw_config.specs.declared.options.Name.{Name}
 use Rattle.alw_config.specs.declared.options.Name.TheVariants as names
 use Rattle.alw_config.specs.declared.options.Chosen.{Chosen}
 use Rattle.alw_config.specs.declared.commands.Command.{Command}
 use Rattle.alw_config.specs.Table.{CommandRow, command_row, asm_row, run_row}
-use Rattle.alw_config.specs.Places.{IsFirst, IsRefusedAt, IsRefusedBehind, IsCommand, is_bad, is_bad_option, asked}
+use Rattle.alw_config.specs.Places.{IsRefusedAt, IsRefusedBehind, IsCommand, is_bad, is_bad_option}
 use Rattle.alw_config.specs.Choices.{row_of_name, chosen_by, command_by, AreGiven}
 
 -- the place of a word behind the name

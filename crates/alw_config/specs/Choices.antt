@@ -1,5 +1,5 @@
 -- How the program holds the options that are given.
-use Rattle.std.specs.Prelude.{ℕ, ◌≡◌, ◌≤◌, ⊤, Bool, false, IsTrue, ◌==◌, List, codes, Option, None, Some, is_some, IfSome, option_map, unwrap_or}
+use Rattle.std.specs.Prelude.{ℕ, ◌≡◌, ◌≤◌, ⊤, Bool, false, IsTrue, ◌==◌, List, Option, None, Some, is_some, IfSome, option_map, unwrap_or}
 use Rattle.std.specs.List.{list_any}
 use Rattle.alw_config.specs.declared.commands.Command.{Command}
 use Rattle.alw_config.specs.declared.commands.Command.TheVariants as commands
@@ -68,21 +68,21 @@ with_value Write word chosen = record chosen { write = Some (form_of word) }
 
 -- the form that is given, where the command is of its kind
 abbrev pub asm_write_by : Name → List (List ℕ) → Option AsmForm
-asm_write_by names.Asm words = option_map asm_form_of (value_behind (codes "--write") words)
+asm_write_by names.Asm words = option_map asm_form_of (value_behind asm_write_row.name words)
 asm_write_by names.Run words = None
 
 abbrev pub write_by : Name → List (List ℕ) → Option Form
 write_by names.Asm words = None
-write_by names.Run words = option_map form_of (value_behind (codes "--write") words)
+write_by names.Run words = option_map form_of (value_behind write_row.name words)
 
 -- what is given by the words behind a command's name
 unfoldable pub chosen_by : Name → List (List ℕ) → Chosen
 chosen_by name words = record {
-  seed = option_map number_of (value_behind (codes "--seed") words);
-  pointers = option_map number_of (value_behind (codes "--pointers") words);
-  sets = option_map number_of (value_behind (codes "--sets") words);
-  limit = option_map number_of (value_behind (codes "--limit") words);
-  evict = option_map number_of (value_behind (codes "--evict") words);
+  seed = option_map number_of (value_behind seed_row.name words);
+  pointers = option_map number_of (value_behind pointers_row.name words);
+  sets = option_map number_of (value_behind sets_row.name words);
+  limit = option_map number_of (value_behind limit_row.name words);
+  evict = option_map number_of (value_behind evict_row.name words);
   asm_write = asm_write_by name words;
   write = write_by name words;
 }

@@ -26,8 +26,8 @@ value_behind name (option ∷ []) = None
 value_behind name (option ∷ value ∷ rest) = if bytes_eq option name then Some value else value_behind name rest
 
 -- what the option's value stands for, or else the default
-abbrev pub value_or : {A : Type 0} → (List ℕ → A) → List ℕ → List (List ℕ) → A → A
-value_or meaning name words default = unwrap_or (option_map meaning (value_behind name words)) default
+abbrev pub value_or : {A : Type 0} → (List ℕ → A) → OptionRow → List (List ℕ) → A → A
+value_or meaning option words default = unwrap_or (option_map meaning (value_behind option.name words)) default
 
 unfoldable pub asm_write_row : OptionRow
 asm_write_row = record { name = codes "--write"; allows = is_one_of asm_forms }
@@ -54,7 +54,7 @@ unfoldable pub asm_row : CommandRow
 asm_row = record {
   name = codes "asm";
   options = asm_write_row ∷ [];
-  reads = λ words. Asm (value_or asm_form_of (codes "--write") words Image);
+  reads = λ words. Asm (value_or asm_form_of asm_write_row words Image);
 }
 
 unfoldable pub run_row : CommandRow
@@ -62,12 +62,12 @@ run_row = record {
   name = codes "run";
   options = seed_row ∷ pointers_row ∷ sets_row ∷ limit_row ∷ evict_row ∷ write_row ∷ [];
   reads = λ words. Run
-      (Seed (value_or number_of (codes "--seed") words 0))
-      (value_or number_of (codes "--pointers") words 4)
-      (value_or number_of (codes "--sets") words 256)
-      (value_or number_of (codes "--limit") words 32768)
-      (value_or number_of (codes "--evict") words 0)
-      (value_or form_of (codes "--write") words Report);
+      (Seed (value_or number_of seed_row words 0))
+      (value_or number_of pointers_row words 4)
+      (value_or number_of sets_row words 256)
+      (value_or number_of limit_row words 32768)
+      (value_or number_of evict_row words 0)
+      (value_or form_of write_row words Report);
 }
 
 unfoldable pub commands : List CommandRow

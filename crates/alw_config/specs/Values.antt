@@ -1,5 +1,5 @@
 -- The words that options allow as their values, and what they stand for.
-use Rattle.std.specs.Prelude.{ℕ, ◌^◌, ◌-◌, ◌&&◌, ◌==◌, Bool, List, [], ◌∷◌, nat_le, codes, decimal, bytes_eq, if◌then◌else◌}
+use Rattle.std.specs.Prelude.{ℕ, ◌&&◌, ◌==◌, Bool, List, [], ◌∷◌, nat_le, codes, decimal, bytes_eq, if◌then◌else◌}
 use Rattle.std.specs.List.{list_any}
 use Rattle.std.specs.Str.Parse.{digits_value}
 use Rattle.alw_config.specs.declared.commands.AsmForm.{AsmForm}

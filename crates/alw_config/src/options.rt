@@ -1,4 +1,4 @@
-ghost use Rattle.std.specs.Prelude.{◌≡◌, ℕ, true, false, map, string_bytes, IfOk, IfSome, MatchOption, MatchResult};
+ghost use Rattle.std.specs.Prelude.{◌≡◌, map, string_bytes, IsTrue, IfOk, IfSome, SomeIff, MatchOption, MatchResult};
 ghost use Rattle.alw_config.specs.Values.{asm_forms, asm_form_of, forms, form_of, is_one_of};
 ghost use Rattle.alw_config.specs.Table.{option_row, IsWithin};
 ghost use Rattle.alw_config.specs.Places.{IsRefusedBehind};
@@ -14,7 +14,7 @@ pub(crate) enum Name {
     Run,
 }
 
-// The options, of all commands. Those of one name are as many as the kinds of values it takes.
+// The options of all commands. `--write` is one for each kind of value that it takes.
 #[derive(Clone, Copy)]
 pub(crate) enum Choice {
     Seed,
@@ -40,7 +40,8 @@ pub(crate) struct Chosen {
 
 // The values of the command's options, from the words behind its name, or the first refused place.
 pub(crate) fn options(name: Name, words: &[String]) -> Result<Chosen, WordErr>
-    ensures cases { MatchResult result (AreGiven name (map string_bytes words.now)) (λ e. IsRefusedBehind (row_of_name name).options (map string_bytes words.now) e.at) }
+    ensures cases { MatchResult result (AreGiven name (map string_bytes words.now))
+        (λ e. IsRefusedBehind (row_of_name name).options (map string_bytes words.now) e.at) }
     ensures within { IfOk result AreWithin }
 {
     let mut chosen = Chosen::none();
@@ -70,7 +71,8 @@ pub(crate) fn options(name: Name, words: &[String]) -> Result<Chosen, WordErr>
 // The option of this name that the command has.
 #[tactic(auto, unfolding(crate::specs::Table::asm_row, crate::specs::Table::run_row, crate::specs::Table::asm_write_row, crate::specs::Table::seed_row, crate::specs::Table::pointers_row, crate::specs::Table::sets_row, crate::specs::Table::limit_row, crate::specs::Table::evict_row, crate::specs::Table::write_row))]
 fn choice_of(name: Name, word: &str) -> Option<Choice>
-    ensures { MatchOption result (option_row (row_of_name name).options word.now ≡ None) (IsOption name word.now) }
+    ensures { MatchOption result (option_row (row_of_name name).options word.now ≡ None)
+        (IsOption name word.now) }
 {
     match name {
         Name::Asm => match word {
@@ -123,7 +125,8 @@ impl Chosen {
     // The options with one more value. None exactly where the option doesn't allow it.
     #[tactic(auto, unfolding(crate::specs::Table::asm_write_row, crate::specs::Table::seed_row, crate::specs::Table::pointers_row, crate::specs::Table::sets_row, crate::specs::Table::limit_row, crate::specs::Table::evict_row, crate::specs::Table::write_row))]
     fn with(self, choice: Choice, value: &str) -> Option<Chosen>
-        ensures cases { MatchOption result ((row_of choice).allows value.now ≡ false) (λ chosen. ((row_of choice).allows value.now ≡ true) × (chosen ≡ with_value choice value.now self)) }
+        ensures cases { SomeIff result (IsTrue ((row_of choice).allows value.now))
+            (with_value choice value.now self) }
         ensures within { IfSome result (λ chosen. AreWithin self → AreWithin chosen) }
     {
         Some(match choice {
@@ -182,7 +185,7 @@ impl Chosen {
 // The form of this name that an assembled source is written in.
 #[tactic(auto, unfolding(crate::specs::Values::asm_forms, crate::specs::Values::asm_form_of))]
 fn asm_form(word: &str) -> Option<AsmForm>
-    ensures { MatchOption result (is_one_of asm_forms word.now ≡ false) (λ form. (is_one_of asm_forms word.now ≡ true) × (form ≡ asm_form_of word.now)) }
+    ensures { SomeIff result (IsTrue (is_one_of asm_forms word.now)) (asm_form_of word.now) }
 {
     match word {
         "image" => Some(AsmForm::Image),
@@ -194,7 +197,7 @@ fn asm_form(word: &str) -> Option<AsmForm>
 // The form of this name that a run is written in.
 #[tactic(auto, unfolding(crate::specs::Values::forms, crate::specs::Values::form_of))]
 fn form(word: &str) -> Option<Form>
-    ensures { MatchOption result (is_one_of forms word.now ≡ false) (λ form. (is_one_of forms word.now ≡ true) × (form ≡ form_of word.now)) }
+    ensures { SomeIff result (IsTrue (is_one_of forms word.now)) (form_of word.now) }
 {
     match word {
         "report" => Some(Form::Report),

@@ -85,25 +85,163 @@ fn options_of_run(rt: HostRuntime) -> Result<(), Fail> {
     Ok(())
 }
 
-// Refused words, and the place of the first that is refused.
-const REFUSED: [(&str, u32); 12] = [
+// The seed of a run.
+fn seed_of(words: &[String]) -> Option<u64> {
+    match command(words) {
+        Ok(
+            Command::Run {
+                how: How::Seed(seed),
+                ..
+            },
+        ) => Some(seed),
+        _ => None,
+    }
+}
+
+#[test]
+fn a_seed_is_read(rt: HostRuntime) -> Result<(), Fail> {
+    let alloc = rt.alloc();
+    assert_eq!(rt;
+        seed_of(&words_of(alloc, "run --sets 8 --seed 77")?),
+        Some(77)
+    );
+    assert_eq!(rt; seed_of(&words_of(alloc, "asm")?), None);
+    Ok(())
+}
+
+// Words that begin with no command, and the place of the first that is refused.
+const NO_COMMAND: [(&str, u32); 11] = [
     ("", 0),
     ("-1", 0),
-    ("--seed 0 --evict 256", 0),
     ("18446744073709551616", 0),
-    ("run --sets 6", 2),
-    ("run --seed", 2),
-    ("run --seed 01", 2),
-    ("run --seed 5 --seed 5", 3),
-    ("run --pointers 8 listing", 3),
-    ("run --sets 4 --Seed", 3),
+    ("--seed 0 --evict 256", 0),
+    ("--limit 0 --evict 256", 0),
+    ("--evict 255 --pointers 1", 0),
+    ("--limit 1 --limit 1048577", 0),
+    ("--write listing 0 --limit 0", 0),
+    ("--seed 18446744073709551615", 0),
+    ("--pointers 0 --seed 5 --evict 0", 0),
+    ("--evict 255 1048577 --pointers 1", 0),
+];
+
+// Refused words of `asm`.
+const ASM: [(&str, u32); 47] = [
+    ("asm --seed 5", 1),
+    ("asm --seed 0", 1),
+    ("asm --sets 4", 1),
+    ("asm --sets 6", 1),
+    ("asm --evict 0", 1),
+    ("asm 4 --seed 0", 1),
+    ("asm --sets 4096", 1),
+    ("asm --evict 256", 1),
+    ("asm --evict 255", 1),
+    ("asm --pointers 9", 1),
+    ("asm --sets 2 run", 1),
+    ("asm --pointers 1", 1),
+    ("asm --pointers 8", 1),
+    ("asm --sets 256 4", 1),
+    ("asm --limit 1048576", 1),
+    ("asm --sets 4 --sets 4", 1),
+    ("asm --seed 5 --write x", 1),
+    ("asm --sets 2 --pointers 9", 1),
+    ("asm --sets 4096 --pointers", 1),
+    ("asm --pointers 1 --evict 255", 1),
+    ("asm --evict 0 --write report", 1),
+    ("asm --evict 255 --limit 1048576", 1),
+    ("asm --seed 18446744073709551616", 1),
+    ("asm --limit 1048576 --limit 0 asm", 1),
+    ("asm 4096 --pointers 8 --evict 256", 1),
+    ("asm --sets 4 --evict 0 --evict 256", 1),
+    ("asm --pointers 8 8192 --pointers 0", 1),
+    ("asm -- --limit 1048577 --pointers 0", 1),
+    ("asm 18446744073709551615 --pointers 9", 1),
+    ("asm image --pointers 1 --write report", 1),
+    ("asm --evict --pointers 0 --limit 1048576", 1),
+    ("asm --sets 4 --pointers 8 --write report", 1),
+    ("asm --seed 18446744073709551616 --pointers 9", 1),
+    ("asm --pointers 0 --seed 18446744073709551616", 1),
+    ("asm --evict 0 asm --seed 18446744073709551616", 1),
+    ("asm 01 --sets 256 --seed 18446744073709551615", 1),
+    ("asm --pointers 8 6 --seed 18446744073709551615", 1),
+    ("asm --evict 256 --write report --limit 1048576", 1),
+    ("asm 8192 --sets 256 --seed 18446744073709551615", 1),
+    ("asm --seed 18446744073709551616 --limit 1048576", 1),
+    ("asm --sets 256 --evict 0 --seed 18446744073709551616", 1),
+    ("asm --sets 256 --write x --seed 18446744073709551616", 1),
+    ("asm --pointers 1 --seed 18446744073709551616 --sets 256", 1),
+    ("asm --write report 4096", 2),
+    ("asm --write x --pointers 1", 2),
+    ("asm --write report --evict 255", 2),
     ("asm --write listing --write report", 3),
+];
+
+// Refused words of `run`.
+const RUN: [(&str, u32); 38] = [
+    ("run 255 256", 1),
+    ("run 8 --pointers 0", 1),
+    ("run -1 --pointers 8 1", 1),
+    ("run 1048577 --pointers 1", 1),
+    ("run 18446744073709551615", 1),
+    ("run -- --evict 255 --write x", 1),
+    ("run 0 --sets 256 --evict 255", 1),
+    ("run --seed", 2),
+    ("run --evict", 2),
+    ("run --sets 6", 2),
+    ("run --limit 0", 2),
+    ("run --seed 01", 2),
+    ("run --evict 256", 2),
+    ("run --pointers 0", 2),
+    ("run --evict 256 --evict 0", 2),
+    ("run --evict --write report", 2),
+    ("run --pointers --evict 256", 2),
+    ("run --evict 256 --pointers 8", 2),
+    ("run --limit 1048577 --write x", 2),
+    ("run --write --pointers 8 --seed 5", 2),
+    ("run --pointers 0 1048576 --sets 6", 2),
+    ("run --limit 0 --evict 256 --seed 0", 2),
+    ("run --evict 256 18446744073709551616", 2),
+    ("run --seed --limit 1048576 --limit 1", 2),
+    ("run --evict 256 --seed 5 --write report", 2),
+    ("run --seed 18446744073709551616 --write x", 2),
+    ("run --limit 1048577 listing --limit 1048577", 2),
+    ("run --limit 1048577 18446744073709551615 --sets 4096", 2),
+    ("run --seed 18446744073709551616 --evict 255 --sets 2", 2),
+    ("run --evict --limit 1048576 --seed 18446744073709551616", 2),
+    ("run --sets 4 --Seed", 3),
+    ("run --pointers 8 listing", 3),
+    ("run --seed 1 --workers 2", 3),
+    (
+        "run --limit 1048576 --limit 0 --seed 18446744073709551615",
+        3,
+    ),
+    (
+        "run --seed 18446744073709551615 --seed 18446744073709551615",
+        3,
+    ),
+    ("run --seed 0 --write x --limit 0", 4),
     ("run --seed 18446744073709551615 --sets 2", 4),
+    ("run --seed 18446744073709551615 --write image", 4),
 ];
 
 #[test]
-fn refused(rt: HostRuntime) -> Result<(), Fail> {
-    for (line, at) in REFUSED {
+fn refused_commands(rt: HostRuntime) -> Result<(), Fail> {
+    for (line, at) in NO_COMMAND {
+        assert_eq!(rt; asked(rt.alloc(), line)?, Err(WordErr { at }));
+    }
+    Ok(())
+}
+
+#[test]
+fn refused_words_of_asm(rt: HostRuntime) -> Result<(), Fail> {
+    for (line, at) in ASM {
+        assert_eq!(rt; asked(rt.alloc(), line)?, Err(WordErr { at }));
+    }
+    Ok(())
+}
+
+#[test]
+fn refused_words_of_run(rt: HostRuntime) -> Result<(), Fail> {
+    for (line, at) in RUN {
         assert_eq!(rt; asked(rt.alloc(), line)?, Err(WordErr { at }));
     }
     Ok(())

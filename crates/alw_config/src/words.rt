@@ -10,7 +10,8 @@ use crate::options::{Name, options};
 /// and followed by its value as a word of its own. Options that aren't given have their defaults.
 /// Refused exactly where a place is bad, at the first one. Takes no memory.
 pub fn command(words: &[String]) -> Result<Command, WordErr>
-    ensures cases { MatchResult result (IsCommand (map string_bytes words.now)) (λ e. IsRefusedAt (map string_bytes words.now) e.at) }
+    ensures cases { MatchResult result (IsCommand (map string_bytes words.now))
+        (λ e. IsRefusedAt (map string_bytes words.now) e.at) }
     ensures within { IfOk result IsWithin }
 {
     let Some((first, rest)) = words.split_first() else {
@@ -26,7 +27,8 @@ pub fn command(words: &[String]) -> Result<Command, WordErr>
 // The command of this name.
 #[tactic(auto, unfolding(crate::specs::Table::commands, crate::specs::Table::asm_row, crate::specs::Table::run_row))]
 fn name_of(word: &str) -> Option<Name>
-    ensures { MatchOption result (command_row word.now ≡ None) (λ name. command_row word.now ≡ Some (row_of_name name)) }
+    ensures { MatchOption result (command_row word.now ≡ None)
+        (λ name. command_row word.now ≡ Some (row_of_name name)) }
 {
     match word {
         "asm" => Some(Name::Asm),

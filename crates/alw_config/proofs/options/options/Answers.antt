@@ -1,8 +1,6 @@
-use Rattle.std.proofs.Common.{◌≡◌, ◌≤◌, ◌∙◌, ℕ, true, false, not, List, [], ◌∷◌, map, length, string_bytes, refl, sym, ap, arith, rules}
-use Rattle.std.specs.Prelude.{Some, None}
-use Rattle.alw_config.specs.Places.{is_no_value}
-use Rattle.alw_config.specs.Choices.{row_of, is_chosen, IsOption}
-use Rattle.alw_config.proofs.UnderWay.{IsUnderWay, near, begins, unknown, again, unvalued, goes_on, ends, missing, disallowed, no_word}
+use Rattle.std.proofs.Common.{◌∙◌, string_bytes, sym, arith, rules}
+use Rattle.alw_config.specs.Choices.{row_of}
+use Rattle.alw_config.proofs.UnderWay.{near, begins, unknown, again, unvalued, goes_on, ends, missing, disallowed, no_word}
 use Rattle.alw_config.proofs.options.options.Goals as goal
 
 pub pairs-init : goal.pairs-init

@@ -1,4 +1,4 @@
-use Rattle.std.proofs.Common.{◌≡◌, ℕ, true, false, map, string_bytes, IfOk, IfSome, MatchOption, MatchResult, ◌+◌, ◌-◌, ◌*◌, ◌<◌, ◌≤◌, length}
+use Rattle.std.proofs.Common.{map, string_bytes, length}
 use Rattle.alw_config.specs.Choices.{AreWithin}
 use Rattle.alw_config.proofs.UnderWay.{IsUnderWay}
 use Rattle.alw_config.proofs.options.options.Given as goal

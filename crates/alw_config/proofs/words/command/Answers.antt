@@ -1,4 +1,3 @@
-use Rattle.std.proofs.Common.{◌≡◌, ◌∙◌, List, [], ◌∷◌, map, string_bytes, refl, sym, ap}
 use Rattle.std.proofs.lemmas.Result.{err_from_is_err_and}
 use Rattle.alw_config.proofs.Whole.{refused, accepted}
 use Rattle.alw_config.proofs.words.command.Goals as goal
