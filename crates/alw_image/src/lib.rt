@@ -20,3 +20,6 @@ pub use parameters::Params;
 pub use parts::{Bodies, Code, LineList, Parts, Starts};
 pub use reading::read_image;
 pub use writing::write_image;
+
+#[cfg(test)]
+mod tests;
