@@ -1,7 +1,6 @@
 -- The parts of an assembled source are an image's.
-use Rattle.std.proofs.Common.{◌≡◌, ◌≢◌, true, false, Bool, ℕ, zero, suc, ◌+◌, ◌-◌, ◌*◌, ◌%◌, ◌^◌, ◌<◌, ◌≤◌, ◌==◌, ◌&&◌, not, if◌then◌else◌, nat_lt, List, [], ◌∷◌, ◌++◌, length, map, Option, Some, None, refl, sym, ap, ◌∙◌, subst, arith, length-append}
+use Rattle.std.proofs.Common.{◌≡◌, ◌≢◌, true, false, Bool, ℕ, zero, suc, ◌+◌, ◌*◌, ◌%◌, ◌<◌, ◌≤◌, if◌then◌else◌, List, [], ◌∷◌, length, map, Option, Some, None, refl, sym, ap, ◌∙◌, subst, arith, length-append}
 use Rattle.std.proofs.lemmas.Bool.{true≢false}
-use Rattle.std.proofs.lemmas.Bool.Decides.{nat_tests}
 use Rattle.std.proofs.lemmas.List.{length-map}
 use Rattle.std.proofs.Math.Nat.{suc-mul}
 use Rattle.std.specs.Option.{option_map_or}
@@ -12,11 +11,9 @@ use Rattle.alw_num.specs.declared.addresses.LineNo.{LineNo}
 use Rattle.alw_num.specs.declared.addresses.NodeNo.{NodeNo}
 use Rattle.alw_image.specs.declared.parts.Parts.{Parts}
 use Rattle.alw_image.specs.Images.{IsImage, IsDataLine, IsStart, context_started, zero_line}
-use Rattle.sparc_asm.specs.declared.values.Sum.{Sum}
-use Rattle.sparc_asm.specs.Values.{above, below, modulo}
 use Rattle.sparc_place.specs.declared.plans.Plan.{Plan}
 use Rattle.sparc_place.specs.Sizes.{size_of}
-use Rattle.sparc_place.specs.Places.{Layout, node_count, line_count}
+use Rattle.sparc_place.specs.Places.{line_count}
 use Rattle.sparc_place.specs.Plans.{layout_of}
 use Rattle.sparc_assemble.specs.Assembly.{Filled, body_at, is_zero, data_line, start_at, starts_of, some_starts, always_at, gathered, parts_of}
 use Rattle.sparc_assemble.proofs.Rising.{Rises, increasing, rises_gathered, map_gathered, all_gathered}

@@ -1,11 +1,10 @@
 -- Coded instructions within the table, and statements that fill in nothing but them.
-use Rattle.std.proofs.Common.{◌≡◌, ℕ, List, Option, Result, Ok, Err, subst, sym, refl, ◌∙◌}
+use Rattle.std.proofs.Common.{◌≡◌, ℕ, List, Result, Ok, Err, subst, sym, refl, ◌∙◌}
 use Rattle.alw_num.specs.declared.addresses.Width.{Width}
 use Rattle.sparc_table.specs.declared.instructions.Instr.{Instr}
 use Rattle.sparc_table.specs.Table.{Fits}
-use Rattle.sparc_asm.specs.declared.faults.Fault.{Fault}
 use Rattle.sparc_asm.specs.declared.encoding.Coded.{Coded}
-use Rattle.sparc_asm.specs.declared.encoding.Coded.TheVariants.{Nothing, One, Two}
+use Rattle.sparc_asm.specs.declared.encoding.Coded.TheVariants.{One, Two}
 use Rattle.sparc_asm.specs.declared.statements.Signed.{Signed}
 use Rattle.sparc_asm.specs.declared.statements.Statement.{Statement}
 use Rattle.sparc_asm.specs.declared.statements.Statement.TheVariants as statement

@@ -1,5 +1,5 @@
 -- Lists gathered from the numbers below another.
-use Rattle.std.proofs.Common.{◌≡◌, false, ℕ, zero, suc, ◌+◌, ◌≤◌, add-one, List, [], ◌∷◌, ◌++◌, length, refl, sym, ap, ◌∙◌, append_assoc}
+use Rattle.std.proofs.Common.{◌≡◌, false, ℕ, ◌+◌, add-one, List, [], ◌∷◌, ◌++◌, sym, ap, ◌∙◌, append_assoc}
 use Rattle.std.proofs.lemmas.List.{append-nil}
 use Rattle.alw_num.specs.declared.addresses.Line.{Line as Body}
 use Rattle.alw_num.specs.declared.addresses.LineNo.{LineNo}

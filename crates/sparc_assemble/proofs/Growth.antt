@@ -1,29 +1,23 @@
 -- How many code words lines fill in: as many as they lay down.
-use Rattle.std.proofs.Common.{◌≡◌, true, false, Bool, ℕ, ◌+◌, ◌/◌, ◌≤◌, ◌==◌, ◌&&◌, ◌||◌, not, if◌then◌else◌, nat_le, List, [], ◌∷◌, ◌++◌, length, map, drop, slice_get, Option, Some, None, Result, Ok, Err, refl, sym, ap, ◌∙◌, arith, length-append}
+use Rattle.std.proofs.Common.{◌≡◌, true, false, Bool, ℕ, ◌+◌, ◌/◌, ◌≤◌, ◌&&◌, ◌||◌, not, if◌then◌else◌, nat_le, List, [], length, map, Option, Some, None, Result, Ok, Err, refl, sym, ap, ◌∙◌, arith, length-append}
 use Rattle.std.proofs.lemmas.List.{length-map}
 use Rattle.std.proofs.lemmas.Bool.{true≢false}
 use Rattle.std.proofs.lemmas.Bool.Decides.{nat_tests}
 use Rattle.alw_num.specs.declared.addresses.Width.{Width}
-use Rattle.alw_num.specs.declared.addresses.Width.TheVariants.{Byte, Half, Word}
 use Rattle.sparc_table.specs.declared.instructions.Instr.{Instr}
 use Rattle.sparc_table.specs.declared.instructions.Instr.TheVariants as instr
 use Rattle.sparc_asm.specs.declared.faults.Fault.{Fault}
 use Rattle.sparc_asm.specs.declared.faults.Fault.TheVariants.{UnknownName, Redefined, Range, Unaligned, Overlap}
-use Rattle.sparc_asm.specs.declared.faults.AsmErr.{AsmErr}
 use Rattle.sparc_asm.specs.declared.encoding.Coded.{Coded}
-use Rattle.sparc_asm.specs.declared.encoding.Coded.TheVariants.{Nothing, One, Two}
+use Rattle.sparc_asm.specs.declared.encoding.Coded.TheVariants.{One}
 use Rattle.sparc_asm.specs.declared.statements.Statement.{Statement}
 use Rattle.sparc_asm.specs.declared.statements.Statement.TheVariants as statement
 use Rattle.sparc_asm.specs.declared.statements.Signed.{Signed}
-use Rattle.sparc_asm.specs.declared.statements.Line.{Line}
 use Rattle.sparc_asm.specs.Values.{above}
 use Rattle.sparc_asm.specs.Encoding.{◌>>=◌, number_of, word_of, operand_of, call_distance, branch_distance, plain_operand, set_word, coded}
 use Rattle.sparc_asm.specs.Words.{coded_words}
-use Rattle.sparc_asm.proofs.Reading.{drop_get}
-use Rattle.sparc_place.specs.declared.cursors.Place.{Place}
-use Rattle.sparc_place.specs.Places.{Layout, is_unknown, label_again, statement_again, fits, is_aligned, overlaps, statement_fault, here_of, is_word, fault_with, place_fault, place_or, labelled, laid, laid_with, behind, places, place_of, places_of}
-use Rattle.sparc_assemble.specs.Assembly.{Names, Filled, coded_fault, value_fault, value_fault_in, with_code, datum, modulus_of, filled, filled_in, first_of, values_fault, all_filled}
-use Rattle.sparc_assemble.specs.Fillings.{HasRoom}
+use Rattle.sparc_place.specs.Places.{Layout, is_unknown, label_again, statement_again, fits, is_aligned, overlaps, statement_fault, here_of, is_word, fault_with, labelled, laid, laid_with, place_of}
+use Rattle.sparc_assemble.specs.Assembly.{Names, Filled, coded_fault, value_fault, value_fault_in, with_code, datum, modulus_of, filled, filled_in}
 
 -- ---- words of a statement
 

@@ -1,13 +1,12 @@
 -- Values of data, and how they are spelled.
-use Rattle.std.proofs.Common.{◌≡◌, true, false, Bool, ℕ, zero, suc, add-one, ◌+◌, ◌%◌, List, [], ◌∷◌, ◌++◌, length, map, take, drop, slice_get, slice_index, Option, Some, None, Result, Ok, Err, is_none, refl, sym, ap, ◌∙◌, arith, append_assoc, length-append}
+use Rattle.std.proofs.Common.{◌≡◌, true, false, Bool, ℕ, zero, suc, add-one, ◌+◌, ◌%◌, List, [], ◌∷◌, ◌++◌, length, map, take, drop, slice_get, Some, None, refl, sym, ap, ◌∙◌, arith, append_assoc, length-append}
 use Rattle.std.specs.List.{list_any, flat_map}
 use Rattle.std.proofs.lemmas.List.{append-nil}
 use Rattle.alw_num.specs.declared.addresses.Width.{Width}
 use Rattle.alw_num.specs.declared.addresses.Width.TheVariants.{Byte, Half, Word}
 use Rattle.alw_num.specs.Lanes.{bytes_in}
 use Rattle.sparc_asm.specs.declared.values.Sum.{Sum}
-use Rattle.sparc_asm.specs.declared.faults.Fault.{Fault}
-use Rattle.sparc_asm.specs.declared.faults.Fault.TheVariants.{UnknownName, Range}
+use Rattle.sparc_asm.specs.declared.faults.Fault.TheVariants.{Range}
 use Rattle.sparc_asm.specs.declared.statements.Signed.{Signed}
 use Rattle.sparc_asm.specs.Values.{value_of}
 use Rattle.sparc_asm.proofs.Reading.{drop_get}

@@ -1,5 +1,5 @@
 -- The addresses of starts are those of code words.
-use Rattle.std.proofs.Common.{◌≡◌, true, false, Bool, ℕ, ◌+◌, ◌-◌, ◌*◌, ◌%◌, ◌^◌, ◌<◌, ◌≤◌, ◌==◌, ◌&&◌, not, if◌then◌else◌, nat_lt, List, [], ◌∷◌, Option, Some, None, refl, sym, ap, ◌∙◌, arith}
+use Rattle.std.proofs.Common.{◌≡◌, true, false, Bool, ℕ, ◌+◌, ◌*◌, ◌%◌, ◌^◌, ◌<◌, ◌≤◌, ◌==◌, ◌&&◌, not, if◌then◌else◌, nat_lt, List, [], ◌∷◌, Option, Some, None, refl, sym, arith}
 use Rattle.std.proofs.lemmas.Bool.Decides.{nat_tests}
 use Rattle.alw_num.specs.declared.addresses.Width.{Width}
 use Rattle.sparc_asm.specs.declared.faults.Fault.{Fault}
@@ -12,7 +12,6 @@ use Rattle.sparc_asm.specs.declared.statements.Statement.TheVariants as statemen
 use Rattle.sparc_asm.specs.declared.statements.Line.{Line}
 use Rattle.sparc_asm.specs.Values.{value_of, above, below, modulo}
 use Rattle.sparc_place.specs.declared.cursors.Place.{Place}
-use Rattle.sparc_place.specs.Places.{fault_at}
 use Rattle.sparc_assemble.specs.Assembly.{Names, Filled, nothing_filled, start_fault, value_fault, value_fault_in, first_of, values_fault, datum, put_start, with_values, filled, filled_in, all_filled}
 use Rattle.sparc_assemble.proofs.Allowed.{AreAddresses}
 

@@ -1,6 +1,5 @@
 -- Going through lines at their places.
 use Rattle.std.proofs.Common.{◌≡◌, ℕ, ◌+◌, ◌≤◌, List, [], ◌∷◌, length, drop, slice_get, Option, Some, None, Result, Ok, Err, refl, sym, ap, ◌∙◌, arith}
-use Rattle.std.proofs.lemmas.List.{drop_all}
 use Rattle.sparc_asm.specs.declared.faults.Fault.{Fault}
 use Rattle.sparc_asm.specs.declared.faults.Fault.TheVariants.{UnknownName, Redefined, Range, Unaligned, Overlap}
 use Rattle.sparc_asm.specs.declared.faults.AsmErr.{AsmErr}
@@ -8,7 +7,7 @@ use Rattle.sparc_asm.specs.declared.statements.Line.{Line}
 use Rattle.sparc_asm.proofs.Reading.{drop_get}
 use Rattle.sparc_place.specs.declared.cursors.Place.{Place}
 use Rattle.sparc_place.specs.Places.{Layout, place_fault, place_or, behind, places, place_of, places_of, fault_at}
-use Rattle.sparc_assemble.specs.Assembly.{Names, Filled, value_fault_in, filled_in, first_of, values_fault, all_filled}
+use Rattle.sparc_assemble.specs.Assembly.{Names, Filled, value_fault_in, filled_in, values_fault, all_filled}
 use Rattle.sparc_assemble.specs.Fillings.{HasRoom, FillsLine, FillsAll, refused_at}
 use Rattle.sparc_assemble.specs.declared.refusals.Refusal.{Refusal}
 use Rattle.sparc_assemble.specs.declared.refusals.Refusal.TheVariants as refusal

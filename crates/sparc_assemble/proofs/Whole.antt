@@ -1,18 +1,16 @@
 -- The answers of the three passes are those of a source.
-use Rattle.std.proofs.Common.{◌≡◌, ◌≢◌, true, false, ℕ, ◌==◌, ◌≤◌, List, length, map, Option, Some, None, Result, Ok, Err, refl, sym, ap, ◌∙◌, subst, arith}
+use Rattle.std.proofs.Common.{◌≡◌, ◌≢◌, false, ℕ, ◌==◌, List, map, Option, Some, None, Result, Ok, Err, refl, sym, ap, ◌∙◌, arith}
 use Rattle.std.proofs.lemmas.Bool.Decides.{nat_tests}
 use Rattle.sparc_asm.specs.declared.faults.AsmErr.{AsmErr}
 use Rattle.sparc_asm.specs.declared.faults.AsmErr.TheVariants.{Syntax, UnknownName, Redefined, Range, Unaligned, Overlap, NoMemory}
 use Rattle.sparc_asm.specs.declared.statements.Line.{Line}
 use Rattle.sparc_asm.specs.Sources.{read_source, AnswersLines}
 use Rattle.sparc_place.specs.declared.cursors.Place.{Place}
-use Rattle.sparc_place.specs.declared.passes.Laid.{Laid}
 use Rattle.sparc_place.specs.Places.{Layout, nothing_laid, places, places_of}
-use Rattle.sparc_place.specs.Plans.{layout_of, AnswersPlaces}
+use Rattle.sparc_place.specs.Plans.{AnswersPlaces}
 use Rattle.sparc_assemble.specs.declared.assembling.Assembled.{Assembled}
-use Rattle.sparc_assemble.specs.declared.fillings.Filling.{Filling}
 use Rattle.sparc_assemble.specs.Assembly.{Filled, nothing_filled, values_fault, all_filled, parts_of, whole_of, after_values, after_places, after_lines, assembled, Answers}
-use Rattle.sparc_assemble.specs.Fillings.{filled_of, FillsAll}
+use Rattle.sparc_assemble.specs.Fillings.{FillsAll}
 
 -- an error that isn't want of memory is the wanted one
 answers_err : (wanted : Result Assembled AsmErr) (e : AsmErr) → (e ≢ NoMemory → wanted ≡ Err e) → Answers wanted (Err e)

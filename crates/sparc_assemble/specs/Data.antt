@@ -1,5 +1,5 @@
 -- What is answered for values of data.
-use Rattle.std.specs.Prelude.{◌≡◌, ℕ, Bool, List, map, Option, Some, None, is_none, Result, Ok, Err, ⊤}
+use Rattle.std.specs.Prelude.{◌≡◌, ℕ, Bool, List, map, Some, None, is_none, Result, Ok, Err, ⊤}
 use Rattle.std.specs.List.{list_any}
 use Rattle.alw_num.specs.declared.addresses.Width.{Width}
 use Rattle.sparc_asm.specs.declared.statements.Signed.{Signed}

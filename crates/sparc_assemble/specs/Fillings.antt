@@ -1,7 +1,6 @@
 -- What a filling holds, and what its functions answer.
 use Rattle.std.specs.Prelude.{◌≡◌, ℕ, ◌+◌, ◌*◌, ◌≤◌, ◌&&◌, length, if◌then◌else◌, Bool, nat_lt, List, slice_index, slice_index_or, Option, Some, None, Result, Ok, Err, ⊤}
 use Rattle.sparc_asm.specs.declared.statements.Statement.{Statement}
-use Rattle.sparc_asm.specs.declared.statements.Line.{Line}
 use Rattle.sparc_asm.specs.declared.faults.Fault.{Fault}
 use Rattle.sparc_asm.specs.declared.faults.AsmErr.{AsmErr}
 use Rattle.sparc_asm.specs.declared.faults.AsmErr.TheVariants.{NoMemory}
@@ -12,7 +11,7 @@ use Rattle.sparc_place.specs.Places.{fault_at}
 use Rattle.sparc_assemble.specs.declared.refusals.Refusal.{Refusal}
 use Rattle.sparc_assemble.specs.declared.refusals.Refusal.TheVariants as refusal
 use Rattle.sparc_assemble.specs.declared.fillings.Filling.{Filling}
-use Rattle.sparc_assemble.specs.Assembly.{Names, Filled, coded_fault, with_code, value_fault, value_fault_in, filled, filled_in, values_fault, all_filled, nothing_filled}
+use Rattle.sparc_assemble.specs.Assembly.{Names, Filled, coded_fault, with_code, value_fault, value_fault_in, filled, filled_in}
 
 -- the address that a table gives a context
 abbrev pub address_in : List (Option ℕ) → ℕ → ℕ → Option ℕ

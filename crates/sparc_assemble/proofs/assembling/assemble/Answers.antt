@@ -1,5 +1,4 @@
-use Rattle.std.proofs.Common.{◌≡◌, ◌≢◌, ◌≤◌, ℕ, length, false, true, sym, ap, ◌∙◌, subst, refl, arith}
-use Rattle.alw_image.specs.declared.parts.Parts.{Parts}
+use Rattle.std.proofs.Common.{◌≡◌, ◌≢◌, ◌≤◌, ℕ, length, false, true, sym, ◌∙◌, subst, arith}
 use Rattle.alw_image.specs.Images.{IsImage}
 use Rattle.sparc_asm.specs.Names.{value_in}
 use Rattle.sparc_asm.proofs.LineRanges.{lines_fit}

@@ -1,11 +1,11 @@
-use Rattle.std.proofs.Common.{◌≡◌, ◌∙◌, sym, ap, arith, is_none, true, false, Some, None}
+use Rattle.std.proofs.Common.{◌≡◌, ◌∙◌, sym, ap, arith, is_none, true, false}
 use Rattle.std.proofs.lemmas.Bool.{true≢false}
 use Rattle.sparc_asm.specs.Names.{value_in}
 use Rattle.sparc_asm.specs.Values.{value_of}
 use Rattle.sparc_asm.proofs.Reading.{pushed_length}
 use Rattle.sparc_assemble.specs.Assembly.{is_outside, datum, modulus_of}
 use Rattle.sparc_assemble.specs.Data.{is_unknown_in}
-use Rattle.sparc_assemble.proofs.Spellings.{any_here, any_behind, map_from, range_fault, no_fault}
+use Rattle.sparc_assemble.proofs.Spellings.{any_here, any_behind, map_from, range_fault}
 use Rattle.sparc_assemble.proofs.data.data_values.Goals as goal
 
 pub returns-in-Some-2 : goal.returns-in-Some-2

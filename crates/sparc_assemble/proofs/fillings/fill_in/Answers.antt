@@ -1,4 +1,4 @@
-use Rattle.std.proofs.Common.{◌≡◌, ◌+◌, ◌∙◌, ap, sym, arith, length}
+use Rattle.std.proofs.Common.{◌+◌, ◌∙◌, ap, arith, length}
 use Rattle.sparc_asm.specs.Names.{value_in}
 use Rattle.sparc_asm.proofs.LineRanges.{line_fits_at}
 use Rattle.sparc_place.specs.Places.{nothing_laid, behind}

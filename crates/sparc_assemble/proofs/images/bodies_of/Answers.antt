@@ -1,4 +1,4 @@
-use Rattle.std.proofs.Common.{◌≡◌, List, [], ◌∷◌, ◌++◌, ◌∙◌, ap, sym, arith, slice_index}
+use Rattle.std.proofs.Common.{◌≡◌, [], ◌∷◌, ◌++◌, ◌∙◌, ap, sym, arith, slice_index}
 use Rattle.sparc_asm.proofs.Reading.{pushed_length}
 use Rattle.sparc_assemble.specs.Assembly.{data_line}
 use Rattle.sparc_assemble.proofs.Gathering.{with_more, listed}

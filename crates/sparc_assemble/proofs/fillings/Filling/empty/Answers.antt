@@ -1,4 +1,4 @@
-use Rattle.std.proofs.Common.{◌≡◌, List, [], ℕ, Option, None}
+use Rattle.std.proofs.Common.{◌≡◌, [], ℕ, Option, None}
 use Rattle.sparc_assemble.specs.Fillings.{address_in}
 use Rattle.sparc_assemble.proofs.Tables.{no_address}
 use Rattle.sparc_assemble.proofs.fillings.Filling.empty.Goals as goal

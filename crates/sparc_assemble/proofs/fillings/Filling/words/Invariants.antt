@@ -1,4 +1,4 @@
-use Rattle.std.proofs.Common.{◌≡◌, ◌++◌, ◌+◌, ℕ, map, take, drop, length}
+use Rattle.std.proofs.Common.{◌≡◌, ◌++◌, ◌+◌, map, drop, length}
 use Rattle.sparc_assemble.proofs.fillings.Filling.words.Given as goal
 
 abbrev pub invariant-loop-i : goal.invariant-loop-i

@@ -1,4 +1,4 @@
-use Rattle.std.proofs.Common.{◌∙◌, ap, sym, arith, ◌+◌, slice_index}
+use Rattle.std.proofs.Common.{◌∙◌, ap, arith, ◌+◌, slice_index}
 use Rattle.sparc_assemble.proofs.Spellings.{more_written, more_length}
 use Rattle.sparc_assemble.proofs.memory.Memory.write_values.Goals as goal
 
