@@ -1,4 +1,4 @@
-ghost use Rattle.std.specs.Prelude.{◌≡◌, ◌≢◌, ◌<◌, ◌^◌, length, map, IfOk, IsTrue};
+ghost use Rattle.std.specs.Prelude.{◌≡◌, ◌≢◌, ◌<◌, map, IfOk, IsTrue};
 ghost use Rattle.std.specs.List.{range_with_len};
 ghost use Rattle.alw_num.specs.declared.addresses.LineNo.{LineNo};
 ghost use Rattle.alw_num.specs.declared.states.Mode.{Mode};
@@ -56,8 +56,19 @@ impl Flat {
     pub fn start(alloc: Global, image: &Image) -> Result<Flat, NoMemory>
         ensures { IfOk result (λ f. f ≡ record { parts = for_turns image.now; flat = flat_start image.now }) }
     {
-        let code = copy_of(alloc, image.code().words())?;
-        with_code(alloc, image, code)
+        let code = image.code().copy()?;
+        let nodes = u32::from(image.width()) * u32::from(image.height());
+        let memory = Memory::start(alloc, image, nodes * u32::from(image.per_node()))?;
+        let contexts = contexts_at_start(alloc, image, nodes * u32::from(image.contexts()))?;
+        Ok(Flat {
+            width: image.width(),
+            height: image.height(),
+            slots: image.contexts(),
+            per_node: image.per_node(),
+            code,
+            memory,
+            contexts,
+        })
     }
 
     /// A turn of a context that is Ready: the instruction at its PC, on the one memory. It never
@@ -102,36 +113,6 @@ fn left_by(regs: &Regs, outcome: Outcome) -> Status
         Outcome::Trap { tt } => Status::Trapped { pc: regs.pc, tt },
         _ => Status::Ready,
     }
-}
-
-// The flat machine of an image at the start, with this program in place of the image's.
-pub fn with_code(alloc: Global, image: &Image, code: Code) -> Result<Flat, NoMemory>
-    ensures { IfOk result (λ f. f ≡ record { parts = record (for_turns image.now) { code = code }; flat = flat_start image.now }) }
-{
-    let nodes = u32::from(image.width()) * u32::from(image.height());
-    let memory = Memory::start(alloc, image, nodes * u32::from(image.per_node()))?;
-    let contexts = contexts_at_start(alloc, image, nodes * u32::from(image.contexts()))?;
-    Ok(Flat {
-        width: image.width(),
-        height: image.height(),
-        slots: image.contexts(),
-        per_node: image.per_node(),
-        code,
-        memory,
-        contexts,
-    })
-}
-
-// The words of a program, once more.
-fn copy_of(alloc: Global, words: &[u32]) -> Result<Code, NoMemory>
-    requires { length words.now < 2 ^ 32 }
-    ensures { IfOk result (λ code. code ≡ words.now) }
-{
-    let mut code = Code::empty(alloc);
-    for word in words {
-        code.push(*word)?;
-    }
-    Ok(code)
 }
 
 // The status of a context at the start: Halted where the image has no start for it.
