@@ -1,14 +1,13 @@
 -- The instructions of a statement within its ranges are within the instruction table.
-use Rattle.std.proofs.Common.{◌≡◌, true, false, Bool, ℕ, ◌+◌, ◌-◌, ◌/◌, ◌%◌, ◌^◌, ◌<◌, ◌≤◌, ◌==◌, ◌&&◌, if◌then◌else◌, nat_le, IsTrue, List, Option, Some, None, Result, Ok, Err, refl, sym, ap, ◌∙◌, arith}
+use Rattle.std.proofs.Common.{◌≡◌, true, false, Bool, ℕ, ◌-◌, ◌/◌, ◌%◌, ◌^◌, ◌<◌, ◌≤◌, ◌==◌, if◌then◌else◌, nat_le, List, Option, Some, None, Result, Ok, Err, refl, arith}
 use Rattle.std.proofs.lemmas.Bool.Decides.{nat_tests}
-use Rattle.sparc_table.specs.declared.instructions.Operand.{Operand}
-use Rattle.sparc_table.specs.declared.instructions.Operand.TheVariants.{Reg, Imm}
+use Rattle.sparc_table.specs.declared.instructions.Operand.TheVariants.{Imm}
 use Rattle.sparc_table.specs.declared.instructions.Instr.TheVariants as instr
 use Rattle.sparc_table.specs.Table.{FitsOperand, Fits}
 use Rattle.sparc_asm.specs.declared.names.Value.{Value}
 use Rattle.sparc_asm.specs.declared.values.Sum.{Sum}
 use Rattle.sparc_asm.specs.declared.faults.Fault.{Fault}
-use Rattle.sparc_asm.specs.declared.faults.Fault.TheVariants.{UnknownName, Range, Unaligned}
+use Rattle.sparc_asm.specs.declared.faults.Fault.TheVariants.{Range, Unaligned}
 use Rattle.sparc_asm.specs.declared.statements.Signed.{Signed}
 use Rattle.sparc_asm.specs.declared.statements.Source.{Source}
 use Rattle.sparc_asm.specs.declared.statements.Source.TheVariants as source

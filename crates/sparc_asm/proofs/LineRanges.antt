@@ -1,9 +1,9 @@
 -- The lines that are read are within their ranges.
-use Rattle.std.proofs.Common.{◌≡◌, true, false, Bool, ℕ, ◌+◌, ◌-◌, ◌*◌, ◌<◌, ◌≤◌, ◌==◌, ◌&&◌, if◌then◌else◌, nat_lt, IsTrue, List, [], ◌∷◌, ◌++◌, length, slice_get, slice_index, zero, suc, Option, Some, None, Result, Ok, Err, subst, refl, sym, ap, ◌∙◌, arith}
+use Rattle.std.proofs.Common.{◌≡◌, true, false, Bool, ℕ, ◌+◌, ◌-◌, ◌*◌, ◌<◌, ◌≤◌, ◌==◌, ◌&&◌, if◌then◌else◌, nat_lt, IsTrue, List, [], ◌∷◌, length, slice_get, slice_index, zero, suc, Option, Some, None, Result, Ok, Err, subst, refl, sym, arith}
 use Rattle.std.specs.Option.{option_map}
 use Rattle.std.specs.Int.{is_in_range}
 use Rattle.std.specs.Char.{is_ascii_digit}
-use Rattle.std.specs.List.{list_all, AllByRecursion}
+use Rattle.std.specs.List.{list_all}
 use Rattle.std.specs.Str.{bytes_eq}
 use Rattle.std.proofs.lemmas.Bool.{true≢false}
 use Rattle.std.proofs.lemmas.Bool.Decides.{nat_tests}
@@ -18,18 +18,16 @@ use Rattle.sparc_asm.specs.declared.lexemes.Lexeme.TheVariants as lexeme
 use Rattle.sparc_asm.specs.declared.mnemonics.Form.{Form}
 use Rattle.sparc_asm.specs.declared.mnemonics.Form.TheVariants as form
 use Rattle.sparc_asm.specs.declared.statements.Term.{Term}
-use Rattle.sparc_asm.specs.declared.statements.Signed.{Signed}
 use Rattle.sparc_asm.specs.declared.statements.Source.{Source}
 use Rattle.sparc_asm.specs.declared.statements.Source.TheVariants as source
-use Rattle.sparc_asm.specs.declared.statements.Address.{Address}
 use Rattle.sparc_asm.specs.declared.statements.Statement.{Statement}
 use Rattle.sparc_asm.specs.declared.statements.Statement.TheVariants as statement
 use Rattle.sparc_asm.specs.declared.statements.Line.{Line}
 use Rattle.sparc_asm.specs.declared.faults.AsmErr.{AsmErr}
 use Rattle.sparc_asm.specs.Lexemes.{banked, short_register, long_register, two_characters, percented, literal, marked, worded, lexeme_of, lexeme_before, lexemes_of}
 use Rattle.sparc_asm.specs.Mnemonics.{mnemonics, directives, row_of, form_of, directive_of}
-use Rattle.sparc_asm.specs.Expressions.{term_of, signed, expression_of, before_last, is_close, in_parens, operand_of, register_of, address_at, less, offset_of, address_of, address_in, in_brackets}
-use Rattle.sparc_asm.specs.Statements.{◌>>=◌, is_comma, at_comma, values_of, nothing, three_operands, constant, arith_of, shift_of, load_of, store_of, annulled, branch_of, trap_address, read_y_of, is_y, write_y_of, jmpl_of, sethi_of, sethi_to, compare_of, move_of, test_of, clear_of, set_of, mesh_of, equ_of, start_of, statement_of, named, perhaps_statement, line_with, line_of}
+use Rattle.sparc_asm.specs.Expressions.{term_of, expression_of, before_last, is_close, in_parens, operand_of, register_of, address_at, less, offset_of, address_of, address_in, in_brackets}
+use Rattle.sparc_asm.specs.Statements.{◌>>=◌, is_comma, at_comma, values_of, nothing, three_operands, constant, load_of, store_of, annulled, trap_address, read_y_of, is_y, write_y_of, jmpl_of, sethi_of, sethi_to, compare_of, move_of, set_of, mesh_of, equ_of, start_of, statement_of, named, perhaps_statement, line_with, line_of}
 use Rattle.sparc_asm.specs.Sources.{read_line, line_before, read_from, read_source}
 use Rattle.sparc_asm.specs.Ranges.{SourceFits, AddressFits, StatementFits, FitsIn, LineFits, EachFits}
 

@@ -1,5 +1,5 @@
 -- Statements whose registers, op3 and conditions are within their fields, as those of each line that is read.
-use Rattle.std.specs.Prelude.{ℕ, ◌<◌, IsTrue, List, Option, Some, None}
+use Rattle.std.specs.Prelude.{◌<◌, IsTrue, List, Option, Some, None}
 use Rattle.std.specs.List.{AllByRecursion}
 use Rattle.sparc_table.specs.Table.{is_in, arithmetic, shifts, accesses}
 use Rattle.sparc_asm.specs.declared.statements.Source.{Source}

@@ -16,9 +16,9 @@ pub struct Assembled {
     pub lines: LineList,
 }
 
-/// Assembles a source, in three passes: its lines, each by itself; where each of them stands; and their values. The
-/// first pass with a fault decides, in it the first line, and on that line the fault that stands first in `AsmErr`.
-/// A source without a code word is Range at line 0.
+/// Assembles a source in the notation of the SPARC V8 manual, appendix A, in three passes: its lines, each by itself;
+/// where each of them stands; and their values. The first pass with a fault decides, in it the first line, and on that
+/// line the fault that stands first in `AsmErr`. A source without a code word is Range at line 0.
 #[tactic(auto, unfolding(crate::specs::Assembly::assembled))]
 pub fn assemble(alloc: Global, text: &[u8]) -> Result<Assembled, AsmErr>
     requires { length text.now < 2 ^ 32 - 1 }

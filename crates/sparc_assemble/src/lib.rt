@@ -10,7 +10,6 @@ mod memory;
 mod refusals;
 
 pub use assembling::{Assembled, assemble};
-pub use fillings::{Filling, fill_in};
 
 #[cfg(test)]
 mod tests;

@@ -136,6 +136,7 @@ go:     ta 0
         .skip 4
         .align 4
         .word go
+        .byte 7,-1
         .start 1,0,go
         .start 0,one,0
         .always 3
@@ -156,6 +157,7 @@ go:     ta 0
     assert_eq!(rt; body.a, 0x0001_ffff);
     assert_eq!(rt; body.b, 0);
     assert_eq!(rt; body.c, 4);
+    assert_eq!(rt; body.d, 0x07ff_0000);
     assert_eq!(rt; parts.starts.len(), 2);
     let (node, slot, address) = parts.starts.at(0);
     assert_eq!(rt; (node.0, slot, address), (0, 1, 0));

@@ -1,12 +1,11 @@
 -- Going through lines one by one.
-use Rattle.std.proofs.Common.{◌≡◌, true, false, Bool, ℕ, ◌+◌, List, [], ◌∷◌, ◌++◌, length, drop, slice_get, Option, Some, None, Result, Ok, Err, refl, sym, ap, ◌∙◌, arith, append_assoc}
-use Rattle.std.proofs.lemmas.List.{append-nil, drop_all}
+use Rattle.std.proofs.Common.{◌≡◌, false, ℕ, ◌+◌, List, [], ◌∷◌, ◌++◌, drop, slice_get, Option, Some, None, Result, Ok, Err, refl, sym, ap, ◌∙◌, append_assoc}
 use Rattle.sparc_asm.specs.declared.faults.Fault.{Fault}
 use Rattle.sparc_asm.specs.declared.faults.AsmErr.{AsmErr}
 use Rattle.sparc_asm.specs.declared.faults.AsmErr.TheVariants.{Syntax, UnknownName, Redefined, Range, Unaligned, Overlap, NoMemory}
 use Rattle.sparc_asm.specs.declared.statements.Statement.{Statement}
 use Rattle.sparc_asm.specs.declared.statements.Line.{Line}
-use Rattle.sparc_asm.proofs.Reading.{drop_get, pushed_length}
+use Rattle.sparc_asm.proofs.Reading.{drop_get}
 use Rattle.sparc_place.specs.declared.cursors.Place.{Place}
 use Rattle.sparc_place.specs.declared.plans.Step.{Step}
 use Rattle.sparc_place.specs.Places.{Layout, place_fault, label_again, labelled, laid, behind, here_of, places, places_of, place_of, place_or}

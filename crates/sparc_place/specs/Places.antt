@@ -3,7 +3,7 @@ use Rattle.std.specs.Prelude.{ℕ, ◌+◌, ◌-◌, ◌*◌, ◌/◌, ◌%◌, 
 use Rattle.std.specs.List.{list_any}
 use Rattle.std.specs.Str.{bytes_eq}
 use Rattle.alw_num.specs.declared.addresses.Width.{Width}
-use Rattle.alw_num.specs.declared.addresses.Width.TheVariants.{Byte, Half, Word}
+use Rattle.alw_num.specs.declared.addresses.Width.TheVariants.{Word}
 use Rattle.alw_num.specs.Lanes.{bytes_in}
 use Rattle.sparc_asm.specs.declared.names.Value.{Value}
 use Rattle.sparc_asm.specs.declared.values.Sum.{Sum}

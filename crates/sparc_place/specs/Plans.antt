@@ -1,7 +1,6 @@
 -- What a plan has laid down, and how a step goes on from there.
-use Rattle.std.specs.Prelude.{◌≡◌, ℕ, ◌+◌, ◌*◌, ◌&&◌, ◌||◌, ◌==◌, Bool, true, false, not, if◌then◌else◌, nat_lt, nat_le, List, Option, Some, None, Result, Ok, Err, ⊤}
+use Rattle.std.specs.Prelude.{◌≡◌, ℕ, ◌+◌, ◌&&◌, ◌||◌, true, false, not, if◌then◌else◌, nat_le, List, Option, Some, None, Result, Ok, Err, ⊤}
 use Rattle.std.specs.Option.{option_map}
-use Rattle.sparc_asm.specs.declared.names.Value.{Value}
 use Rattle.sparc_asm.specs.declared.statements.Statement.{Statement}
 use Rattle.sparc_asm.specs.declared.statements.Line.{Line}
 use Rattle.sparc_place.specs.declared.passes.Laid.{Laid}

@@ -9,8 +9,7 @@ mod plans;
 mod sizes;
 mod steps;
 
-pub use cursors::{Cursor, Place, Places};
-pub use marks::Marks;
+pub use cursors::{Place, Places};
 pub use passes::{Laid, fault_at, lay_out};
 pub use plans::Plan;
 pub use sizes::Sizes;

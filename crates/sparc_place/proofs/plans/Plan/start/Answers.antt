@@ -1,4 +1,4 @@
-use Rattle.std.proofs.Common.{◌≡◌, ℕ, Bool}
+use Rattle.std.proofs.Common.{◌≡◌}
 use Rattle.sparc_place.specs.Places.{with_start}
 use Rattle.sparc_place.specs.Marks.{is_context_marked}
 use Rattle.sparc_place.proofs.plans.Plan.start.Goals as goal
