@@ -65,6 +65,15 @@ impl Cache {
         Some(copy.line)
     }
 
+    /// The copy that a set holds, as it would leave. None exactly where it holds nothing.
+    pub fn standing(&self, set: u32) -> Option<Evicted>
+        requires { set < self.now.sets }
+        ensures copy { result ≡ option_map evicted_of (value_at self.now.copies set) }
+        ensures set { IfSome result (λ copy. set_of self.now.sets copy.line.0 ≡ set) }
+    {
+        self.places[set as usize].copy()
+    }
+
     /// Puts a copy of a line into its set. Answers the copy of another line that the set held: Some
     /// exactly where it held one.
     pub fn fill(&mut self, line: LineNo, mode: Mode, body: Line) -> Option<Evicted>
@@ -100,15 +109,6 @@ impl Cache {
     {
         let set = (line.0 % self.sets) as usize;
         self.places[set].body = body;
-    }
-
-    // The copy that a set holds.
-    fn standing(&self, set: u32) -> Option<Evicted>
-        requires { set < self.now.sets }
-        ensures copy { result ≡ option_map evicted_of (value_at self.now.copies set) }
-        ensures set { IfSome result (λ copy. set_of self.now.sets copy.line.0 ≡ set) }
-    {
-        self.places[set as usize].copy()
     }
 
     // The copy of a line.
