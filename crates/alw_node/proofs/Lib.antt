@@ -1,0 +1,6 @@
+pub mod Deliveries
+pub mod Entries
+pub mod Handlings
+pub mod Sides
+pub mod Starts
+pub mod TableSizes
