@@ -1,11 +1,10 @@
 -- A message to memory at a home side: what the parts of a delivery come to.
-use Rattle.std.proofs.Common.{◌≡◌, ◌≢◌, ℕ, ◌+◌, ◌*◌, ◌/◌, ◌%◌, ◌<◌, ◌≤◌, Bool, true, false, cond, ◌==◌, Option, Some, None, List, [], ◌∷◌, ◌++◌, length, slice_set, slice_index_or, refl, sym, ap, ◌∙◌, subst, arith}
+use Rattle.std.proofs.Common.{◌≡◌, ℕ, ◌+◌, ◌*◌, ◌/◌, ◌%◌, ◌<◌, ◌≤◌, Bool, true, false, cond, ◌==◌, List, [], ◌∷◌, ◌++◌, length, slice_set, slice_index_or, refl, sym, ap, ◌∙◌, subst, arith}
 use Rattle.std.proofs.lemmas.Bool.{true≢false, eqb-true}
-use Rattle.std.proofs.lemmas.Bool.Decides.{nat_tests}
 use Rattle.alw_num.specs.declared.addresses.Line.{Line}
 use Rattle.alw_num.specs.declared.states.State.{State}
 use Rattle.alw_num.specs.declared.states.State.TheVariants.{RO, RW, RT, WT}
-use Rattle.alw_num.specs.NodeSets.{Nodes, no_nodes, has_node, add_node, one_node}
+use Rattle.alw_num.specs.NodeSets.{Nodes, no_nodes, has_node}
 use Rattle.alw_num.proofs.Sets.{has-none, has-add, has-one}
 use Rattle.alw_msg.specs.Kinds.{to_memory}
 use Rattle.alw_msg.specs.Sending.{Sending}
@@ -16,7 +15,7 @@ use Rattle.alw_model.specs.declared.steps.Did.{Did}
 use Rattle.alw_model.specs.declared.steps.Did.TheVariants.{Took, Packet}
 use Rattle.alw_model.specs.FullMap.{ToMemory, RREQ, WREQ, REPM, UPDATE, ACKC, Home, row}
 use Rattle.alw_model.specs.LimitLess.{Directory, Keeping, Joined, Alone, Emptied, Kept, keeping, overflows, traps_in, is_trapped, is_in_progress, hardware_of, hardware_act, trapped}
-use Rattle.alw_model.specs.Messages.{Content, ForMemory, ForCache, content, content_by, to_caches}
+use Rattle.alw_model.specs.Messages.{ForMemory, content, content_by, to_caches}
 use Rattle.alw_model.specs.NodeSteps.{Stepped, deliver_by, at_home}
 use Rattle.alw_limitless.proofs.Soundness.{trapped_sound, hardware_sound}
 use Rattle.alw_limitless.proofs.Actions.{pointers_by, row-pointers}
@@ -24,13 +23,13 @@ use Rattle.dir_full.specs.Reactions.{with_sends, HasRoom}
 use Rattle.dir_hw.specs.declared.entries.HomeEntry.{HomeEntry}
 use Rattle.dir_soft.specs.Tables.{Table, set_of_line}
 use Rattle.alw_home.specs.Changes.{directory_of}
-use Rattle.alw_home.specs.Deliveries.{is_trap, answer_by, answer_of, after_delivery}
+use Rattle.alw_home.specs.Deliveries.{answer_by, answer_of, after_delivery}
 use Rattle.alw_home.specs.declared.deliveries.Acted.{Acted}
 use Rattle.alw_home.specs.declared.deliveries.Acted.TheVariants as acted
 use Rattle.alw_proc.specs.Homeward.{sized}
 use Rattle.alw_proc.specs.Processors.{with_messages}
 use Rattle.alw_node.specs.declared.home_sides.HomeLine.{HomeLine}
-use Rattle.alw_node.specs.HomeSides.{Side, IsSide, IsBegun, IsPacket, Stands, AreBelow, side_state, with_side, side_parameters, entries_from, entry_at}
+use Rattle.alw_node.specs.HomeSides.{Side, IsSide, IsBegun, Stands, AreBelow, side_state, with_side, side_parameters, entries_from, entry_at}
 use Rattle.alw_node.specs.Insides.{side_of, has_trapped}
 use Rattle.alw_node.proofs.Entries.{home_line, length_entries, entry_read, entries_set, line_is}
 use Rattle.alw_node.proofs.Sides.{trap_keeps, act_keeps}

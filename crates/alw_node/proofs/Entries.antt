@@ -1,8 +1,6 @@
 -- Home lines as entries: what is read of one, and what a change does.
-use Rattle.std.proofs.Common.{◌≡◌, ◌≢◌, ℕ, zero, suc, ◌+◌, ◌*◌, ◌/◌, ◌%◌, ◌<◌, ◌≤◌, Bool, true, false, cond, ◌==◌, Option, Some, None, List, [], ◌∷◌, length, slice_set, slice_index_or, refl, sym, ap, ◌∙◌, subst, arith}
+use Rattle.std.proofs.Common.{◌≡◌, ◌≢◌, ℕ, zero, suc, ◌+◌, ◌*◌, ◌/◌, ◌%◌, ◌<◌, ◌≤◌, Bool, List, [], ◌∷◌, length, slice_set, slice_index_or, refl, ap, arith}
 use Rattle.std.proofs.Math.Nat.{div-add-mod, mul_comm}
-use Rattle.alw_num.specs.NodeSets.{Nodes}
-use Rattle.alw_model.specs.LimitLess.{Directory}
 use Rattle.dir_soft.specs.Tables.{Table, set_of_line}
 use Rattle.alw_home.specs.Changes.{directory_of}
 use Rattle.dir_hw.specs.declared.entries.HomeEntry.{HomeEntry}

@@ -1,21 +1,19 @@
 -- The handler at a home side: what its parts come to.
-use Rattle.std.proofs.Common.{◌≡◌, ◌≢◌, ℕ, ◌+◌, ◌*◌, ◌/◌, ◌%◌, ◌<◌, ◌≤◌, Bool, true, false, cond, ◌==◌, ◌||◌, Option, Some, None, List, [], ◌∷◌, ◌++◌, length, slice_set, slice_index_or, refl, sym, ap, ◌∙◌, subst, arith}
-use Rattle.std.proofs.Math.Nat.{div-add-mod, mul_comm, mod-lt}
+use Rattle.std.proofs.Common.{◌≡◌, ◌≢◌, ℕ, ◌+◌, ◌*◌, ◌/◌, ◌%◌, ◌<◌, ◌≤◌, Bool, true, false, cond, ◌==◌, ◌||◌, Some, None, List, [], ◌∷◌, ◌++◌, length, slice_set, slice_index_or, refl, sym, ap, ◌∙◌, subst, arith}
 use Rattle.std.proofs.lemmas.Bool.{true≢false, eqb-true, ne_eqb}
 use Rattle.std.specs.List.{AllByRecursion}
 use Rattle.alw_num.specs.Maps.{Map, value_at, with_value, without_value}
 use Rattle.alw_num.proofs.MapLaws.{value-with, value-without}
 use Rattle.alw_num.specs.declared.states.Meta.{Meta}
 use Rattle.alw_num.specs.declared.states.Meta.TheVariants.{Normal, Progress, TrapWrite, TrapAlways}
-use Rattle.alw_num.specs.NodeSets.{Nodes, no_nodes, has_node, add_node, one_node, join_nodes, count_nodes}
+use Rattle.alw_num.specs.NodeSets.{Nodes, has_node, join_nodes, count_nodes}
 use Rattle.alw_num.proofs.Sets.{has-none, has-add, has-one, has-join}
-use Rattle.alw_msg.specs.Kinds.{to_memory}
 use Rattle.alw_msg.specs.Sending.{Sending}
 use Rattle.alw_msg.specs.declared.messages.Msg.{Msg}
 use Rattle.alw_model.specs.declared.steps.Did.TheVariants.{Handled}
 use Rattle.alw_model.specs.FullMap.{ToMemory}
-use Rattle.alw_model.specs.LimitLess.{Directory, Keeping, Joined, Alone, Emptied, Kept, keeping, kept, or_always, meta_of, full_map_of, is_in_progress, handle}
-use Rattle.alw_model.specs.Messages.{ForMemory, content, content_by, to_caches}
+use Rattle.alw_model.specs.LimitLess.{Directory, Keeping, Joined, Alone, Emptied, Kept, keeping, kept, or_always, full_map_of, is_in_progress, handle}
+use Rattle.alw_model.specs.Messages.{ForMemory, content, to_caches}
 use Rattle.alw_model.specs.NodeSteps.{handle_by, handle_front}
 use Rattle.alw_limitless.proofs.Soundness.{handler_sound}
 use Rattle.dir_full.specs.Reactions.{with_sends, HasRoom}
@@ -28,10 +26,10 @@ use Rattle.alw_trap.specs.Handling.{handler_on, table_after}
 use Rattle.alw_proc.specs.Homeward.{sized}
 use Rattle.alw_proc.specs.Processors.{with_messages}
 use Rattle.alw_node.specs.declared.home_sides.HomeLine.{HomeLine}
-use Rattle.alw_node.specs.HomeSides.{Side, IsSide, IsBegun, IsPacket, IsTable, Stands, AreBelow, side_state, with_side, side_parameters, entries_from, entry_at}
+use Rattle.alw_node.specs.HomeSides.{Side, IsSide, IsBegun, IsPacket, IsTable, Stands, AreBelow, side_state, entries_from, entry_at}
 use Rattle.alw_node.specs.Insides.{side_of}
 use Rattle.alw_node.proofs.Entries.{home_line, length_entries, entry_read, entries_set, line_is}
-use Rattle.alw_node.proofs.Sides.{handle_keeps, front_progress}
+use Rattle.alw_node.proofs.Sides.{handle_keeps}
 use Rattle.alw_node.proofs.TableSizes.{free_place}
 use Rattle.alw_node.proofs.Deliveries.{Says, Said, says, Steps, steps_from, with_homes}
 

@@ -1,4 +1,5 @@
 pub mod Deliveries
+pub mod Embeds
 pub mod Entries
 pub mod Handlings
 pub mod Sides

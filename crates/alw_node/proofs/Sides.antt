@@ -1,7 +1,6 @@
 -- What holds of a home side is kept by what its events change.
-use Rattle.std.proofs.Common.{◌≡◌, ◌≢◌, ℕ, zero, suc, ◌+◌, ◌*◌, ◌/◌, ◌%◌, ◌<◌, ◌≤◌, Bool, true, false, cond, ◌==◌, Option, Some, None, List, [], ◌∷◌, ◌++◌, length, slice_set, slice_index_or, refl, sym, ap, ◌∙◌, subst, ◌⊎◌, inl, inr, arith}
-use Rattle.std.proofs.lemmas.Bool.{true≢false, eqb-true, eqb-false, eq-eqb, ne_eqb}
-use Rattle.std.proofs.lemmas.Bool.Decides.{nat_tests}
+use Rattle.std.proofs.Common.{◌≡◌, ◌≢◌, ℕ, zero, suc, ◌+◌, ◌*◌, ◌<◌, ◌≤◌, Bool, true, false, ◌==◌, List, [], ◌∷◌, ◌++◌, length, slice_set, slice_index_or, refl, sym, ap, ◌∙◌, subst, arith}
+use Rattle.std.proofs.lemmas.Bool.{eqb-true, eqb-false, eq-eqb, ne_eqb}
 use Rattle.std.proofs.lemmas.List.{length-set, length-append, get_or-set_same, get_or-set_other}
 use Rattle.std.specs.List.{AllByRecursion}
 use Rattle.alw_num.specs.Weights.{digit, weigh}
@@ -9,7 +8,7 @@ use Rattle.alw_num.proofs.Weigh.{weigh_push}
 use Rattle.alw_msg.specs.declared.messages.Msg.{Msg}
 use Rattle.alw_image.specs.Images.{zero_line}
 use Rattle.alw_model.specs.LimitLess.{Directory, directory_start, is_in_progress}
-use Rattle.alw_node.specs.HomeSides.{Side, IsSide, IsPacket, Stands, AreBelow, entry_at, waiting_on, progress_of}
+use Rattle.alw_node.specs.HomeSides.{Side, IsSide, IsPacket, Stands, entry_at, waiting_on, progress_of}
 
 weigh-set : {A : Type 0} (f : A → ℕ) (xs : List A) (i : ℕ) (y d : A) → i < length xs → weigh f (slice_set xs i y) + f (slice_index_or xs i d) ≡ weigh f xs + f y
 weigh-set f [] i y d l = absurd (omega arith)

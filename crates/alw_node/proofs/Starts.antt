@@ -1,27 +1,25 @@
 -- A home side stands at the start.
-use Rattle.std.proofs.Common.{◌≡◌, ℕ, zero, suc, ◌+◌, ◌*◌, ◌<◌, ◌≤◌, Bool, true, false, cond, if◌then◌else◌, Option, Some, None, List, [], ◌∷◌, length, map, refl, sym, ap, ◌∙◌, subst, ◌⊎◌, inl, inr, arith}
+use Rattle.std.proofs.Common.{◌≡◌, ℕ, zero, suc, ◌+◌, ◌*◌, ◌<◌, ◌≤◌, Bool, true, false, Some, None, List, [], map, refl, sym, ap, ◌∙◌, subst, ◌⊎◌, inl, inr, arith}
 use Rattle.std.proofs.lemmas.Bool.{true≢false, cases_lt}
 use Rattle.std.proofs.lemmas.List.FromFn.{length-map-range_with_len, get_or-map-range_with_len}
 use Rattle.std.proofs.Math.ListN.{get_or-eq_default}
 use Rattle.std.proofs.Math.Nat.{mul-le-mul}
 use Rattle.std.specs.List.{range_with_len}
-use Rattle.alw_num.specs.NodeSets.{Nodes, no_nodes, has_node}
+use Rattle.alw_num.specs.NodeSets.{no_nodes}
 use Rattle.alw_num.proofs.Sets.{has-none}
-use Rattle.alw_num.specs.Weights.{digit, weigh}
-use Rattle.alw_num.specs.Maps.{empty_map, value_at}
+use Rattle.alw_num.specs.Weights.{weigh}
+use Rattle.alw_num.specs.Maps.{empty_map}
 use Rattle.alw_num.proofs.MapLaws.{value-empty}
 use Rattle.alw_num.specs.declared.addresses.Line.{Line}
 use Rattle.alw_image.specs.declared.parts.Parts.{Parts}
 use Rattle.alw_image.specs.Images.{IsImage, node_count, body_of, is_always, zero_line}
 use Rattle.alw_image.specs.Parameters.{Parameters, AreParameters}
-use Rattle.alw_model.specs.LimitLess.{Directory, directory_start, or_always, is_in_progress}
+use Rattle.alw_model.specs.LimitLess.{Directory, directory_start}
 use Rattle.alw_model.specs.NodeStates.{homes_start}
 use Rattle.alw_limitless.proofs.Soundness.{start_sound}
 use Rattle.dir_soft.specs.Tables.{Table, set_or_none, set_of_line, table_of}
-use Rattle.alw_home.specs.Changes.{directory_of}
-use Rattle.alw_node.specs.declared.home_sides.HomeLine.{HomeLine}
-use Rattle.alw_node.specs.HomeSides.{Side, IsSide, IsTable, Stands, AreBelow, entries_from, entry_at, progress_of}
-use Rattle.alw_node.specs.Insides.{line_start, lines_start, side_start, side_of, IsHomeSide}
+use Rattle.alw_node.specs.HomeSides.{Side, IsSide, IsTable, Stands, entries_from, entry_at, progress_of}
+use Rattle.alw_node.specs.Insides.{line_start, lines_start, side_start, side_of}
 
 abbrev started : Parts → ℕ → Directory
 started parts line = directory_start (body_of parts line) (is_always parts line)

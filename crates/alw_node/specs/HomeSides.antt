@@ -1,7 +1,7 @@
 -- A node's home side: the entries of its home lines, and the packets that wait for its handler.
-use Rattle.std.specs.Prelude.{◌≡◌, ℕ, ◌+◌, ◌*◌, ◌/◌, ◌<◌, ◌≤◌, true, false, ◌==◌, Option, Some, None, List, [], ◌∷◌, length, slice_index_or}
+use Rattle.std.specs.Prelude.{◌≡◌, ℕ, ◌+◌, ◌*◌, ◌/◌, ◌<◌, ◌≤◌, true, false, ◌==◌, Some, List, [], ◌∷◌, length, slice_index_or}
 use Rattle.std.specs.List.{AllByRecursion}
-use Rattle.alw_num.specs.Maps.{Map, empty_map, value_at}
+use Rattle.alw_num.specs.Maps.{empty_map, value_at}
 use Rattle.alw_num.specs.NodeSets.{Nodes, has_node}
 use Rattle.alw_num.specs.Weights.{digit, weigh}
 use Rattle.alw_msg.specs.Kinds.{to_memory}

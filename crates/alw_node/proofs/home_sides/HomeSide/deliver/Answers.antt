@@ -1,5 +1,5 @@
 -- The parts of a delivery are put together.
-use Rattle.std.proofs.Common.{◌≡◌, ◌<◌, ◌*◌, ◌%◌, ◌/◌, true, false, length, slice_index_or, refl, sym, ap, subst, ◌∙◌, arith}
+use Rattle.std.proofs.Common.{◌<◌, ◌*◌, ◌%◌, true, false, length, sym, ap, subst, ◌∙◌, arith}
 use Rattle.alw_num.specs.NodeSets.{Nodes, count_nodes}
 use Rattle.alw_model.specs.LimitLess.{Directory}
 use Rattle.dir_full.specs.Reactions.{HasRoom}

@@ -1,6 +1,6 @@
 -- The handler's parts are put together.
-use Rattle.std.proofs.Common.{◌≡◌, ◌<◌, ◌*◌, ◌%◌, [], ◌∷◌, length, refl, sym, ap, subst, ◌∙◌, arith}
-use Rattle.alw_num.specs.NodeSets.{Nodes, join_nodes}
+use Rattle.std.proofs.Common.{◌≡◌, ◌<◌, ◌*◌, ◌%◌, ◌∷◌, length, sym, ap, subst, ◌∙◌, arith}
+use Rattle.alw_num.specs.NodeSets.{join_nodes}
 use Rattle.alw_model.specs.LimitLess.{Directory, is_in_progress, full_map_of}
 use Rattle.alw_model.specs.Messages.{content}
 use Rattle.dir_full.specs.Reactions.{HasRoom}

@@ -1,5 +1,5 @@
 -- The meta state at the line's place.
-use Rattle.std.proofs.Common.{◌≡◌, ◌<◌, ◌+◌, ◌*◌, ◌%◌, length, not, refl, sym, ap, ◌∙◌, arith}
+use Rattle.std.proofs.Common.{◌<◌, ◌+◌, ◌*◌, ◌%◌, length, not, refl, sym, ap, ◌∙◌, arith}
 use Rattle.alw_model.specs.LimitLess.{Directory, is_in_progress}
 use Rattle.alw_node.specs.declared.home_sides.HomeLine.{HomeLine}
 use Rattle.alw_node.proofs.Entries.{length_entries, entry_read}
