@@ -1,0 +1,27 @@
+-- The first Ready slot in the turn's order, or none.
+use Rattle.std.proofs.Common.{◌≡◌, ◌+◌, ◌%◌, false, ap, sym, ◌∙◌, arith}
+use borrow.Author.Count.{below_more}
+use Rattle.alw_model.specs.Contexts.{Slot, is_ready}
+use Rattle.alw_ctx.specs.Residents.{slots_of}
+use Rattle.alw_ctx.proofs.Slots.{length_slots, slot_read}
+use Rattle.alw_ctx.proofs.Choices.{ready_at, runs, runs_none}
+use Rattle.alw_ctx.proofs.contexts.Contexts.current.Goals as goal
+
+pub returns-then-is_ready : goal.returns-then-is_ready
+returns-then-is_ready c =
+    let inside = c.self.inside in
+    let size = length_slots inside.count inside.places (omega (arith, c.self.invariant.1, c.self.invariant.2)) in
+    let here = ap (λ (s : Slot). is_ready s.status) (slot_read inside.count inside.places ((inside.current + c.loop-k.k) % inside.count) _ (omega (arith, c.self.invariant.0)) (omega (arith, c.self.invariant.1, c.self.invariant.2))) ∙ sym c.if-is_ready.ensures in
+    rw (← c.self.view_is) (runs (slots_of inside.count inside.places) inside.current inside.count c.loop-k.k size c.loop-k-test.true c.loop-k.invariant here)
+
+pub loop-k-preserved : goal.loop-k-preserved
+loop-k-preserved c =
+    let inside = c.self.inside in
+    let here = ap (λ (s : Slot). is_ready s.status) (slot_read inside.count inside.places ((inside.current + c.loop-k.k) % inside.count) _ (omega (arith, c.self.invariant.0)) (omega (arith, c.self.invariant.1, c.self.invariant.2))) ∙ sym c.if-is_ready.ensures in
+    below_more (λ j. ready_at (slots_of inside.count inside.places) ((inside.current + j) % inside.count) ≡ false) c.loop-k.k c.loop-k.invariant here
+
+pub returns : goal.returns
+returns c =
+    let inside = c.self.inside in
+    let size = length_slots inside.count inside.places (omega (arith, c.self.invariant.1, c.self.invariant.2)) in
+    rw (← c.self.view_is) (runs_none (slots_of inside.count inside.places) inside.current inside.count size (λ j l. c.loop-k.invariant j (omega (arith, c.loop-k-test.false))))

@@ -1,0 +1,2 @@
+pub mod HomeSides
+pub mod Insides

@@ -1,0 +1,6 @@
+pub mod Keeping
+pub mod Leaving
+pub mod OpeningMaps
+pub mod Standing
+pub mod Starting
+pub mod Turning

@@ -1,0 +1,3 @@
+pub mod Homeward
+pub mod Openings
+pub mod Processors

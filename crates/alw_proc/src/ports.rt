@@ -1,0 +1,66 @@
+ghost use Rattle.std.specs.Prelude.{◌==◌, cond, Some, None};
+
+use alw_num::{Line, LineNo, Mode};
+use sparc_exec::Port;
+
+/// Shared data of which there is no copy. Over it a turn misses exactly where it needs a copy, and so
+/// tells its need.
+#[derive(Debug, Drop)]
+pub struct NoCopy {
+    pub lines: u32,
+}
+
+impl Port for NoCopy {
+    ghost copy = { λ p l. None };
+
+    ghost lines = { λ p. p.lines };
+
+    ghost calls = { λ p. None };
+
+    fn lines(&self) -> u32 {
+        self.lines
+    }
+
+    fn grab(&mut self, _line: LineNo, _mode: Mode) -> Option<Line> {
+        None
+    }
+
+    fn put(&mut self, _line: LineNo, _value: Line) {}
+}
+
+/// Shared data of which there is the copy of one line.
+#[derive(Debug, Drop)]
+pub struct OneCopy {
+    pub line: LineNo,
+    pub mode: Mode,
+    pub value: Line,
+    pub lines: u32,
+}
+
+impl Port for OneCopy {
+    ghost copy = { λ p l. cond (l == p.line.0) (Some (p.mode, p.value)) None };
+
+    ghost lines = { λ p. p.lines };
+
+    ghost calls = { λ p. None };
+
+    fn lines(&self) -> u32 {
+        self.lines
+    }
+
+    fn grab(&mut self, line: LineNo, mode: Mode) -> Option<Line> {
+        if line != self.line {
+            return None;
+        }
+        match (self.mode, mode) {
+            (Mode::Read, Mode::Write) => None,
+            _ => Some(self.value),
+        }
+    }
+
+    fn put(&mut self, line: LineNo, value: Line) {
+        if line == self.line {
+            self.value = value;
+        }
+    }
+}

@@ -1,0 +1,300 @@
+ghost use Rattle.std.specs.Prelude.{◌≡◌, ◌<◌, ◌≤◌, ◌*◌, [], Some, IfOk, is_some, length, false, not};
+ghost use Rattle.std.specs.Option.{option_map};
+ghost use Rattle.alw_num.specs.Maps.{value_at, passes};
+ghost use Rattle.alw_num.specs.Weights.{digit, weigh};
+ghost use Rattle.sparc_table.specs.Turns.{need_of};
+ghost use Rattle.sparc_table.specs.declared.outcomes.Need.TheVariants as needs;
+ghost use Rattle.alw_msg.specs.Kinds.{to_memory};
+ghost use Rattle.alw_image.specs.Images.{node_count};
+ghost use Rattle.alw_model.specs.declared.steps.Did.TheVariants as dids;
+ghost use Rattle.alw_model.specs.Caches.{granted_copy};
+ghost use Rattle.alw_model.specs.Contexts.{running, slot_at, is_held};
+ghost use Rattle.alw_model.specs.Messages.{content};
+ghost use Rattle.alw_model.specs.NodeStates.{may_reach};
+ghost use Rattle.alw_model.specs.NodeSteps.{instr, access, miss, deliver_by, evict_from};
+ghost use Rattle.alw_proc.specs.Processors.{parts_of, parameters_of, state_of, with_state, with_messages, processor_start, lines_of, mode_of, cached_of, IsProcessor, AreBegun};
+
+use crate::changes::{ask, end, granted, replaces_held, store, take_turn};
+use crate::homeward::{Homes, evict, fill, invalidate};
+use crate::openings::Openings;
+use crate::ports::{NoCopy, OneCopy};
+use alw_cache::Cache;
+use alw_ctx::Contexts;
+use alw_image::{Image, Params};
+use alw_model::Did;
+use alw_msg::{Kind, Msg, Sends, Status};
+use alw_num::{Line, LineNo, Mode, NoMemory, NodeNo};
+use sparc_exec::{Outcome, Port, turn};
+use sparc_table::Regs;
+use std::alloc::Global;
+use std::marker::Model;
+
+/// The processor side of a node (ASPLOS 1991, section 2): its contexts, its cache and its open
+/// transactions.
+#[derive(Debug, Drop)]
+pub struct Proc {
+    number: NodeNo,
+    width: u8,
+    height: u8,
+    per_node: u16,
+    contexts: Contexts,
+    cache: Cache,
+    openings: Openings,
+}
+
+impl Model for Proc {
+    ghost use Rattle.alw_proc.specs.Processors.{Processor, processor_of, IsProcessor};
+
+    ghost Value = { Processor };
+
+    ghost view = { λ p. processor_of p.number.0 p.width p.height p.per_node p.contexts p.cache p.openings };
+
+    ghost invariant = { λ p. IsProcessor (processor_of p.number.0 p.width p.height p.per_node p.contexts p.cache p.openings) };
+}
+
+impl Proc {
+    /// The processor side of a node at the start: no copy, no transaction, the image's contexts.
+    pub fn start(
+        alloc: Global,
+        image: &Image,
+        params: &Params,
+        node: NodeNo,
+    ) -> Result<Proc, NoMemory>
+        requires { node.0 < node_count image.now }
+        ensures { IfOk result (λ p. p ≡ processor_start image.now params.now node.0) }
+    {
+        let _allowed = image.code();
+        let cache = Cache::room(alloc, params.sets())?;
+        Ok(Proc {
+            number: node,
+            width: image.width(),
+            height: image.height(),
+            per_node: image.per_node(),
+            contexts: Contexts::start(image, node),
+            cache,
+            openings: Openings::none(),
+        })
+    }
+
+    /// An instruction of the slot that runs, over the cache. A turn changes registers, status and
+    /// cache; a miss waits, and asks the line's home unless the line was asked for before. `code` has
+    /// the words from address 0 on. Where no context is Ready, nothing happens.
+    pub fn instr(&mut self, code: &[u32], sent: &mut Sends) -> Did
+        requires begun { AreBegun self.old.number sent.old }
+        ensures node { self.new ≡ with_state self.old (instr (parts_of self.old code.now) (parameters_of self.old) self.old.number sent.old.stamp (state_of self.old) (running self.old.slots self.old.current)).node }
+        ensures sends { sent.new ≡ with_messages sent.old (instr (parts_of self.old code.now) (parameters_of self.old) self.old.number sent.old.stamp (state_of self.old) (running self.old.slots self.old.current)).sends }
+        ensures did { result ≡ (instr (parts_of self.old code.now) (parameters_of self.old) self.old.number sent.old.stamp (state_of self.old) (running self.old.slots self.old.current)).did }
+    {
+        let Some(slot) = self.contexts.current() else {
+            return Did::Took;
+        };
+        let mut regs = self.contexts.regs(slot);
+        let mut port = NoCopy {
+            lines: self.lines(),
+        };
+        match turn(code, &mut regs, &mut port) {
+            Outcome::Miss { line, mode } => self.access(code, slot, line, mode, sent),
+            outcome => take_turn(&mut self.contexts, slot, regs, outcome),
+        }
+    }
+
+    /// A message to a cache: RDATA and WDATA bring a line, BUSY sends the waiters back to try again,
+    /// and INV takes the line away.
+    pub fn cache_msg(&mut self, msg: &Msg, sent: &mut Sends)
+        requires begun { AreBegun self.old.number sent.old }
+        requires to_cache { to_memory msg.now.kind ≡ false }
+        requires line { msg.now.line.0 < lines_of self.old }
+        ensures node { self.new ≡ with_state self.old (deliver_by (parts_of self.old []) (parameters_of self.old) self.old.number sent.old.stamp (state_of self.old) msg.now (content msg.now)).node }
+        ensures sends { sent.new ≡ with_messages sent.old (deliver_by (parts_of self.old []) (parameters_of self.old) self.old.number sent.old.stamp (state_of self.old) msg.now (content msg.now)).sends }
+    {
+        let (line, homes) = (msg.line, self.homes());
+        match msg.kind {
+            Kind::RDATA => {
+                fill(&mut self.cache, line, Mode::Read, msg.body, homes, sent);
+                end(&mut self.contexts, &mut self.openings, line, true);
+            }
+            Kind::WDATA => {
+                fill(&mut self.cache, line, Mode::Write, msg.body, homes, sent);
+                end(&mut self.contexts, &mut self.openings, line, true);
+            }
+            Kind::BUSY => end(&mut self.contexts, &mut self.openings, line, false),
+            Kind::INV => invalidate(&mut self.cache, line, self.per_node, sent),
+            _ => {}
+        }
+    }
+
+    /// An eviction empties a set of the cache. A Read-Write copy goes home.
+    pub fn evict(&mut self, set: u32, sent: &mut Sends)
+        requires begun { AreBegun self.old.number sent.old }
+        requires set { set < self.old.sets }
+        ensures node { self.new ≡ with_state self.old (evict_from (parts_of self.old []) self.old.number sent.old.stamp (state_of self.old) set).node }
+        ensures sends { sent.new ≡ with_messages sent.old (evict_from (parts_of self.old []) self.old.number sent.old.stamp (state_of self.old) set).sends }
+    {
+        let homes = self.homes();
+        evict(&mut self.cache, set, homes, sent);
+    }
+
+    /// The node's number.
+    pub fn number(&self) -> NodeNo
+        ensures number { result.0 ≡ self.now.number }
+        ensures stands { IsProcessor self.now }
+    {
+        self.number
+    }
+
+    /// A context is Ready.
+    pub fn is_ready(&self) -> bool
+        ensures { result ≡ is_some (running self.now.slots self.now.current) }
+    {
+        self.contexts.current().is_some()
+    }
+
+    /// A message to a cache isn't kept on its link: no INV for a held line, and no RDATA or WDATA
+    /// whose set holds another line that is held.
+    pub fn may_take(&self, msg: &Msg) -> bool
+        requires { to_memory msg.now.kind ≡ false }
+        ensures { result ≡ may_reach (parts_of self.now []) (parameters_of self.now) (state_of self.now) msg.now.line.0 (content msg.now) }
+    {
+        match msg.kind {
+            Kind::INV => !self.contexts.is_held(msg.line),
+            Kind::RDATA | Kind::WDATA => !replaces_held(&self.contexts, &self.cache, msg.line),
+            _ => true,
+        }
+    }
+
+    /// A set holds a line that isn't held.
+    pub fn may_evict(&self, set: u32) -> bool
+        requires { set < self.now.sets }
+        ensures { result ≡ passes (λ copy. not (is_held self.now.slots copy.line)) (value_at self.now.cache set) }
+    {
+        match self.cache.held(set) {
+            Some(line) => !self.contexts.is_held(line),
+            None => false,
+        }
+    }
+
+    /// The number of sets of the cache.
+    pub fn sets(&self) -> u32
+        ensures { result ≡ self.now.sets }
+    {
+        self.cache.sets()
+    }
+
+    /// The number of slots.
+    pub fn count(&self) -> u8
+        ensures { result ≡ length self.now.slots }
+    {
+        self.contexts.count()
+    }
+
+    /// The current slot: the one that ran last.
+    pub fn last(&self) -> u8
+        ensures slot { result ≡ self.now.current }
+        ensures within { result < length self.now.slots }
+    {
+        self.contexts.last()
+    }
+
+    /// What the context of a slot does.
+    pub fn status(&self, slot: u8) -> Status
+        requires { slot < length self.now.slots }
+        ensures { result ≡ (slot_at self.now.slots slot).status }
+    {
+        self.contexts.status(slot)
+    }
+
+    /// The registers of a slot.
+    pub fn regs(&self, slot: u8) -> Regs
+        requires { slot < length self.now.slots }
+        ensures { result ≡ (slot_at self.now.slots slot).regs }
+    {
+        self.contexts.regs(slot)
+    }
+
+    /// The number of slots with a hold.
+    pub fn holds(&self) -> u32
+        ensures { result ≡ weigh (λ slot. digit (is_some slot.hold)) self.now.slots }
+    {
+        self.contexts.holds()
+    }
+
+    /// The mode of the transaction on a line. None exactly where there is none.
+    pub fn pending(&self, line: LineNo) -> Option<Mode>
+        ensures { result ≡ option_map mode_of (value_at self.now.transactions line.0) }
+    {
+        match self.openings.of(line) {
+            Some((_, mode)) => Some(mode),
+            None => None,
+        }
+    }
+
+    /// The line, mode and bytes of the copy that a set holds. None exactly where it holds none.
+    pub fn cached(&self, set: u32) -> Option<(LineNo, Mode, Line)>
+        requires { set < self.now.sets }
+        ensures { result ≡ option_map cached_of (value_at self.now.cache set) }
+    {
+        match self.cache.standing(set) {
+            Some(copy) => Some((copy.line, copy.mode, copy.body)),
+            None => None,
+        }
+    }
+
+    // An access by the slot that runs, whose turn needs this line in this mode.
+    fn access(&mut self, code: &[u32], slot: u8, line: LineNo, mode: Mode, sent: &mut Sends) -> Did
+        requires begun { AreBegun self.old.number sent.old }
+        requires runs { running self.old.slots self.old.current ≡ Some slot }
+        requires needs { need_of code.now (slot_at self.old.slots slot).regs (lines_of self.old) ≡ needs.Copy line mode }
+        ensures node { self.new ≡ with_state self.old (access (parts_of self.old code.now) (parameters_of self.old) self.old.number sent.old.stamp (state_of self.old) slot line.0 mode (granted_copy self.old.sets self.old.cache line.0 mode)).node }
+        ensures sends { sent.new ≡ with_messages sent.old (access (parts_of self.old code.now) (parameters_of self.old) self.old.number sent.old.stamp (state_of self.old) slot line.0 mode (granted_copy self.old.sets self.old.cache line.0 mode)).sends }
+        ensures did { result ≡ (access (parts_of self.old code.now) (parameters_of self.old) self.old.number sent.old.stamp (state_of self.old) slot line.0 mode (granted_copy self.old.sets self.old.cache line.0 mode)).did }
+    {
+        let Some((held, value)) = granted(&self.cache, line, mode) else {
+            return self.miss(slot, line, mode, sent);
+        };
+        let mut regs = self.contexts.regs(slot);
+        let mut port = OneCopy {
+            line,
+            mode: held,
+            value,
+            lines: self.lines(),
+        };
+        let outcome = turn(code, &mut regs, &mut port);
+        store(&mut self.cache, line, mode, port.grab(line, mode));
+        take_turn(&mut self.contexts, slot, regs, outcome)
+    }
+
+    // A miss: the slot waits, and a transaction is opened in its name where the line has none.
+    fn miss(&mut self, slot: u8, line: LineNo, mode: Mode, sent: &mut Sends) -> Did
+        requires begun { AreBegun self.old.number sent.old }
+        requires runs { running self.old.slots self.old.current ≡ Some slot }
+        requires line { line.0 < lines_of self.old }
+        ensures node { self.new ≡ with_state self.old (miss (parts_of self.old []) self.old.number sent.old.stamp (state_of self.old) slot line.0 mode).node }
+        ensures sends { sent.new ≡ with_messages sent.old (miss (parts_of self.old []) self.old.number sent.old.stamp (state_of self.old) slot line.0 mode).sends }
+        ensures did { result ≡ dids.Missed slot }
+    {
+        ask(&mut self.openings, slot, line, mode, self.per_node, sent);
+        let regs = self.contexts.regs(slot);
+        self.contexts.ran(slot, regs, Status::Waiting { line });
+        Did::Missed { slot }
+    }
+
+    /// The number of lines of shared data.
+    pub fn lines(&self) -> u32
+        ensures { result ≡ lines_of self.now }
+    {
+        u32::from(self.width) * u32::from(self.height) * u32::from(self.per_node)
+    }
+
+    // The number of lines of shared data, and of those of each node.
+    fn homes(&self) -> Homes
+        ensures lines { result.lines ≡ lines_of self.now }
+        ensures per_node { result.per_node ≡ self.now.per_node }
+        ensures some { 1 ≤ result.per_node }
+        ensures nodes { result.lines ≤ 65536 * result.per_node }
+    {
+        Homes {
+            lines: self.lines(),
+            per_node: self.per_node,
+        }
+    }
+}
