@@ -1,3 +1,3 @@
-pub mod Prints
-pub mod Runs
-pub mod Words
+pub mod Listing
+pub mod Answering
+pub mod Completing

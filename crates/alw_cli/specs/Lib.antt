@@ -1,3 +1,3 @@
+pub mod Texts
+pub mod Endings
 pub mod Answers
-pub mod Plain
-pub mod Reports

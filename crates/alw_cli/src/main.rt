@@ -1,10 +1,12 @@
-//! The simulator's program: it reads an image on standard input, runs it and writes the report.
+//! The simulator's program: it assembles the source, or runs the image, that it reads on standard
+//! input, and writes the image, listing or report on standard output.
 #![tactic(auto)]
 
-mod command_words;
-mod plain_run;
-mod plain_turn;
-mod report_text;
+mod answers;
+mod assembling;
+mod err_lines;
+mod listings;
+mod running;
 mod top;
 
 use alw_io::{StdSink, StdSource};

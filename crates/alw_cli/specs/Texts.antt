@@ -1,0 +1,91 @@
+-- What the program writes besides reports: an assembled image or its listing, and the line of a refusal.
+use Rattle.std.specs.Prelude.{ℕ, ◌+◌, List, [], ◌∷◌, ◌++◌, codes}
+use Rattle.std.specs.Fmt.{decimal}
+use Rattle.alw_text.specs.Numbers.{hex_digits}
+use Rattle.alw_image.specs.Images.{spelling}
+use Rattle.alw_image.specs.declared.faults.ImageErr.{ImageErr}
+use Rattle.alw_image.specs.declared.faults.ImageErr.TheVariants as image
+use Rattle.sparc_asm.specs.declared.faults.AsmErr.{AsmErr}
+use Rattle.sparc_asm.specs.declared.faults.AsmErr.TheVariants as asm
+use Rattle.sparc_assemble.specs.declared.assembling.Assembled.{Assembled}
+use Rattle.alw_config.specs.declared.commands.AsmForm.{AsmForm}
+use Rattle.alw_config.specs.declared.commands.AsmForm.TheVariants as forms
+use Rattle.alw_cli.specs.declared.answers.Cause.{Cause}
+use Rattle.alw_cli.specs.declared.answers.Cause.TheVariants as cause
+use Rattle.alw_cli.specs.declared.answers.InputErr.{InputErr}
+use Rattle.alw_cli.specs.declared.answers.InputErr.TheVariants as input
+
+-- ---- a listing
+
+-- a code word: its address and the word in eight digits each, and its source line
+abbrev pub listing_line : ℕ → ℕ → ℕ → List ℕ
+listing_line address word line = hex_digits address ++ (codes " " ++ (hex_digits word ++ (codes " " ++ (decimal line ++ codes "\n"))))
+
+-- a line for each code word, the first of which stands at an address
+abbrev pub listing_from : ℕ → List ℕ → List ℕ → List ℕ
+listing_from address [] lines = []
+listing_from address (word ∷ words) [] = []
+listing_from address (word ∷ words) (line ∷ lines) = listing_line address word line ++ listing_from (address + 4) words lines
+
+-- an assembled source in the form that was asked for
+abbrev pub assembled_text : AsmForm → Assembled → List ℕ
+assembled_text forms.Image a = spelling a.image
+assembled_text forms.Listing a = listing_from 0 a.image.code a.lines
+
+-- ---- the line of a refusal
+
+-- which fault of a source, with its line
+abbrev pub asm_fault_text : ℕ → List ℕ → List ℕ
+asm_fault_text line fault = codes "source line " ++ (decimal line ++ (codes ": " ++ fault))
+
+abbrev pub asm_text : AsmErr → List ℕ
+asm_text (asm.Syntax line) = asm_fault_text line (codes "syntax")
+asm_text (asm.UnknownName line) = asm_fault_text line (codes "unknown name")
+asm_text (asm.Redefined line) = asm_fault_text line (codes "redefined")
+asm_text (asm.Range line) = asm_fault_text line (codes "range")
+asm_text (asm.Unaligned line) = asm_fault_text line (codes "unaligned")
+asm_text (asm.Overlap line) = asm_fault_text line (codes "overlap")
+asm_text asm.NoMemory = []
+
+-- which fault of an image, with its byte
+abbrev pub image_fault_text : ℕ → List ℕ → List ℕ
+image_fault_text at fault = codes "image byte " ++ (decimal at ++ (codes ": " ++ fault))
+
+abbrev pub image_text : ImageErr → List ℕ
+image_text (image.Magic at) = image_fault_text at (codes "magic")
+image_text (image.Version at) = image_fault_text at (codes "version")
+image_text (image.Short at) = image_fault_text at (codes "short")
+image_text (image.Trailing at) = image_fault_text at (codes "trailing")
+image_text (image.Range at) = image_fault_text at (codes "range")
+image_text (image.Order at) = image_fault_text at (codes "order")
+image_text image.NoMemory = []
+
+abbrev pub input_text : InputErr → List ℕ
+input_text input.TooLong = codes "too long"
+input_text (input.Asm fault) = asm_text fault
+input_text (input.Image fault) = image_text fault
+input_text (input.NotBuilt at) = codes "not built " ++ decimal at
+
+-- the words before a refused input's reason
+unfoldable pub input_refused : List ℕ
+input_refused = codes "alewife: input refused: "
+
+unfoldable pub read_fault_line : List ℕ
+read_fault_line = codes "alewife: read fault\n"
+
+unfoldable pub write_fault_line : List ℕ
+write_fault_line = codes "alewife: write fault\n"
+
+unfoldable pub no_memory_line : List ℕ
+no_memory_line = codes "alewife: no memory\n"
+
+-- the line of an answer: nothing where all went well, a context trapped or the limit was reached
+abbrev pub err_line : Cause → List ℕ
+err_line cause.Fine = []
+err_line (cause.Trapped at) = []
+err_line (cause.Limit event) = []
+err_line (cause.Words e) = codes "alewife: word " ++ (decimal e.at ++ codes " refused\n")
+err_line (cause.Input fault) = input_refused ++ (input_text fault ++ codes "\n")
+err_line cause.ReadFault = read_fault_line
+err_line cause.WriteFault = write_fault_line
+err_line cause.NoMemory = no_memory_line

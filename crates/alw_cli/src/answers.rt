@@ -1,0 +1,61 @@
+ghost use Rattle.std.specs.Prelude.{◌≡◌, []};
+
+use alw_config::WordErr;
+use alw_image::ImageErr;
+use alw_msg::{Event, Journal};
+use alw_solo::TrapAt;
+use sparc_asm::AsmErr;
+use std::alloc::Global;
+
+/// The most bytes that an input may have.
+pub const MOST_INPUT: usize = 268_435_456;
+
+/// Why an input was refused: it is too long, it is no source or no image, or it is an image that this
+/// program doesn't run yet, with the byte of its spelling that says so.
+#[derive(Clone, Copy, Debug, PartialEq, Eq)]
+pub enum InputErr {
+    TooLong,
+    Asm(AsmErr),
+    Image(ImageErr),
+    NotBuilt(u32),
+}
+
+/// The cause of an answer.
+#[derive(Clone, Copy, Debug, PartialEq, Eq)]
+pub enum Cause {
+    Fine,
+    Words(WordErr),
+    Input(InputErr),
+    Trapped(TrapAt),
+    Limit(Event),
+    ReadFault,
+    WriteFault,
+    NoMemory,
+}
+
+/// What the program answers: its exit status, the cause, the journal of the run that was made, and
+/// how many of its entries come from the merged logs of workers.
+#[derive(Debug, Drop)]
+pub struct Done {
+    pub status: u8,
+    pub cause: Cause,
+    pub journal: Journal,
+    pub merged: u32,
+}
+
+impl Done {
+    /// An answer without a run.
+    pub fn without(alloc: Global, status: u8, cause: Cause) -> Done
+        ensures status { result.status ≡ status }
+        ensures cause { result.cause ≡ cause }
+        ensures journal { result.journal ≡ [] }
+        ensures merged { result.merged ≡ 0 }
+    {
+        Done {
+            status,
+            cause,
+            journal: Journal::empty(alloc),
+            merged: 0,
+        }
+    }
+}
