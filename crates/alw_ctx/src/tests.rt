@@ -1,5 +1,5 @@
 use crate::{Contexts, Status};
-use alw_image::read_first;
+use alw_image::read_image;
 use alw_num::{LineNo, NodeNo};
 use std::test::Fail;
 
@@ -13,7 +13,7 @@ const SMALLEST: [u8; 40] = [
 // stays until it has run.
 #[test]
 fn waits_and_wakes(rt: HostRuntime) -> Result<(), Fail> {
-    let read = read_first(rt.alloc(), &SMALLEST)?;
+    let read = read_image(rt.alloc(), &SMALLEST).ok();
     let image = read.ok_or("no image")?;
     assert_eq!(rt; image.width(), 1);
     assert_eq!(rt; image.height(), 1);

@@ -1,7 +1,7 @@
 ghost use Rattle.std.specs.Prelude.{◌≡◌, ◌<◌};
 
 use crate::HomeSide;
-use alw_image::{Params, read_first};
+use alw_image::{Params, read_image};
 use alw_model::Did;
 use alw_msg::{Kind, Msg, Sends};
 use alw_num::{Line, LineNo, NodeNo};
@@ -16,7 +16,7 @@ const SMALLEST: [u8; 40] = [
 
 // The home side of the one node.
 fn started(alloc: Global) -> Result<HomeSide, Fail> {
-    let image = read_first(alloc, &SMALLEST)?.ok_or("no image")?;
+    let image = read_image(alloc, &SMALLEST).ok().ok_or("no image")?;
     let params = Params::new(1, 4, 100, 0).ok_or("no parameters")?;
     if image.width() != 1 || image.height() != 1 {
         return Err(Fail::from("no image of one node"));

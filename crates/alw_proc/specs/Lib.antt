@@ -1,3 +1,4 @@
 pub mod Homeward
 pub mod Openings
 pub mod Processors
+pub mod Ports

@@ -3,15 +3,18 @@ ghost use Rattle.std.specs.Prelude.{◌==◌, cond, Some, None};
 use alw_num::{Line, LineNo, Mode};
 use sparc_exec::Port;
 
-/// Shared data of which there is no copy. Over it a turn misses exactly where it needs a copy, and so
-/// tells its need.
+/// Shared data of which there is at most one copy, a Read-Write one. Over none a turn misses exactly
+/// where it needs a copy, and so tells its need.
 #[derive(Debug, Drop)]
-pub struct NoCopy {
+pub struct AtMostOne {
     pub lines: u32,
+    pub copy: Option<(LineNo, Line)>,
 }
 
-impl Port for NoCopy {
-    ghost copy = { λ p l. None };
+impl Port for AtMostOne {
+    ghost use Rattle.alw_proc.specs.Ports.{copy_in};
+
+    ghost copy = { λ p. copy_in p.copy };
 
     ghost lines = { λ p. p.lines };
 
@@ -21,11 +24,14 @@ impl Port for NoCopy {
         self.lines
     }
 
-    fn grab(&mut self, _line: LineNo, _mode: Mode) -> Option<Line> {
-        None
+    fn grab(&mut self, line: LineNo, _mode: Mode) -> Option<Line> {
+        let (held, value) = self.copy?;
+        if held == line { Some(value) } else { None }
     }
 
-    fn put(&mut self, _line: LineNo, _value: Line) {}
+    fn put(&mut self, line: LineNo, value: Line) {
+        self.copy = Some((line, value));
+    }
 }
 
 /// Shared data of which there is the copy of one line.

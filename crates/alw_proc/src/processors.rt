@@ -17,7 +17,7 @@ ghost use Rattle.alw_proc.specs.Processors.{parts_of, parameters_of, state_of, w
 use crate::changes::{ask, end, granted, replaces_held, store, take_turn};
 use crate::homeward::{Homes, evict, fill, invalidate};
 use crate::openings::Openings;
-use crate::ports::{NoCopy, OneCopy};
+use crate::ports::{AtMostOne, OneCopy};
 use alw_cache::Cache;
 use alw_ctx::Contexts;
 use alw_image::{Image, Params};
@@ -89,8 +89,9 @@ impl Proc {
             return Did::Took;
         };
         let mut regs = self.contexts.regs(slot);
-        let mut port = NoCopy {
+        let mut port = AtMostOne {
             lines: self.lines(),
+            copy: None,
         };
         match turn(code, &mut regs, &mut port) {
             Outcome::Miss { line, mode } => self.access(code, slot, line, mode, sent),

@@ -2,7 +2,7 @@ ghost use Rattle.std.specs.Prelude.{◌≡◌, ◌<◌};
 ghost use Rattle.alw_msg.specs.declared.messages.Kind.{Kind};
 
 use crate::Proc;
-use alw_image::{Params, read_first};
+use alw_image::{Params, read_image};
 use alw_model::Did;
 use alw_msg::{Kind, Msg, Sends};
 use alw_num::{Line, LineNo, Mode, NodeNo};
@@ -35,7 +35,7 @@ fn wdata(line: u32) -> Msg
 
 // The node of an image with eight lines, and a cache of four sets.
 fn started(alloc: Global) -> Result<Proc, Fail> {
-    let image = read_first(alloc, &EIGHT_LINES)?.ok_or("no image")?;
+    let image = read_image(alloc, &EIGHT_LINES).ok().ok_or("no image")?;
     let params = Params::new(4, 4, 100, 0).ok_or("no parameters")?;
     if image.width() != 1 || image.height() != 1 {
         return Err(Fail::from("no image of one node"));

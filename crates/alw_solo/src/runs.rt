@@ -43,16 +43,19 @@ pub struct Run {
     pub ended: Ended,
 }
 
-// The shared data of a program that touches none.
+// Shared data of which there is at most one copy, a Read-Write one. A program that touches none is
+// run over none.
 #[derive(Clone, Copy, Debug, PartialEq, Eq)]
-struct Untouched {
+struct AtMostOne {
     lines: u32,
+    copy: Option<(LineNo, Line)>,
 }
 
-impl Port for Untouched {
+impl Port for AtMostOne {
     ghost use Rattle.std.specs.Prelude.{None};
+    ghost use Rattle.alw_solo.specs.Ports.{copy_in};
 
-    ghost copy = { λ port line. None };
+    ghost copy = { λ port. copy_in port.copy };
 
     ghost lines = { λ port. port.lines };
 
@@ -62,12 +65,13 @@ impl Port for Untouched {
         self.lines
     }
 
-    fn grab(&mut self, _line: LineNo, _mode: Mode) -> Option<Line> {
-        None
+    fn grab(&mut self, line: LineNo, _mode: Mode) -> Option<Line> {
+        let (held, value) = self.copy?;
+        if held == line { Some(value) } else { None }
     }
 
-    fn put(&mut self, _line: LineNo, _value: Line) {
-        unreachable!()
+    fn put(&mut self, line: LineNo, value: Line) {
+        self.copy = Some((line, value));
     }
 }
 
@@ -130,5 +134,5 @@ fn turn_of(code: &[u32], regs: &mut Regs, lines: u32) -> Outcome
     ensures present { (line : LineNo) → (mode : Mode) → result ≢ Outcome.Miss line mode }
     ensures still { IsStill result → regs.new ≡ regs.old }
 {
-    turn(code, regs, &mut Untouched { lines })
+    turn(code, regs, &mut AtMostOne { lines, copy: None })
 }
