@@ -14,13 +14,16 @@ use Rattle.alw_msg.specs.declared.contexts.Status.TheVariants.{Ready, Waiting, H
 use Rattle.alw_image.specs.declared.parts.Parts.{Parts}
 use Rattle.alw_image.specs.Images.{node_count, line_count}
 use Rattle.alw_image.specs.Parameters.{Parameters}
-use Rattle.alw_model.specs.FullMap.{ToMemory, RREQ, WREQ, REPM, UPDATE, ACKC, ToCache, Home, act, row, sole, give_back, give_back_from}
+use Rattle.alw_msg.specs.Contents.{ToMemory, RREQ, WREQ, REPM, UPDATE, ACKC, ToCache, ForMemory, ForCache, content, request_in, is_repm}
+use Rattle.alw_model.specs.FullMap.{Home, act, row, sole, give_back, give_back_from}
 use Rattle.alw_model.specs.Caches.{Transaction}
-use Rattle.alw_model.specs.Contexts.{slot_at, is_halted, waits_on}
-use Rattle.alw_model.specs.Messages.{ForMemory, ForCache, content, home_node}
+use Rattle.alw_msg.specs.Statuses.{is_halted, waits_on}
+use Rattle.alw_model.specs.Contexts.{slot_at}
+use Rattle.alw_model.specs.Messages.{home_node}
 use Rattle.alw_model.specs.NodeStates.{NodeState}
-use Rattle.alw_model.specs.Machine.{MachineState, node_at, link_at, front, behind, has_halted}
-use Rattle.alw_model.specs.Lines.{LineNode, request_in, ups, downs, sent_by, is_repm, packets_at, line_node, line_of}
+use Rattle.alw_msg.specs.Lists.{front, behind}
+use Rattle.alw_model.specs.Machine.{MachineState, node_at, link_at, has_halted}
+use Rattle.alw_model.specs.Lines.{LineNode, ups, downs, sent_by, packets_at, line_node, line_of}
 use Rattle.alw_model.proofs.Journals.{and_parts}
 use Rattle.alw_line.proofs.Consequences.{rests, one_left}
 use Rattle.alw_lift.specs.Standing.{IsPacket}

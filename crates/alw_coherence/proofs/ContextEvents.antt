@@ -16,12 +16,14 @@ use Rattle.alw_msg.specs.declared.events.Event.TheVariants.{Instr, Handle, Deliv
 use Rattle.alw_image.specs.declared.parts.Parts.{Parts}
 use Rattle.alw_image.specs.Images.{node_count, line_count, zero_line}
 use Rattle.alw_image.specs.Parameters.{Parameters}
-use Rattle.alw_model.specs.FullMap.{ToMemory, ToCache, RDATA, WDATA, INV, BUSY}
+use Rattle.alw_msg.specs.Contents.{ToMemory, ToCache, RDATA, WDATA, INV, BUSY, Content, ForMemory, ForCache, content}
 use Rattle.alw_model.specs.LimitLess.{is_trapped}
 use Rattle.alw_model.specs.Caches.{Copy, Cache, Transaction, grants, copy_at, granted_copy, react, set_of}
-use Rattle.alw_model.specs.Contexts.{slot_at, running, is_ready}
-use Rattle.alw_model.specs.Messages.{Content, ForMemory, ForCache, content, is_fit}
-use Rattle.alw_model.specs.NodeStates.{NodeState, home_at, node_of, may, may_reach, may_reach_cache, may_deliver}
+use Rattle.alw_msg.specs.Statuses.{is_ready}
+use Rattle.alw_model.specs.Contexts.{slot_at, running}
+use Rattle.alw_model.specs.Messages.{is_fit}
+use Rattle.alw_msg.specs.Events.{node_of}
+use Rattle.alw_model.specs.NodeStates.{NodeState, home_at, may, may_reach, may_reach_cache, may_deliver}
 use Rattle.alw_model.specs.NodeSteps.{written, slots_after, access, instr_by, instr, at_home, at_cache, deliver_by, deliver, handle_by, handle_front, event_at, clocked}
 use Rattle.alw_model.proofs.Journals.{and_parts}
 use Rattle.alw_coherence.proofs.FlatSlots.{Chosen, runs_ready}

@@ -12,7 +12,8 @@ use Rattle.alw_image.specs.Images.{line_count}
 use Rattle.alw_image.specs.Parameters.{Parameters}
 use Rattle.alw_num.specs.Maps.{value_at, passes}
 use Rattle.alw_model.specs.Caches.{Cache, Transaction, Transactions, granted_copy}
-use Rattle.alw_model.specs.Contexts.{Slot, slot_at, is_ready, waits_on, woken, wake, give_hold, is_held}
+use Rattle.alw_msg.specs.Statuses.{is_ready, waits_on}
+use Rattle.alw_model.specs.Contexts.{Slot, slot_at, woken, wake, give_hold, is_held}
 use Rattle.alw_model.specs.NodeStates.{NodeState}
 use Rattle.alw_model.specs.MachineInvariant.{trapped_rightly}
 

@@ -20,13 +20,16 @@ use Rattle.alw_image.specs.declared.parts.Parts.{Parts}
 use Rattle.alw_image.specs.Images.{node_count, line_count, body_of}
 use Rattle.alw_image.specs.Images as images
 use Rattle.alw_image.specs.Parameters.{Parameters}
-use Rattle.alw_model.specs.FullMap.{ToCache, RDATA, WDATA, INV, BUSY}
+use Rattle.alw_msg.specs.Contents.{ToCache, RDATA, WDATA, INV, BUSY, Content, ForMemory, ForCache, content, reply_in, is_rdata}
 use Rattle.alw_model.specs.Caches.{Copy, Transaction, copy_at}
-use Rattle.alw_model.specs.Contexts.{Slot, slot_at, no_slot, waits_on, slot_start}
-use Rattle.alw_model.specs.Messages.{Content, ForMemory, ForCache, content, home_node, is_fit}
-use Rattle.alw_model.specs.NodeStates.{node_start, node_of, stamp_of, may_deliver}
-use Rattle.alw_model.specs.Machine.{MachineState, machine_start, node_at, link_at, front, behind, taken_by, is_enabled, step, stepped_by, after, state, IsNext, AreLegal, IsLegal}
-use Rattle.alw_model.specs.Lines.{LineNode, reply_in, downs, is_rdata, count_of, line_node, line_of}
+use Rattle.alw_msg.specs.Statuses.{waits_on}
+use Rattle.alw_model.specs.Contexts.{Slot, slot_at, no_slot, slot_start}
+use Rattle.alw_model.specs.Messages.{home_node, is_fit}
+use Rattle.alw_msg.specs.Events.{node_of}
+use Rattle.alw_model.specs.NodeStates.{node_start, stamp_of, may_deliver}
+use Rattle.alw_msg.specs.Lists.{front, behind, count_of}
+use Rattle.alw_model.specs.Machine.{MachineState, machine_start, node_at, link_at, taken_by, is_enabled, step, stepped_by, after, state, IsNext, AreLegal, IsLegal}
+use Rattle.alw_model.specs.Lines.{LineNode, downs, line_node, line_of}
 use Rattle.alw_model.specs.MachineInvariant.{trapped_rightly}
 use Rattle.alw_model.proofs.Journals.{and_parts}
 use Rattle.alw_line.specs.Census.{is_read, is_write, copies_of, transactions_of, census}

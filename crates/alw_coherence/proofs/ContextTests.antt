@@ -16,10 +16,11 @@ use Rattle.alw_image.specs.declared.parts.Parts.{Parts}
 use Rattle.alw_image.specs.Images.{node_count, line_count}
 use Rattle.alw_image.specs.Parameters.{Parameters}
 use Rattle.alw_model.specs.Caches.{Transaction, granted_copy, grants}
-use Rattle.alw_model.specs.Contexts.{Slot, slot_at, is_ready, waits_on}
+use Rattle.alw_msg.specs.Statuses.{is_ready, waits_on, waited}
+use Rattle.alw_model.specs.Contexts.{Slot, slot_at}
 use Rattle.alw_model.specs.NodeStates.{NodeState}
 use Rattle.alw_model.specs.Machine.{MachineState, node_at}
-use Rattle.alw_model.specs.MachineInvariant.{waited, mode_in, next_mode, waits_rightly, opens_rightly, holds_rightly, trapped_rightly, slot_fits, transaction_stands, sizes_fit}
+use Rattle.alw_model.specs.MachineInvariant.{mode_in, next_mode, waits_rightly, opens_rightly, holds_rightly, trapped_rightly, slot_fits, transaction_stands, sizes_fit}
 use Rattle.alw_model.proofs.Journals.{and_is}
 use Rattle.alw_coherence.proofs.Stores.{all_of, each_entry}
 use Rattle.alw_coherence.proofs.ContextFacts.{SlotStands, TransactionStands, NodeContexts}

@@ -15,12 +15,13 @@ use Rattle.alw_msg.specs.declared.contexts.Status.TheVariants.{Ready, Waiting, H
 use Rattle.alw_image.specs.declared.parts.Parts.{Parts}
 use Rattle.alw_image.specs.Images.{line_count}
 use Rattle.alw_image.specs.Parameters.{Parameters}
-use Rattle.alw_model.specs.FullMap.{ToMemory}
+use Rattle.alw_msg.specs.Contents.{ToMemory, brings_line, Content, ForMemory, ForCache, content}
 use Rattle.alw_model.specs.LimitLess.{is_trapped}
-use Rattle.alw_model.specs.Caches.{Copy, Transaction, granted_copy, ended_by, brings_line}
-use Rattle.alw_model.specs.Contexts.{Slot, slot_at, no_slot, is_ready, is_halted, waits_on, woken, wake, running, all_halted}
-use Rattle.alw_model.specs.Messages.{Content, ForMemory, ForCache, content}
-use Rattle.alw_model.specs.NodeStates.{NodeState, node_of, stamp_of, home_at}
+use Rattle.alw_model.specs.Caches.{Copy, Transaction, granted_copy, ended_by}
+use Rattle.alw_msg.specs.Statuses.{is_ready, is_halted, waits_on}
+use Rattle.alw_model.specs.Contexts.{Slot, slot_at, no_slot, woken, wake, running, all_halted}
+use Rattle.alw_msg.specs.Events.{node_of}
+use Rattle.alw_model.specs.NodeStates.{NodeState, stamp_of, home_at}
 use Rattle.alw_model.specs.NodeSteps.{access, instr_by, instr, at_home, deliver_by, deliver, handle_by, handle_front, event_at, clocked, slots_after}
 use Rattle.alw_model.specs.Machine.{MachineState, no_node, node_at, taken_by, is_enabled, step, stepped_by, has_halted}
 use Rattle.alw_model.proofs.Journals.{and_parts, and_is}

@@ -15,11 +15,11 @@ use Rattle.alw_image.specs.declared.parts.Parts.{Parts}
 use Rattle.alw_image.specs.Images.{node_count, line_count}
 use Rattle.alw_image.specs.Parameters.{Parameters}
 use Rattle.alw_num.specs.Maps.{value_at}
-use Rattle.alw_model.specs.FullMap.{ToMemory, ToCache}
+use Rattle.alw_msg.specs.Contents.{ToMemory, ToCache, brings_line, Content, ForMemory, ForCache, content}
 use Rattle.alw_model.specs.LimitLess.{is_trapped}
-use Rattle.alw_model.specs.Caches.{Copy, Transaction, granted_copy, brings_line, ended_by, replaced}
-use Rattle.alw_model.specs.Contexts.{slot_at, is_ready, running}
-use Rattle.alw_model.specs.Messages.{Content, ForMemory, ForCache, content}
+use Rattle.alw_model.specs.Caches.{Copy, Transaction, granted_copy, ended_by, replaced}
+use Rattle.alw_msg.specs.Statuses.{is_ready}
+use Rattle.alw_model.specs.Contexts.{slot_at, running}
 use Rattle.alw_model.specs.NodeStates.{NodeState, home_at}
 use Rattle.alw_model.specs.NodeSteps.{Stepped, clocked, access, instr_by, instr, at_home, deliver_by, deliver, handle_by, handle_front, event_at}
 use Rattle.alw_model.specs.Machine.{MachineState, node_at}

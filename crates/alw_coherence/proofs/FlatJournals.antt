@@ -10,10 +10,11 @@ use Rattle.alw_msg.specs.declared.events.Entry.{Entry}
 use Rattle.alw_image.specs.declared.parts.Parts.{Parts}
 use Rattle.alw_image.specs.Parameters.{Parameters}
 use Rattle.alw_model.specs.Contexts.{Slot, slot_at, slots_start, slot_start, regs_start, status_start}
-use Rattle.alw_model.specs.NodeStates.{NodeState, node_of, stamp_of}
+use Rattle.alw_msg.specs.Events.{node_of}
+use Rattle.alw_model.specs.NodeStates.{NodeState, stamp_of}
 use Rattle.alw_model.specs.Machine.{MachineState, node_at, no_node, taken_by, step, stepped_by, after, AreLegal}
 use Rattle.alw_model.specs.Flat.{Flat, flat_turn, turns_after, turns_ready, turns_print, print_of, context_at}
-use Rattle.alw_model.specs.Contexts as contexts
+use Rattle.alw_msg.specs.Statuses as statuses
 use Rattle.alw_model.specs.Runs.{Moment, number_of, moments_from, turn_in}
 use Rattle.alw_line.specs.Protocol.{last_stored}
 use Rattle.alw_lift.specs.LineEvents.{line_events}
@@ -34,7 +35,7 @@ module _ (parts : Parts) where
 
   turns_ready-append : (flat : Flat) (one other : List ℕ) → turns_ready parts flat one ≡ true → turns_ready parts (turns_after parts flat one) other ≡ true → turns_ready parts flat (one ++ other) ≡ true
   turns_ready-append flat [] other is more = more
-  turns_ready-append flat (context ∷ rest) other is more = go (contexts.is_ready (context_at flat context).status) is (turns_ready-append (flat_turn parts flat context).0 rest other)
+  turns_ready-append flat (context ∷ rest) other is more = go (statuses.is_ready (context_at flat context).status) is (turns_ready-append (flat_turn parts flat context).0 rest other)
     where
       go : (b : Bool) → (b && turns_ready parts (flat_turn parts flat context).0 rest) ≡ true
           → (turns_ready parts (flat_turn parts flat context).0 rest ≡ true → turns_ready parts (turns_after parts (flat_turn parts flat context).0 rest) other ≡ true → turns_ready parts (flat_turn parts flat context).0 (rest ++ other) ≡ true)

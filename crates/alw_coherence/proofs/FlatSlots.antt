@@ -9,7 +9,8 @@ use Rattle.alw_num.specs.declared.addresses.LineNo.{LineNo}
 use Rattle.alw_msg.specs.declared.contexts.Status.{Status}
 use Rattle.alw_msg.specs.declared.contexts.Status.TheVariants.{Ready, Waiting, Halted, Trapped}
 use Rattle.alw_model.specs.Caches.{Transaction}
-use Rattle.alw_model.specs.Contexts.{Slot, slot_at, no_slot, is_ready, waits_on, woken, wake, running}
+use Rattle.alw_msg.specs.Statuses.{is_ready, waits_on}
+use Rattle.alw_model.specs.Contexts.{Slot, slot_at, no_slot, woken, wake, running}
 use Rattle.alw_model.specs.NodeSteps.{status_after, slots_after}
 use Rattle.alw_model.specs.Runs.{flat_status, flat_context}
 

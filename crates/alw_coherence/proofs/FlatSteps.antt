@@ -15,7 +15,8 @@ use Rattle.sparc_table.proofs.Effects.{turn_exists}
 use Rattle.alw_image.specs.declared.parts.Parts.{Parts}
 use Rattle.alw_image.specs.Images.{line_count, zero_line}
 use Rattle.alw_msg.specs.declared.contexts.Status.TheVariants.{Waiting}
-use Rattle.alw_model.specs.Contexts.{slot_at, is_ready, ran}
+use Rattle.alw_msg.specs.Statuses.{is_ready}
+use Rattle.alw_model.specs.Contexts.{slot_at, ran}
 use Rattle.alw_model.specs.NodeStates.{NodeState}
 use Rattle.alw_model.specs.NodeSteps.{status_after}
 use Rattle.alw_model.specs.Machine.{MachineState, node_at}

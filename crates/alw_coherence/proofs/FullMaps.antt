@@ -16,16 +16,18 @@ use Rattle.sparc_table.specs.declared.outcomes.Need.{Need}
 use Rattle.sparc_table.specs.declared.outcomes.Need.TheVariants as needs
 use Rattle.sparc_table.specs.Turns.{need_of}
 use Rattle.alw_num.specs.Maps.{passes}
-use Rattle.alw_model.specs.FullMap.{Home, Sends, ToMemory, ToCache, act, home_start}
+use Rattle.alw_msg.specs.Contents.{ToMemory, ToCache, Content, ForMemory, ForCache, content, is_to_memory, request_in}
+use Rattle.alw_model.specs.FullMap.{Home, Sends, act, home_start}
 use Rattle.alw_model.specs.LimitLess.{Directory, directory_start, full_map_of, is_trapped, is_in_progress, hardware_act, trapped, handle}
 use Rattle.alw_model.specs.Caches.{Copy, granted_copy}
 use Rattle.alw_model.specs.Contexts.{slot_at, running}
-use Rattle.alw_model.specs.Messages.{Content, ForMemory, ForCache, content, home_node, is_fit}
-use Rattle.alw_model.specs.NodeStates.{NodeState, home_at, with_home, place_of, node_of, stamp_of, may_reach, may_deliver, is_nonempty}
+use Rattle.alw_model.specs.Messages.{home_node, is_fit}
+use Rattle.alw_msg.specs.Events.{node_of}
+use Rattle.alw_msg.specs.Lists.{is_nonempty, front}
+use Rattle.alw_model.specs.NodeStates.{NodeState, home_at, with_home, place_of, stamp_of, may_reach, may_deliver}
 use Rattle.alw_model.specs.NodeSteps.{Stepped, clocked, access, instr_by, instr, at_home, deliver_by, deliver, handle_by, handle_front}
-use Rattle.alw_model.specs.MachineInvariant.{is_to_memory}
-use Rattle.alw_model.specs.Machine.{MachineState, machine_start, node_at, link_at, front, taken_by, is_enabled, step, stepped_by, after, AreLegal, IsLegal, state}
-use Rattle.alw_model.specs.Lines.{LineState, request_in, entry_of}
+use Rattle.alw_model.specs.Machine.{MachineState, machine_start, node_at, link_at, taken_by, is_enabled, step, stepped_by, after, AreLegal, IsLegal, state}
+use Rattle.alw_model.specs.Lines.{LineState, entry_of}
 use Rattle.alw_model.specs.Runs.{Moment, moment_of, moments_from, moments, acted_message, acted_by, acted_messages, acted_on, full_map_after}
 use Rattle.alw_model.proofs.Journals.{and_parts}
 use Rattle.alw_limitless.specs.Entries.{ActsAlike}

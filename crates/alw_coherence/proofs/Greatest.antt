@@ -9,8 +9,10 @@ use Rattle.alw_msg.specs.declared.events.Event.TheVariants.{Instr, Handle, Deliv
 use Rattle.alw_image.specs.declared.parts.Parts.{Parts}
 use Rattle.alw_image.specs.Images.{node_count}
 use Rattle.alw_image.specs.Parameters.{Parameters}
-use Rattle.alw_model.specs.NodeStates.{NodeState, node_of, stamp_of}
-use Rattle.alw_model.specs.Machine.{MachineState, no_node, node_at, link_at, front, stamp_at, is_enabled, step, stepped_by}
+use Rattle.alw_msg.specs.Events.{node_of}
+use Rattle.alw_model.specs.NodeStates.{NodeState, stamp_of}
+use Rattle.alw_msg.specs.Lists.{front}
+use Rattle.alw_model.specs.Machine.{MachineState, no_node, node_at, link_at, stamp_at, is_enabled, step, stepped_by}
 use Rattle.alw_model.proofs.Journals.{and_parts}
 use Rattle.alw_lift.specs.Standing.{IsStanding}
 use Rattle.alw_lift.proofs.Links.{read_set}

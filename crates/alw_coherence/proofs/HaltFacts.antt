@@ -14,7 +14,8 @@ use Rattle.alw_msg.specs.declared.contexts.Status.TheVariants.{Ready, Halted}
 use Rattle.alw_image.specs.declared.parts.Parts.{Parts}
 use Rattle.alw_image.specs.Images.{node_count, line_count, started_at, start_in, IsStart, IsImage}
 use Rattle.alw_image.specs.Parameters.{Parameters, AreParameters}
-use Rattle.alw_model.specs.Contexts.{Slot, slot_at, no_slot, is_halted, running, slot_start}
+use Rattle.alw_msg.specs.Statuses.{is_halted}
+use Rattle.alw_model.specs.Contexts.{Slot, slot_at, no_slot, running, slot_start}
 use Rattle.alw_model.specs.NodeStates.{NodeState}
 use Rattle.alw_model.specs.Machine.{MachineState, machine_start, no_node, node_at, has_halted, step, state, is_enabled}
 use Rattle.alw_model.specs.Runs.{moments}

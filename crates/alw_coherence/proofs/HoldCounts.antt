@@ -12,12 +12,14 @@ use Rattle.alw_msg.specs.declared.events.Entry.{Entry}
 use Rattle.alw_image.specs.declared.parts.Parts.{Parts}
 use Rattle.alw_image.specs.Images.{node_count}
 use Rattle.alw_image.specs.Parameters.{Parameters}
-use Rattle.alw_model.specs.FullMap.{ToCache, RDATA, WDATA, INV, BUSY}
-use Rattle.alw_model.specs.Caches.{Transaction, brings_line, is_reply}
+use Rattle.alw_msg.specs.Contents.{ToCache, RDATA, WDATA, INV, BUSY, is_reply, brings_line, Content, ForMemory, ForCache, content}
+use Rattle.alw_model.specs.Caches.{Transaction}
 use Rattle.alw_model.specs.Contexts.{Slot, slot_at, no_slot, slot_start}
-use Rattle.alw_model.specs.Messages.{Content, ForMemory, ForCache, content, home_node, is_fit}
-use Rattle.alw_model.specs.NodeStates.{NodeState, node_start, node_of, may_deliver}
-use Rattle.alw_model.specs.Machine.{MachineState, machine_start, no_node, node_at, link_at, front, behind, taken_by, stamp_at, is_enabled, step, stepped_by, after, state, AreLegal, IsLegal}
+use Rattle.alw_model.specs.Messages.{home_node, is_fit}
+use Rattle.alw_msg.specs.Events.{node_of}
+use Rattle.alw_model.specs.NodeStates.{NodeState, node_start, may_deliver}
+use Rattle.alw_msg.specs.Lists.{front, behind}
+use Rattle.alw_model.specs.Machine.{MachineState, machine_start, no_node, node_at, link_at, taken_by, stamp_at, is_enabled, step, stepped_by, after, state, AreLegal, IsLegal}
 use Rattle.alw_model.specs.Lines.{LineNode, downs, line_of}
 use Rattle.alw_model.specs.Runs.{Moment, moments_from, moments}
 use Rattle.alw_model.specs.Counts.{uses_hold, is_data, counts_of, count_holds}

@@ -16,11 +16,11 @@ use Rattle.alw_msg.specs.declared.events.Event.TheVariants.{Instr, Handle, Deliv
 use Rattle.alw_image.specs.declared.parts.Parts.{Parts}
 use Rattle.alw_image.specs.Images.{line_count}
 use Rattle.alw_image.specs.Parameters.{Parameters}
-use Rattle.alw_model.specs.FullMap.{ToMemory, ToCache, RDATA, WDATA, INV, BUSY}
+use Rattle.alw_msg.specs.Contents.{ToMemory, ToCache, RDATA, WDATA, INV, BUSY, brings_line, Content, ForMemory, ForCache, content}
 use Rattle.alw_model.specs.LimitLess.{is_trapped}
-use Rattle.alw_model.specs.Caches.{Copy, Transaction, granted_copy, brings_line}
-use Rattle.alw_model.specs.Contexts.{Slot, slot_at, no_slot, is_ready, running, woken, wake, waits_on}
-use Rattle.alw_model.specs.Messages.{Content, ForMemory, ForCache, content}
+use Rattle.alw_model.specs.Caches.{Copy, Transaction, granted_copy}
+use Rattle.alw_msg.specs.Statuses.{is_ready, waits_on}
+use Rattle.alw_model.specs.Contexts.{Slot, slot_at, no_slot, running, woken, wake}
 use Rattle.alw_model.specs.NodeStates.{NodeState, home_at}
 use Rattle.alw_model.specs.NodeSteps.{Stepped, clocked, slots_after, access, instr_by, instr, at_home, at_cache, deliver_by, deliver, handle_by, handle_front, event_at}
 use Rattle.alw_model.specs.Counts.{uses_hold, is_data}

@@ -8,9 +8,8 @@ use Rattle.alw_msg.specs.declared.events.Entry.{Entry}
 use Rattle.alw_image.specs.declared.parts.Parts.{Parts}
 use Rattle.alw_image.specs.Images.{node_count, line_count}
 use Rattle.alw_image.specs.Parameters.{Parameters}
-use Rattle.alw_model.specs.FullMap.{ToMemory, ToCache}
+use Rattle.alw_msg.specs.Contents.{ToMemory, ToCache, is_reply}
 use Rattle.alw_model.specs.LimitLess.{full_map_of}
-use Rattle.alw_model.specs.Caches.{is_reply}
 use Rattle.alw_model.specs.Machine.{IsLegal, state}
 use Rattle.alw_model.specs.Lines.{entry_of, line_of, current_value}
 use Rattle.alw_model.specs.LineInvariant.{reads, writes, owes}

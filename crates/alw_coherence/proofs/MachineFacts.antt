@@ -9,8 +9,10 @@ use Rattle.alw_msg.specs.declared.messages.Msg.{Msg}
 use Rattle.alw_msg.specs.declared.contexts.Status.TheVariants.{Ready}
 use Rattle.alw_image.specs.Images.{node_count}
 use Rattle.alw_model.specs.Caches.{Copy, Cache, Transaction, grants, copy_at, granted_copy}
-use Rattle.alw_model.specs.Contexts.{slot_at, waits_on}
-use Rattle.alw_model.specs.Machine.{state, node_at, link_at, front}
+use Rattle.alw_msg.specs.Statuses.{waits_on}
+use Rattle.alw_model.specs.Contexts.{slot_at}
+use Rattle.alw_msg.specs.Lists.{front}
+use Rattle.alw_model.specs.Machine.{state, node_at, link_at}
 use Rattle.alw_model.specs.Messages.{is_fit}
 use Rattle.alw_model.specs.MachineInvariant.{MachineInvariant}
 use Rattle.alw_lift.proofs.Instructions.{kept_is}

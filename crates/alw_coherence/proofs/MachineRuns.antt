@@ -7,10 +7,11 @@ use Rattle.alw_msg.specs.declared.events.Entry.{Entry}
 use Rattle.alw_image.specs.declared.parts.Parts.{Parts}
 use Rattle.alw_image.specs.Images.{node_count, line_count, IsImage}
 use Rattle.alw_image.specs.Parameters.{Parameters, AreParameters}
-use Rattle.alw_model.specs.Messages.{content, home_node, is_fit}
+use Rattle.alw_msg.specs.Contents.{content, is_to_memory}
+use Rattle.alw_model.specs.Messages.{home_node, is_fit}
 use Rattle.alw_model.specs.NodeStates.{NodeState}
 use Rattle.alw_model.specs.Machine.{MachineState, machine_start, node_at, link_at, has_halted, step, state, IsNext, IsLegal}
-use Rattle.alw_model.specs.MachineInvariant.{MachineInvariant, is_to_memory, links_rightly, packed_rightly, left_to_do, most_to_do}
+use Rattle.alw_model.specs.MachineInvariant.{MachineInvariant, links_rightly, packed_rightly, left_to_do, most_to_do}
 use Rattle.alw_model.proofs.Journals.{and_is}
 use Rattle.alw_lift.specs.Standing.{IsPacket}
 use Rattle.alw_coherence.proofs.Runs.{node_at_start}

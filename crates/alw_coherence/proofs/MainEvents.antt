@@ -13,9 +13,12 @@ use Rattle.alw_image.specs.declared.parts.Parts.{Parts}
 use Rattle.alw_image.specs.Images.{node_count}
 use Rattle.alw_image.specs.Parameters.{Parameters}
 use Rattle.alw_num.specs.Maps.{passes}
-use Rattle.alw_model.specs.Contexts.{Slot, slot_at, no_slot, is_ready, running}
-use Rattle.alw_model.specs.NodeStates.{node_of, may, may_deliver, is_nonempty}
-use Rattle.alw_model.specs.Machine.{MachineState, node_at, link_at, front, taken_by, is_enabled, main_events}
+use Rattle.alw_msg.specs.Statuses.{is_ready}
+use Rattle.alw_model.specs.Contexts.{Slot, slot_at, no_slot, running}
+use Rattle.alw_msg.specs.Events.{node_of}
+use Rattle.alw_msg.specs.Lists.{is_nonempty, front}
+use Rattle.alw_model.specs.NodeStates.{may, may_deliver}
+use Rattle.alw_model.specs.Machine.{MachineState, node_at, link_at, taken_by, is_enabled, main_events}
 use Rattle.alw_model.proofs.Journals.{and_is}
 use Rattle.alw_coherence.specs.Endings.{may_go_on}
 

@@ -11,13 +11,12 @@ use Rattle.alw_image.specs.declared.parts.Parts.{Parts}
 use Rattle.alw_image.specs.Images.{node_count, line_count, zero_line}
 use Rattle.alw_image.specs.Parameters.{Parameters}
 use Rattle.alw_num.specs.Maps.{value_at, with_value, without_value}
-use Rattle.alw_model.specs.FullMap.{ToMemory, ToCache, RDATA, WDATA, INV, BUSY}
+use Rattle.alw_msg.specs.Contents.{ToMemory, ToCache, RDATA, WDATA, INV, BUSY, ForMemory, content, request_in, is_to_memory}
 use Rattle.alw_model.specs.LimitLess.{Directory, directory_start, is_trapped, is_in_progress, hardware_act, trapped, handle}
 use Rattle.alw_model.specs.Caches.{Copy, Cache, set_of, copy_at, react, invalidate}
-use Rattle.alw_model.specs.Messages.{ForMemory, content, home_node}
+use Rattle.alw_model.specs.Messages.{home_node}
 use Rattle.alw_model.specs.NodeStates.{NodeState, home_at, with_home, place_of}
-use Rattle.alw_model.specs.Lines.{request_in, ups}
-use Rattle.alw_model.specs.MachineInvariant.{is_to_memory}
+use Rattle.alw_model.specs.Lines.{ups}
 use Rattle.alw_num.proofs.MapLaws.{value-with, value-without}
 use Rattle.alw_limitless.specs.Entries.{IsSound}
 use Rattle.alw_limitless.proofs.Soundness.{hardware_sound, handler_sound, trapped_sound}

@@ -17,14 +17,15 @@ use Rattle.alw_image.specs.declared.parts.Parts.{Parts}
 use Rattle.alw_image.specs.Images.{node_count, line_count}
 use Rattle.alw_image.specs.Parameters.{Parameters}
 use Rattle.alw_num.specs.Maps.{value_at, passes}
-use Rattle.alw_model.specs.FullMap.{ToMemory}
+use Rattle.alw_msg.specs.Contents.{ToMemory, Content, ForMemory, ForCache, content, is_to_memory}
 use Rattle.alw_model.specs.LimitLess.{is_trapped, is_in_progress}
 use Rattle.alw_model.specs.Caches.{Copy, set_of, grants, copy_at, granted_copy}
 use Rattle.alw_model.specs.Contexts.{slot_at, running}
-use Rattle.alw_model.specs.Messages.{Content, ForMemory, ForCache, content, home_node, is_fit}
-use Rattle.alw_model.specs.NodeStates.{NodeState, home_at, node_of, may, may_reach, may_deliver, is_nonempty}
+use Rattle.alw_model.specs.Messages.{home_node, is_fit}
+use Rattle.alw_msg.specs.Events.{node_of}
+use Rattle.alw_msg.specs.Lists.{is_nonempty}
+use Rattle.alw_model.specs.NodeStates.{NodeState, home_at, may, may_reach, may_deliver}
 use Rattle.alw_model.specs.NodeSteps.{written, take_turn, access, instr_by, instr, at_home, deliver_by, deliver, handle_by, handle_front, event_at, clocked}
-use Rattle.alw_model.specs.MachineInvariant.{is_to_memory}
 use Rattle.alw_model.proofs.Journals.{and_parts}
 use Rattle.alw_lift.specs.Standing.{IsPacket, NodeStands}
 use Rattle.alw_lift.proofs.Instructions.{kept_is}

@@ -13,13 +13,15 @@ use Rattle.alw_msg.specs.declared.contexts.Status.TheVariants.{Ready, Waiting, H
 use Rattle.alw_image.specs.declared.parts.Parts.{Parts}
 use Rattle.alw_image.specs.Images.{node_count, line_count, IsImage}
 use Rattle.alw_image.specs.Parameters.{Parameters, AreParameters}
-use Rattle.alw_model.specs.FullMap.{ToMemory, ToCache, RDATA, WDATA, INV, BUSY}
+use Rattle.alw_msg.specs.Contents.{ToMemory, ToCache, RDATA, WDATA, INV, BUSY, Content, ForMemory, ForCache, content}
 use Rattle.alw_model.specs.LimitLess.{is_in_progress}
 use Rattle.alw_model.specs.Caches.{Copy, Transaction, replaced}
-use Rattle.alw_model.specs.Contexts.{Slot, slot_at, is_ready, waits_on, is_held}
-use Rattle.alw_model.specs.Messages.{Content, ForMemory, ForCache, content, home_node, is_at_home, is_fit}
-use Rattle.alw_model.specs.NodeStates.{NodeState, home_at, may_reach, may_reach_cache, may_deliver, is_nonempty}
-use Rattle.alw_model.specs.Machine.{MachineState, no_node, node_at, link_at, link_place, front, is_settled}
+use Rattle.alw_msg.specs.Statuses.{is_ready, waits_on}
+use Rattle.alw_model.specs.Contexts.{Slot, slot_at, is_held}
+use Rattle.alw_model.specs.Messages.{home_node, is_at_home, is_fit}
+use Rattle.alw_msg.specs.Lists.{is_nonempty, front}
+use Rattle.alw_model.specs.NodeStates.{NodeState, home_at, may_reach, may_reach_cache, may_deliver}
+use Rattle.alw_model.specs.Machine.{MachineState, no_node, node_at, link_at, link_place, is_settled}
 use Rattle.alw_model.specs.Lines.{LineNode, ups, downs, sent_by, line_of}
 use Rattle.alw_model.proofs.Journals.{and_is}
 use Rattle.alw_line.proofs.Consequences.{moves}

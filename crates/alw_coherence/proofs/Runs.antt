@@ -22,7 +22,8 @@ use Rattle.alw_model.specs.FullMap.{home_start}
 use Rattle.alw_model.specs.LimitLess.{Directory, directory_start, full_map_of, or_always, is_in_progress}
 use Rattle.alw_model.specs.Caches.{Copy, copy_at, set_of}
 use Rattle.alw_model.specs.Messages.{home_node}
-use Rattle.alw_model.specs.NodeStates.{NodeState, node_start, place_of, home_at, node_of, stamp_of}
+use Rattle.alw_msg.specs.Events.{node_of}
+use Rattle.alw_model.specs.NodeStates.{NodeState, node_start, place_of, home_at, stamp_of}
 use Rattle.alw_model.specs.NodeSteps.{Stepped}
 use Rattle.alw_model.specs.Machine.{MachineState, machine_start, node_at, link_at, link_place, taken_by, links_taken, is_enabled, step, stepped_by, after, AreLegal, IsLegal, state}
 use Rattle.alw_model.specs.Lines.{LineState, absent, ups, downs, sent_by, line_node, line_of}

@@ -17,14 +17,15 @@ use Rattle.alw_msg.specs.declared.events.Event.TheVariants.{Instr, Handle, Deliv
 use Rattle.alw_image.specs.declared.parts.Parts.{Parts}
 use Rattle.alw_image.specs.Images.{node_count, line_count}
 use Rattle.alw_image.specs.Parameters.{Parameters}
-use Rattle.alw_model.specs.FullMap.{ToMemory, ToCache, RDATA, WDATA, INV, BUSY, Sends}
+use Rattle.alw_msg.specs.Contents.{ToMemory, ToCache, RDATA, WDATA, INV, BUSY, Content, ForMemory, ForCache, content, is_to_memory}
+use Rattle.alw_model.specs.FullMap.{Sends}
 use Rattle.alw_model.specs.LimitLess.{full_map_of, is_trapped, is_in_progress}
 use Rattle.alw_model.specs.Caches.{Copy, Requests, Transaction, granted_copy, copy_at, give_up, evicted, replaced, invalidate, react, set_of}
 use Rattle.alw_model.specs.Contexts.{slot_at, running}
-use Rattle.alw_model.specs.Messages.{Content, ForMemory, ForCache, content, home_node, to_homes, to_caches, is_at_home, is_fit}
-use Rattle.alw_model.specs.NodeStates.{NodeState, home_at, node_of, may, may_reach, may_deliver}
+use Rattle.alw_model.specs.Messages.{home_node, to_homes, to_caches, is_at_home, is_fit}
+use Rattle.alw_msg.specs.Events.{node_of}
+use Rattle.alw_model.specs.NodeStates.{NodeState, home_at, may, may_reach, may_deliver}
 use Rattle.alw_model.specs.NodeSteps.{opened, access, instr_by, instr, at_home, deliver_by, deliver, handle_by, handle_front, event_at, clocked}
-use Rattle.alw_model.specs.MachineInvariant.{is_to_memory}
 use Rattle.alw_model.proofs.Journals.{and_parts}
 use Rattle.alw_line.proofs.Homes.{DestsBelow}
 use Rattle.alw_limitless.proofs.Actions.{hardware_acts}

@@ -12,14 +12,15 @@ use Rattle.alw_msg.specs.declared.events.Event.TheVariants.{Instr, Handle, Deliv
 use Rattle.alw_image.specs.declared.parts.Parts.{Parts}
 use Rattle.alw_image.specs.Images.{node_count, line_count}
 use Rattle.alw_image.specs.Parameters.{Parameters}
-use Rattle.alw_model.specs.FullMap.{ToMemory}
+use Rattle.alw_msg.specs.Contents.{ToMemory, Content, ForMemory, ForCache, content}
 use Rattle.alw_model.specs.LimitLess.{full_map_of, is_trapped}
 use Rattle.alw_model.specs.Caches.{Copy, granted_copy}
 use Rattle.alw_model.specs.Contexts.{slot_at, running}
-use Rattle.alw_model.specs.Messages.{Content, ForMemory, ForCache, content}
-use Rattle.alw_model.specs.NodeStates.{NodeState, home_at, node_of, stamp_of}
+use Rattle.alw_msg.specs.Events.{node_of}
+use Rattle.alw_model.specs.NodeStates.{NodeState, home_at, stamp_of}
 use Rattle.alw_model.specs.NodeSteps.{access, instr_by, instr, at_home, deliver_by, deliver, handle_by, handle_front, event_at, clocked}
-use Rattle.alw_model.specs.Machine.{MachineState, machine_start, no_node, node_at, link_at, link_place, front, behind, taken_by, links_taken, is_enabled, is_within_limit, has_halted, stamp_at, step, stepped_by}
+use Rattle.alw_msg.specs.Lists.{front, behind}
+use Rattle.alw_model.specs.Machine.{MachineState, machine_start, no_node, node_at, link_at, link_place, taken_by, links_taken, is_enabled, is_within_limit, has_halted, stamp_at, step, stepped_by}
 use Rattle.sparc_table.specs.declared.outcomes.Need.{Need}
 use Rattle.sparc_table.specs.declared.outcomes.Need.TheVariants as needs
 use Rattle.sparc_table.specs.Turns.{need_of}

@@ -9,12 +9,11 @@ use Rattle.alw_msg.specs.declared.messages.Msg.{Msg}
 use Rattle.alw_image.specs.declared.parts.Parts.{Parts}
 use Rattle.alw_image.specs.Images.{node_count, line_count}
 use Rattle.alw_image.specs.Parameters.{Parameters}
-use Rattle.alw_model.specs.FullMap.{ToMemory, ToCache}
-use Rattle.alw_model.specs.Messages.{Content, ForMemory, ForCache, content, home_node, is_at_home}
+use Rattle.alw_msg.specs.Contents.{ToMemory, ToCache, Content, ForMemory, ForCache, content, request_in, reply_in, is_to_memory}
+use Rattle.alw_model.specs.Messages.{home_node, is_at_home}
 use Rattle.alw_model.specs.NodeStates.{NodeState}
 use Rattle.alw_model.specs.Machine.{MachineState, no_node, node_at, link_at}
-use Rattle.alw_model.specs.Lines.{LineNode, request_in, reply_in, ups, downs, sent_by, packets_at, line_of}
-use Rattle.alw_model.specs.MachineInvariant.{is_to_memory}
+use Rattle.alw_model.specs.Lines.{LineNode, ups, downs, sent_by, packets_at, line_of}
 use Rattle.alw_lift.specs.Standing.{IsPacket, IsStanding}
 use Rattle.alw_lift.proofs.CacheSide.{old_part}
 use Rattle.alw_lift.proofs.Following.{home_below}

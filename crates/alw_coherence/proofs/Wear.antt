@@ -19,15 +19,16 @@ use Rattle.alw_msg.specs.declared.contexts.Status.TheVariants.{Ready, Waiting, H
 use Rattle.alw_image.specs.declared.parts.Parts.{Parts}
 use Rattle.alw_image.specs.Images.{node_count}
 use Rattle.alw_image.specs.Parameters.{Parameters}
-use Rattle.alw_model.specs.FullMap.{ToMemory}
+use Rattle.alw_msg.specs.Contents.{ToMemory, Content, ForMemory, ForCache, content, is_to_memory}
 use Rattle.alw_model.specs.LimitLess.{full_map_of, hardware_of, is_trapped, hardware_act}
 use Rattle.alw_model.specs.Caches.{Copy, Cache, give_up, evicted}
-use Rattle.alw_model.specs.Contexts.{slot_at, running, is_ready, is_halted}
-use Rattle.alw_model.specs.Messages.{Content, ForMemory, ForCache, content, to_homes, to_caches, is_fit}
-use Rattle.alw_model.specs.NodeStates.{NodeState, home_at, stamp_of, may_deliver, is_nonempty}
+use Rattle.alw_msg.specs.Statuses.{is_ready, is_halted}
+use Rattle.alw_model.specs.Contexts.{slot_at, running}
+use Rattle.alw_model.specs.Messages.{to_homes, to_caches, is_fit}
+use Rattle.alw_msg.specs.Lists.{is_nonempty, front, behind}
+use Rattle.alw_model.specs.NodeStates.{NodeState, home_at, stamp_of, may_deliver}
 use Rattle.alw_model.specs.NodeSteps.{Stepped, clocked, at_home, deliver_by, deliver, handle_by, handle_front}
-use Rattle.alw_model.specs.Machine.{MachineState, no_node, node_at, link_at, link_place, front, behind, links_sent, stamp_at, is_enabled, has_halted, after_step, step, stepped_by}
-use Rattle.alw_model.specs.MachineInvariant.{is_to_memory}
+use Rattle.alw_model.specs.Machine.{MachineState, no_node, node_at, link_at, link_place, links_sent, stamp_at, is_enabled, has_halted, after_step, step, stepped_by}
 use Rattle.alw_model.proofs.Journals.{and_parts}
 use Rattle.alw_lift.specs.Standing.{IsPacket}
 use Rattle.alw_lift.proofs.Taken.{split_front}

@@ -5,7 +5,8 @@ use Rattle.std.specs.List.{range_with_len}
 use Rattle.std.proofs.lemmas.List.{get_or_default}
 use Rattle.std.proofs.lemmas.List.Folds.{list_any_none, list_any-from_Any}
 use Rattle.alw_num.specs.Maps.{passes}
-use Rattle.alw_model.specs.Contexts.{Slot, no_slot, slot_at, is_ready, running, turn_order, is_held}
+use Rattle.alw_msg.specs.Statuses.{is_ready}
+use Rattle.alw_model.specs.Contexts.{Slot, no_slot, slot_at, running, turn_order, is_held}
 
 find_first : (p : ℕ → Bool) (f : ℕ → ℕ) (a n k : ℕ) → a ≤ k → k < a + n → ((j : ℕ) → a ≤ j → j < k → p (f j) ≡ false) → p (f k) ≡ true → find p (map f (range_with_len a n)) ≡ Some (f k)
 find_first p f a zero k l m before here = absurd (omega arith)

@@ -1,6 +1,7 @@
 ghost use Rattle.std.specs.Prelude.{◌≡◌, ◌==◌, is_some};
 ghost use Rattle.alw_num.specs.Maps.{passes};
-ghost use Rattle.alw_model.specs.Contexts.{is_ready, waits_on, woken};
+ghost use Rattle.alw_msg.specs.Statuses.{is_ready, waits_on};
+ghost use Rattle.alw_model.specs.Contexts.{woken};
 ghost use Rattle.alw_ctx.specs.Residents.{slot_of};
 
 use alw_msg::Status;

@@ -4,7 +4,7 @@ use Rattle.alw_num.specs.NodeSets.{Nodes}
 use Rattle.dir_hw.specs.declared.entries.HomeEntry.{HomeEntry}
 use Rattle.alw_model.specs.FullMap.{Home}
 use Rattle.alw_model.specs.LimitLess.{Directory, Keeping, Joined, Alone, Emptied, Kept, keeping}
-use Rattle.alw_model.specs.Messages.{Content, ForMemory, ForCache}
+use Rattle.alw_msg.specs.Contents.{Content, ForMemory, ForCache}
 use Rattle.alw_home.specs.declared.changes.Change.{Change}
 use Rattle.alw_home.specs.declared.changes.Change.TheVariants as changes
 

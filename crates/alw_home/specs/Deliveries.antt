@@ -2,7 +2,7 @@
 use Rattle.std.specs.Prelude.{Bool, true, false, ℕ, []}
 use Rattle.alw_model.specs.FullMap.{Sends}
 use Rattle.alw_model.specs.LimitLess.{Directory, is_trapped, is_in_progress, overflows, hardware_act, trapped}
-use Rattle.alw_model.specs.Messages.{Content, ForMemory, ForCache}
+use Rattle.alw_msg.specs.Contents.{Content, ForMemory, ForCache}
 use Rattle.alw_home.specs.declared.deliveries.Acted.{Acted}
 use Rattle.alw_home.specs.declared.deliveries.Acted.TheVariants as acted
 

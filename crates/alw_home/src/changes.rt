@@ -3,7 +3,7 @@ ghost use Rattle.alw_num.specs.NodeSets.{nodes_of};
 ghost use Rattle.alw_msg.specs.Kinds.{to_memory};
 ghost use Rattle.alw_model.specs.FullMap.{write_shared, recall, give_back, others, sole, acknowledge};
 ghost use Rattle.alw_model.specs.LimitLess.{keeping_request, keeping_return};
-ghost use Rattle.alw_model.specs.Messages.{content};
+ghost use Rattle.alw_msg.specs.Contents.{content};
 ghost use Rattle.dir_full.specs.Reactions.{reaction, ended, with_sends, HasRoom};
 ghost use Rattle.alw_home.specs.Changes.{home_of, with_home, change_by, change_of};
 

@@ -2,7 +2,7 @@ ghost use Rattle.std.specs.Prelude.{◌≡◌, ◌<◌, ◌≤◌, Bool, false, 
 ghost use Rattle.alw_num.specs.NodeSets.{Nodes, no_nodes, count_nodes};
 ghost use Rattle.alw_msg.specs.Kinds.{to_memory};
 ghost use Rattle.alw_model.specs.LimitLess.{is_trapped, overflows};
-ghost use Rattle.alw_model.specs.Messages.{content};
+ghost use Rattle.alw_msg.specs.Contents.{content};
 ghost use Rattle.dir_full.specs.Reactions.{with_sends, HasRoom};
 ghost use Rattle.alw_home.specs.Changes.{directory_of};
 ghost use Rattle.alw_home.specs.Deliveries.{is_overflow, is_trap, answer_of, after_delivery};

@@ -10,13 +10,14 @@ use Rattle.alw_image.specs.declared.parts.Parts.{Parts}
 use Rattle.alw_image.specs.Images.{node_count, line_count}
 use Rattle.alw_image.specs.Parameters.{Parameters}
 use Rattle.alw_num.specs.Maps.{kept_if, value_at, with_value, without_value}
-use Rattle.alw_model.specs.FullMap.{ToMemory, ACKC, ToCache, RDATA, WDATA, INV, BUSY}
+use Rattle.alw_msg.specs.Contents.{ToMemory, ACKC, ToCache, RDATA, WDATA, INV, BUSY, ForCache, content, reply_in}
 use Rattle.alw_model.specs.Caches.{Copy, Cache, Requests, set_of, copy_at, replaced, evicted, invalidate, inv_answer, react}
-use Rattle.alw_model.specs.Messages.{ForCache, content, home_node, to_homes}
+use Rattle.alw_model.specs.Messages.{home_node, to_homes}
 use Rattle.alw_model.specs.NodeStates.{NodeState}
 use Rattle.alw_model.specs.NodeSteps.{Stepped, clocked, at_cache}
-use Rattle.alw_model.specs.Machine.{MachineState, node_at, link_at, front, behind}
-use Rattle.alw_model.specs.Lines.{LineState, reply_in, ups, downs, line_node, line_of}
+use Rattle.alw_msg.specs.Lists.{front, behind}
+use Rattle.alw_model.specs.Machine.{MachineState, node_at, link_at}
+use Rattle.alw_model.specs.Lines.{LineState, ups, downs, line_node, line_of}
 use Rattle.alw_num.proofs.MapLaws.{value-without}
 use Rattle.alw_line.specs.Protocol.{LineEvent, Comes, answer, received, step, IsLegal}
 use Rattle.alw_lift.specs.Links.{asked, GoBelow}

@@ -9,7 +9,7 @@ use Rattle.alw_image.specs.declared.parts.Parts.{Parts}
 use Rattle.alw_image.specs.Images.{node_count, zero_line}
 use Rattle.alw_image.specs.Parameters.{Parameters}
 use Rattle.alw_num.specs.Maps.{value_at}
-use Rattle.alw_model.specs.FullMap.{ToMemory, ToCache}
+use Rattle.alw_msg.specs.Contents.{ToMemory, ToCache}
 use Rattle.alw_model.specs.LimitLess.{directory_start, full_map_of}
 use Rattle.alw_model.specs.Caches.{Requests, copy_at}
 use Rattle.alw_model.specs.Messages.{home_node, to_homes}

@@ -5,10 +5,11 @@ use Rattle.std.proofs.lemmas.List.Concat.{flat_map-append}
 use Rattle.std.proofs.lemmas.List.Elements.{filter-append}
 use Rattle.alw_msg.specs.declared.messages.Msg.{Msg}
 use Rattle.alw_image.specs.declared.parts.Parts.{Parts}
-use Rattle.alw_model.specs.FullMap.{ToMemory, RREQ, WREQ, REPM, UPDATE, ACKC, ToCache, RDATA, WDATA, INV, BUSY, Sends}
+use Rattle.alw_msg.specs.Contents.{ToMemory, RREQ, WREQ, REPM, UPDATE, ACKC, ToCache, RDATA, WDATA, INV, BUSY, Content, ForMemory, ForCache, content, request_in, reply_in}
+use Rattle.alw_model.specs.FullMap.{Sends}
 use Rattle.alw_model.specs.Caches.{Requests}
-use Rattle.alw_model.specs.Messages.{Content, ForMemory, ForCache, content, message, home_node, to_homes, to_caches}
-use Rattle.alw_model.specs.Lines.{request_in, reply_in, ups, downs, sent_by}
+use Rattle.alw_model.specs.Messages.{message, home_node, to_homes, to_caches}
+use Rattle.alw_model.specs.Lines.{ups, downs, sent_by}
 use Rattle.alw_line.specs.Protocol.{sent_to}
 use Rattle.alw_num.proofs.Weigh.{is_node}
 use Rattle.alw_lift.specs.Links.{msgs_to, asked}

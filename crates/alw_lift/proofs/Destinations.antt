@@ -7,7 +7,8 @@ use Rattle.alw_num.specs.NodeSets.{has_node, drop_node}
 use Rattle.alw_num.specs.Weights.{times}
 use Rattle.alw_num.proofs.Weigh.{is_node, true_of_digit, digit_same}
 use Rattle.alw_num.proofs.Sets.{has-drop, has_of_times}
-use Rattle.alw_model.specs.FullMap.{Home, Sends, ToMemory, RREQ, WREQ, REPM, UPDATE, ACKC, sole, others, row, act, write_shared, recall, recall_from, give_back, give_back_from, end_read, end_write, acknowledge}
+use Rattle.alw_msg.specs.Contents.{ToMemory, RREQ, WREQ, REPM, UPDATE, ACKC}
+use Rattle.alw_model.specs.FullMap.{Home, Sends, sole, others, row, act, write_shared, recall, recall_from, give_back, give_back_from, end_read, end_write, acknowledge}
 use Rattle.alw_line.proofs.Homes.{DestsBelow, invs_below, sole_is}
 use Rattle.std.proofs.lemmas.Bool.{ne_eqb}
 

@@ -8,7 +8,7 @@ use Rattle.alw_image.specs.declared.parts.Parts.{Parts}
 use Rattle.alw_image.specs.Images.{node_count, line_count}
 use Rattle.alw_image.specs.Parameters.{Parameters}
 use Rattle.alw_model.specs.Caches.{Requests}
-use Rattle.alw_model.specs.FullMap.{ToCache}
+use Rattle.alw_msg.specs.Contents.{ToCache}
 use Rattle.alw_model.specs.Messages.{home_node, to_homes}
 use Rattle.alw_model.specs.NodeStates.{NodeState}
 use Rattle.alw_model.specs.Machine.{MachineState}

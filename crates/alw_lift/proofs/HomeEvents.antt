@@ -9,13 +9,15 @@ use Rattle.alw_msg.specs.declared.messages.Msg.{Msg}
 use Rattle.alw_image.specs.declared.parts.Parts.{Parts}
 use Rattle.alw_image.specs.Images.{node_count, line_count, zero_line}
 use Rattle.alw_image.specs.Parameters.{Parameters}
-use Rattle.alw_model.specs.FullMap.{Home, ToMemory, ToCache, Sends, act}
+use Rattle.alw_msg.specs.Contents.{ToMemory, ToCache, ForMemory, content, request_in}
+use Rattle.alw_model.specs.FullMap.{Home, Sends, act}
 use Rattle.alw_model.specs.LimitLess.{Directory, directory_start, full_map_of, is_trapped, is_in_progress, hardware_act, trapped, handle}
-use Rattle.alw_model.specs.Messages.{ForMemory, content, home_node, to_caches}
+use Rattle.alw_model.specs.Messages.{home_node, to_caches}
 use Rattle.alw_model.specs.NodeStates.{NodeState, home_at, with_home, place_of}
 use Rattle.alw_model.specs.NodeSteps.{clocked, at_home, handle_by}
-use Rattle.alw_model.specs.Machine.{MachineState, node_at, link_at, front, behind}
-use Rattle.alw_model.specs.Lines.{LineNode, LineState, request_in, ups, downs, sent_by, entry_of, packets_at, line_of}
+use Rattle.alw_msg.specs.Lists.{front, behind}
+use Rattle.alw_model.specs.Machine.{MachineState, node_at, link_at}
+use Rattle.alw_model.specs.Lines.{LineNode, LineState, ups, downs, sent_by, entry_of, packets_at, line_of}
 use Rattle.alw_line.specs.Protocol.{Acts, sent_to, acted, acts, step}
 use Rattle.alw_line.proofs.Homes.{DestsBelow}
 use Rattle.alw_limitless.specs.Entries.{IsSound, ActsAlike}

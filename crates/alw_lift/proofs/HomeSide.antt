@@ -7,7 +7,8 @@ use Rattle.alw_image.specs.declared.parts.Parts.{Parts}
 use Rattle.alw_image.specs.Images.{node_count}
 use Rattle.alw_image.specs.Parameters.{Parameters}
 use Rattle.alw_num.specs.Maps.{value_at}
-use Rattle.alw_model.specs.FullMap.{Home, ToMemory, ToCache, Sends}
+use Rattle.alw_msg.specs.Contents.{ToMemory, ToCache}
+use Rattle.alw_model.specs.FullMap.{Home, Sends}
 use Rattle.alw_model.specs.LimitLess.{full_map_of}
 use Rattle.alw_model.specs.Caches.{copy_at}
 use Rattle.alw_model.specs.Messages.{home_node, to_caches}

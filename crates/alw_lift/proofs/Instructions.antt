@@ -14,7 +14,7 @@ use Rattle.alw_image.specs.declared.parts.Parts.{Parts}
 use Rattle.alw_image.specs.Images.{node_count, line_count}
 use Rattle.alw_image.specs.Parameters.{Parameters}
 use Rattle.alw_num.specs.Maps.{kept_if, value_at}
-use Rattle.alw_model.specs.FullMap.{ToCache}
+use Rattle.alw_msg.specs.Contents.{ToCache}
 use Rattle.alw_model.specs.Caches.{Copy, Cache, Transaction, Requests, set_of, grants, request, copy_at, granted_copy}
 use Rattle.alw_msg.specs.declared.contexts.Status.TheVariants.{Waiting}
 use Rattle.alw_model.specs.declared.steps.Did.TheVariants.{Missed}

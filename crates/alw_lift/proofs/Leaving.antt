@@ -9,7 +9,7 @@ use Rattle.alw_image.specs.declared.parts.Parts.{Parts}
 use Rattle.alw_image.specs.Images.{node_count, line_count}
 use Rattle.alw_image.specs.Parameters.{Parameters}
 use Rattle.alw_num.specs.Maps.{kept_if, value_at}
-use Rattle.alw_model.specs.FullMap.{ToMemory, ToCache}
+use Rattle.alw_msg.specs.Contents.{ToMemory, ToCache}
 use Rattle.alw_model.specs.Caches.{Copy, Cache, copy_at, give_up, evicted}
 use Rattle.alw_model.specs.Messages.{home_node, to_homes}
 use Rattle.alw_model.specs.NodeStates.{NodeState}

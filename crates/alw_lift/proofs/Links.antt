@@ -6,7 +6,8 @@ use Rattle.std.proofs.lemmas.Nat.{mul-add-lt, same_from_place}
 use Rattle.alw_msg.specs.declared.messages.Msg.{Msg}
 use Rattle.alw_image.specs.declared.parts.Parts.{Parts}
 use Rattle.alw_image.specs.Images.{node_count}
-use Rattle.alw_model.specs.Machine.{link_place, links_sent, behind}
+use Rattle.alw_msg.specs.Lists.{behind}
+use Rattle.alw_model.specs.Machine.{link_place, links_sent}
 use Rattle.alw_num.proofs.Weigh.{is_node}
 use Rattle.alw_lift.specs.Links.{msgs_to, GoBelow}
 

@@ -11,14 +11,15 @@ use Rattle.alw_image.specs.declared.parts.Parts.{Parts}
 use Rattle.alw_image.specs.Images.{node_count, line_count}
 use Rattle.alw_image.specs.Parameters.{Parameters}
 use Rattle.alw_num.specs.Maps.{passes}
-use Rattle.alw_model.specs.FullMap.{ToMemory}
+use Rattle.alw_msg.specs.Contents.{ToMemory, Content, ForMemory, ForCache, content, is_to_memory}
 use Rattle.alw_model.specs.LimitLess.{full_map_of, is_trapped, is_in_progress}
 use Rattle.alw_model.specs.Contexts.{running}
-use Rattle.alw_model.specs.Messages.{Content, ForMemory, ForCache, content, home_node, is_at_home, is_fit}
-use Rattle.alw_model.specs.NodeStates.{home_at, node_of, stamp_of, may, may_reach, may_deliver, is_nonempty}
+use Rattle.alw_model.specs.Messages.{home_node, is_at_home, is_fit}
+use Rattle.alw_msg.specs.Events.{node_of}
+use Rattle.alw_msg.specs.Lists.{is_nonempty, front}
+use Rattle.alw_model.specs.NodeStates.{home_at, stamp_of, may, may_reach, may_deliver}
 use Rattle.alw_model.specs.NodeSteps.{Stepped, clocked, node_step, deliver_by, at_home, handle_by, handle_front}
-use Rattle.alw_model.specs.Machine.{MachineState, node_at, link_at, front, taken_by, is_enabled, after_step, step}
-use Rattle.alw_model.specs.MachineInvariant.{is_to_memory}
+use Rattle.alw_model.specs.Machine.{MachineState, node_at, link_at, taken_by, is_enabled, after_step, step}
 use Rattle.alw_model.specs.Lines.{LineState, line_of}
 use Rattle.alw_model.proofs.Journals.{and_parts}
 use Rattle.alw_lift.specs.LineEvents.{Follows, in_home, in_packet, in_delivery, in_taken, in_queue, line_events}

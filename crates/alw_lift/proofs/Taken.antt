@@ -6,10 +6,10 @@ use Rattle.alw_num.proofs.Weigh.{is_node}
 use Rattle.alw_msg.specs.declared.messages.Msg.{Msg}
 use Rattle.alw_image.specs.declared.parts.Parts.{Parts}
 use Rattle.alw_image.specs.Images.{node_count}
-use Rattle.alw_model.specs.FullMap.{ToMemory, ToCache}
-use Rattle.alw_model.specs.Messages.{ForMemory, ForCache, content}
-use Rattle.alw_model.specs.Machine.{MachineState, link_at, link_place, front, behind}
-use Rattle.alw_model.specs.Lines.{request_in, reply_in, ups, downs}
+use Rattle.alw_msg.specs.Contents.{ToMemory, ToCache, ForMemory, ForCache, content, request_in, reply_in}
+use Rattle.alw_msg.specs.Lists.{front, behind}
+use Rattle.alw_model.specs.Machine.{MachineState, link_at, link_place}
+use Rattle.alw_model.specs.Lines.{ups, downs}
 use Rattle.alw_lift.proofs.Links.{link_taken}
 
 pub split_front : {X : Type 0} (xs : List X) (x : X) → front xs ≡ Some x → xs ≡ x ∷ behind xs

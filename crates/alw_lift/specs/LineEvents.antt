@@ -13,12 +13,12 @@ use Rattle.alw_image.specs.declared.parts.Parts.{Parts}
 use Rattle.alw_image.specs.Images.{line_count}
 use Rattle.alw_image.specs.Parameters.{Parameters}
 use Rattle.alw_num.specs.Maps.{value_at}
-use Rattle.alw_model.specs.FullMap.{ToCache}
+use Rattle.alw_msg.specs.Contents.{ToCache, brings_line, Content, ForMemory, ForCache, content}
 use Rattle.alw_model.specs.LimitLess.{is_trapped}
-use Rattle.alw_model.specs.Caches.{Copy, Transaction, granted_copy, replaced, brings_line}
+use Rattle.alw_model.specs.Caches.{Copy, Transaction, granted_copy, replaced}
 use Rattle.alw_model.specs.Contexts.{slot_at, running}
-use Rattle.alw_model.specs.Messages.{Content, ForMemory, ForCache, content}
-use Rattle.alw_model.specs.NodeStates.{NodeState, node_of, home_at}
+use Rattle.alw_msg.specs.Events.{node_of}
+use Rattle.alw_model.specs.NodeStates.{NodeState, home_at}
 use Rattle.alw_model.specs.Machine.{MachineState, node_at, taken_by}
 use Rattle.alw_model.specs.Lines.{LineState}
 use Rattle.alw_line.specs.Protocol.{LineEvent, Opens, Stores, Leaves, Comes, Acts, IsLegalRun, run}

@@ -1,7 +1,7 @@
 -- Messages that an event sends: those for a node, and those about a line.
 use Rattle.std.specs.Prelude.{ℕ, ◌<◌, cond, ◌==◌, List, [], ◌∷◌}
 use Rattle.alw_msg.specs.declared.messages.Msg.{Msg}
-use Rattle.alw_model.specs.FullMap.{ToMemory}
+use Rattle.alw_msg.specs.Contents.{ToMemory}
 use Rattle.alw_model.specs.Caches.{Requests}
 
 -- the messages for a node, in order

@@ -9,12 +9,12 @@ use Rattle.alw_image.specs.Parameters.{Parameters}
 use Rattle.alw_num.specs.Maps.{value_at}
 use Rattle.alw_model.specs.LimitLess.{is_in_progress}
 use Rattle.alw_model.specs.Caches.{Copy, Cache, set_of}
-use Rattle.alw_model.specs.Messages.{content, home_node}
+use Rattle.alw_msg.specs.Contents.{content, is_to_memory}
+use Rattle.alw_model.specs.Messages.{home_node}
 use Rattle.alw_model.specs.NodeStates.{NodeState, home_at}
 use Rattle.alw_model.specs.Machine.{MachineState, node_at}
 use Rattle.alw_model.specs.Lines.{ups}
 use Rattle.alw_limitless.specs.Entries.{IsSound}
-use Rattle.alw_model.specs.MachineInvariant.{is_to_memory}
 
 -- each copy in a cache is of a line that exists, and stands in its line's set
 abbrev pub IsCache : Parts → Parameters → Cache → Type 0

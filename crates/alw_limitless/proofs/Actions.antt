@@ -10,7 +10,8 @@ use Rattle.alw_num.specs.declared.states.Meta.TheVariants.{Normal, Progress, Tra
 use Rattle.alw_num.specs.NodeSets.{Nodes, no_nodes, add_node, one_node, join_nodes, count_nodes}
 use Rattle.alw_num.proofs.Sets.{join-none, none-join, add-join, none_of_count}
 use Rattle.alw_num.specs.Weights.{digit}
-use Rattle.alw_model.specs.FullMap.{ToMemory, RREQ, WREQ, REPM, UPDATE, ACKC, Home, Sends, row, act, sole, others, recall, recall_from, give_back, give_back_from, write_shared, acknowledge, end_read, end_write}
+use Rattle.alw_msg.specs.Contents.{ToMemory, RREQ, WREQ, REPM, UPDATE, ACKC}
+use Rattle.alw_model.specs.FullMap.{Home, Sends, row, act, sole, others, recall, recall_from, give_back, give_back_from, write_shared, acknowledge, end_read, end_write}
 use Rattle.alw_model.specs.LimitLess.{Directory, full_map_of, hardware_of, overflows, traps_in, is_trapped, is_in_progress, hardware_act, handle, kept, keeping, keeping_request, keeping_return, Keeping, Joined, Alone, Emptied, Kept}
 use Rattle.alw_model.specs.LineInvariant.{software_by, is_shared}
 use Rattle.alw_limitless.specs.Entries.{IsSound, ActsAlike}

@@ -7,7 +7,8 @@ use Rattle.alw_num.specs.declared.states.Meta.{Meta}
 use Rattle.alw_num.specs.declared.states.Meta.TheVariants.{Normal, TrapWrite}
 use Rattle.alw_num.proofs.Sets.{join-none}
 use Rattle.alw_num.specs.NodeSets.{no_nodes, count_nodes}
-use Rattle.alw_model.specs.FullMap.{ToMemory, Home, Sends, home_start, act}
+use Rattle.alw_msg.specs.Contents.{ToMemory}
+use Rattle.alw_model.specs.FullMap.{Home, Sends, home_start, act}
 use Rattle.alw_model.specs.LimitLess.{Directory, or_always, full_map_of, is_trapped, is_in_progress, hardware_act, trapped, handle, kept, keeping, Keeping, Joined, Alone, Emptied, Kept}
 use Rattle.alw_limitless.specs.Entries.{IsSound, ActsAlike}
 use Rattle.alw_limitless.specs.Courses.{HomeEvent, Comes, Handles, Course, course_start, acted_with, take_in, come, run_handler, happen, happen_all, reactions, ActsAsFullMap, one_by_one}

@@ -1,7 +1,8 @@
 -- What a LimitLESS entry goes through: messages to memory come one by one, and each is acted on by hardware, or traps and is acted on by the handler, or waits while another one is pending.
 use Rattle.std.specs.Prelude.{◌≡◌, ℕ, Bool, true, false, Option, Some, None, List, [], ◌∷◌, ◌++◌, flat_map}
 use Rattle.alw_num.specs.declared.addresses.Line.{Line}
-use Rattle.alw_model.specs.FullMap.{ToMemory, Home, Sends, home_start, act}
+use Rattle.alw_msg.specs.Contents.{ToMemory}
+use Rattle.alw_model.specs.FullMap.{Home, Sends, home_start, act}
 use Rattle.alw_model.specs.LimitLess.{Directory, directory_start, full_map_of, is_trapped, is_in_progress, hardware_act, trapped, handle}
 
 -- what happens at a line's home: a message of a node stands at the head of its link and is taken if the home takes any, or the handler runs

@@ -2,7 +2,8 @@
 use Rattle.std.specs.Prelude.{◌≡◌, ℕ, ◌≤◌, IsTrue}
 use Rattle.alw_num.specs.NodeSets.{count_nodes}
 use Rattle.alw_num.specs.Weights.{digit}
-use Rattle.alw_model.specs.FullMap.{ToMemory, Sends, act}
+use Rattle.alw_msg.specs.Contents.{ToMemory}
+use Rattle.alw_model.specs.FullMap.{Sends, act}
 use Rattle.alw_model.specs.LimitLess.{Directory, full_map_of, is_in_progress}
 use Rattle.alw_model.specs.LineInvariant.{software_fits}
 

@@ -1,6 +1,6 @@
 ghost use Rattle.std.specs.Prelude.{◌≡◌, ◌≤◌, ℕ, Bool, false, List};
 ghost use Rattle.alw_num.specs.declared.addresses.Line.{Line};
-ghost use Rattle.alw_model.specs.FullMap.{ToMemory};
+ghost use Rattle.alw_msg.specs.Contents.{ToMemory};
 ghost use Rattle.alw_model.specs.LimitLess.{Directory, is_trapped, is_in_progress, hardware_act, trapped, handle};
 ghost use Rattle.alw_limitless.specs.Entries.{IsSound, ActsAlike};
 ghost use Rattle.alw_limitless.specs.Courses.{HomeEvent, course_start, happen_all, ActsAsFullMap, one_by_one};

@@ -5,10 +5,9 @@ use Rattle.std.specs.List.{list_all}
 use Rattle.alw_num.specs.declared.addresses.Line.{Line}
 use Rattle.alw_num.specs.declared.states.Mode.{Mode}
 use Rattle.alw_num.specs.Weights.{sum_below}
-use Rattle.alw_model.specs.FullMap.{ToMemory, ToCache}
+use Rattle.alw_msg.specs.Contents.{ToMemory, ToCache, is_reply, is_repm}
 use Rattle.alw_model.specs.LimitLess.{Directory}
-use Rattle.alw_model.specs.Caches.{is_reply}
-use Rattle.alw_model.specs.Lines.{LineState, is_repm, line_value}
+use Rattle.alw_model.specs.Lines.{LineState, line_value}
 use Rattle.alw_model.specs.LineInvariant as words
 use Rattle.alw_model.specs.LineInvariant.{LineInvariant, reads, writes, software_fits}
 use Rattle.alw_line.specs.Protocol.{start, run, last_stored, AfterEveryRun}

@@ -6,9 +6,10 @@ use Rattle.alw_num.specs.declared.states.Mode.{Mode}
 use Rattle.alw_num.specs.declared.states.Mode.TheVariants.{Read, Write}
 use Rattle.alw_num.specs.Weights.{digit, weigh}
 use Rattle.alw_num.proofs.Weigh.{digit_le}
-use Rattle.alw_model.specs.FullMap.{ToMemory, RREQ, WREQ, REPM, UPDATE, ACKC, ToCache, RDATA, WDATA, INV, BUSY}
+use Rattle.alw_msg.specs.Contents.{ToMemory, RREQ, WREQ, REPM, UPDATE, ACKC, ToCache, RDATA, WDATA, INV, BUSY, is_repm, is_update, is_rdata, is_wdata}
 use Rattle.alw_model.specs.LineInvariant.{same_line}
-use Rattle.alw_model.specs.Lines.{LineNode, is_repm, is_update, is_rdata, is_wdata, count_of}
+use Rattle.alw_msg.specs.Lists.{count_of}
+use Rattle.alw_model.specs.Lines.{LineNode}
 use Rattle.alw_line.specs.Census.{is_read, is_write, copies_of, off, off_copy, off_up, off_down, census, carries}
 
 -- lines that the test calls equal are one

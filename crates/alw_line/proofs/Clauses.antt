@@ -10,10 +10,12 @@ use Rattle.alw_num.specs.declared.states.State.TheVariants.{RO, RW, RT, WT}
 use Rattle.alw_num.specs.NodeSets.{has_node}
 use Rattle.alw_num.specs.Weights.{digit, sum_below}
 use Rattle.alw_num.proofs.Weigh.{digit_same, true_of_digit, sum_same, sum_none, le_sum, cases_lt_then}
-use Rattle.alw_model.specs.FullMap.{sole, ToCache}
+use Rattle.alw_msg.specs.Contents.{ToCache, is_repm, is_ackc, is_rdata, is_wdata, is_inv, is_busy}
+use Rattle.alw_model.specs.FullMap.{sole}
 use Rattle.alw_num.specs.Maps.{passes}
 use Rattle.alw_model.specs.LimitLess.{Directory}
-use Rattle.alw_model.specs.Lines.{LineState, LineNode, is_rdata, is_wdata, is_inv, is_busy, is_repm, is_ackc, is_followed, count_of, line_value}
+use Rattle.alw_msg.specs.Lists.{count_of, is_followed}
+use Rattle.alw_model.specs.Lines.{LineState, LineNode, line_value}
 use Rattle.alw_model.specs.LineInvariant as words
 use Rattle.alw_model.specs.LineInvariant.{LineInvariant, is_reading, is_writing, is_shared, is_sole, reads, writes, all_carried, same_line, reads_of, writes_of, transaction_by, transaction_fits, counter_by, counter_fits, debt_fits, is_recalled, carrier_by, carrier_fits, data_holds, current_fits, sharer_fits, order_fits, single_by, software_fits}
 use Rattle.alw_line.specs.Census.{is_read, is_write, copies_of, transactions_of, off_copy, census, owes, carries}

@@ -9,9 +9,10 @@ use Rattle.alw_num.specs.declared.states.State.{State}
 use Rattle.alw_num.specs.declared.states.State.TheVariants.{RO, RW, RT, WT}
 use Rattle.alw_num.specs.Weights.{digit, sum_below}
 use Rattle.alw_num.proofs.Weigh.{is_node, digit_same, sum_same, cases_lt_then}
-use Rattle.alw_model.specs.FullMap.{sole, ToMemory, RREQ, WREQ, REPM, UPDATE, ACKC, ToCache, RDATA, WDATA, INV, BUSY}
-use Rattle.alw_model.specs.Caches.{is_reply}
-use Rattle.alw_model.specs.Lines.{LineState, LineNode, is_rreq, is_wreq, is_repm, is_update, is_ackc, is_rdata, is_wdata, is_inv, is_busy, count_of}
+use Rattle.alw_msg.specs.Contents.{ToMemory, RREQ, WREQ, REPM, UPDATE, ACKC, ToCache, RDATA, WDATA, INV, BUSY, is_reply, is_rreq, is_wreq, is_repm, is_update, is_ackc, is_rdata, is_wdata, is_inv, is_busy}
+use Rattle.alw_model.specs.FullMap.{sole}
+use Rattle.alw_msg.specs.Lists.{count_of}
+use Rattle.alw_model.specs.Lines.{LineState, LineNode}
 use Rattle.alw_model.specs.LineInvariant as words
 use Rattle.alw_model.specs.LineInvariant.{LineInvariant, reads, writes, software_fits}
 use Rattle.alw_line.specs.Census.{is_read, is_write, transactions_of, off_copy, census, owes, carries}

@@ -6,8 +6,10 @@ use Rattle.alw_num.specs.declared.states.State.TheVariants.{RO, RW, RT, WT}
 use Rattle.alw_num.specs.NodeSets.{has_node}
 use Rattle.alw_num.specs.Weights.{digit}
 use Rattle.alw_num.proofs.Weigh.{is_node, digit_le, digit_same, digit_other, true_of_digit}
-use Rattle.alw_model.specs.FullMap.{Home, Sends, sole, ToMemory, REPM, UPDATE, ACKC, RDATA, WDATA}
-use Rattle.alw_model.specs.Lines.{LineState, is_rreq, is_wreq, is_repm, is_update, is_ackc, count_of}
+use Rattle.alw_msg.specs.Contents.{ToMemory, REPM, UPDATE, ACKC, RDATA, WDATA, is_rreq, is_wreq, is_repm, is_update, is_ackc}
+use Rattle.alw_model.specs.FullMap.{Home, Sends, sole}
+use Rattle.alw_msg.specs.Lists.{count_of}
+use Rattle.alw_model.specs.Lines.{LineState}
 use Rattle.alw_line.specs.Protocol.{sent_to, acted}
 use Rattle.alw_line.specs.Census.{off, wrong_up, Census, census, owes, carries}
 use Rattle.alw_line.specs.Sound.{points, in_read_write, in_read_only, Role, role, CounterFits, Sound}

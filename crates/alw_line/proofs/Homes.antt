@@ -7,8 +7,10 @@ use Rattle.alw_num.specs.NodeSets.{Nodes, has_node, one_node, members}
 use Rattle.alw_num.specs.Weights.{digit, weigh, times, sum_below}
 use Rattle.alw_num.proofs.Weigh.{at_nodes, is_node, digit_le, digit_same, digit_other, sum_same, sum_both, sum_scale, sum_one, sum_none}
 use Rattle.alw_num.proofs.Sets.{has-one, members-one, one_of_members}
-use Rattle.alw_model.specs.FullMap.{Home, Sends, sole, only, invs, ToMemory, ToCache, RDATA, WDATA, INV, BUSY}
-use Rattle.alw_model.specs.Lines.{LineState, absent, LineNode, is_rreq, is_wreq, is_repm, is_update, is_ackc, is_rdata, is_wdata, is_inv, is_busy, count_of}
+use Rattle.alw_msg.specs.Contents.{ToMemory, ToCache, RDATA, WDATA, INV, BUSY, is_rreq, is_wreq, is_repm, is_update, is_ackc, is_rdata, is_wdata, is_inv, is_busy}
+use Rattle.alw_model.specs.FullMap.{Home, Sends, sole, only, invs}
+use Rattle.alw_msg.specs.Lists.{count_of}
+use Rattle.alw_model.specs.Lines.{LineState, absent, LineNode}
 use Rattle.alw_line.specs.Protocol.{receives, taken_from, sent_to, acted}
 use Rattle.alw_line.specs.Census.{off_down, wrong_down, Census, census, owes}
 use Rattle.alw_line.specs.Sound.{points, in_read_transaction, in_write_transaction, in_read_write, in_read_only, Role, role, CounterFits, Sound}

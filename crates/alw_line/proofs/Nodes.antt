@@ -7,8 +7,10 @@ use Rattle.alw_num.specs.declared.states.State.{State}
 use Rattle.alw_num.specs.declared.states.State.TheVariants.{RO, RW, RT, WT}
 use Rattle.alw_num.specs.Weights.{digit}
 use Rattle.alw_num.proofs.Weigh.{digit_le, digit_other, at_nodes, is_node, sum_same, le_sum, two_le_sum, cases_lt_then}
-use Rattle.alw_model.specs.FullMap.{sole, ToMemory, RREQ, WREQ, REPM, ToCache, RDATA, WDATA, INV, BUSY}
-use Rattle.alw_model.specs.Lines.{LineState, absent, LineNode, is_rreq, is_wreq, is_repm, is_update, is_ackc, is_rdata, is_wdata, count_of}
+use Rattle.alw_msg.specs.Contents.{ToMemory, RREQ, WREQ, REPM, ToCache, RDATA, WDATA, INV, BUSY, is_rreq, is_wreq, is_repm, is_update, is_ackc, is_rdata, is_wdata}
+use Rattle.alw_model.specs.FullMap.{sole}
+use Rattle.alw_msg.specs.Lists.{count_of}
+use Rattle.alw_model.specs.Lines.{LineState, absent, LineNode}
 use Rattle.alw_line.specs.Protocol.{opened, stored, given_up, left, answer, received, changed, is_granted}
 use Rattle.alw_line.specs.Census.{is_read, is_write, copies_of, transactions_of, off, off_copy, off_up, wrong_down, Census, census, owes, carries}
 use Rattle.alw_line.specs.Sound.{points, in_read_write, role, Fits, CounterFits, Sound}

@@ -8,7 +8,8 @@ use Rattle.alw_num.specs.NodeSets.{Nodes, has_node, one_node, add_node}
 use Rattle.alw_num.specs.Weights.{digit, times}
 use Rattle.alw_num.proofs.Weigh.{is_node, digit_le, true_of_digit}
 use Rattle.alw_num.proofs.Sets.{has-add, has-one, times-drop}
-use Rattle.alw_model.specs.FullMap.{Home, Sends, sole, others, invs, ToMemory, RREQ, WREQ, RDATA, WDATA}
+use Rattle.alw_msg.specs.Contents.{ToMemory, RREQ, WREQ, RDATA, WDATA}
+use Rattle.alw_model.specs.FullMap.{Home, Sends, sole, others, invs}
 use Rattle.alw_model.specs.Lines.{LineState}
 use Rattle.alw_line.specs.Protocol.{sent_to, acted}
 use Rattle.alw_line.specs.Census.{off, census, owes, carries}

@@ -6,8 +6,9 @@ use Rattle.alw_num.specs.NodeSets.{no_nodes, has_node, one_node}
 use Rattle.alw_num.specs.Weights.{digit}
 use Rattle.alw_num.proofs.Weigh.{digit_same, true_of_digit}
 use Rattle.alw_num.proofs.Sets.{has-none}
-use Rattle.alw_model.specs.FullMap.{Home, Sends, sole, ToMemory, RREQ, WREQ, REPM, UPDATE, ACKC, INV, BUSY}
-use Rattle.alw_model.specs.Lines.{LineState, is_rreq, is_wreq, is_repm, is_update, is_ackc}
+use Rattle.alw_msg.specs.Contents.{ToMemory, RREQ, WREQ, REPM, UPDATE, ACKC, INV, BUSY, is_rreq, is_wreq, is_repm, is_update, is_ackc}
+use Rattle.alw_model.specs.FullMap.{Home, Sends, sole}
+use Rattle.alw_model.specs.Lines.{LineState}
 use Rattle.alw_line.specs.Protocol.{sent_to, acted}
 use Rattle.alw_line.specs.Census.{off, off_up, census, carries}
 use Rattle.alw_line.specs.Sound.{CounterFits, Sound}

@@ -8,8 +8,9 @@ use Rattle.alw_num.specs.NodeSets.{has_node, no_nodes}
 use Rattle.alw_num.specs.Weights.{digit}
 use Rattle.alw_num.proofs.Weigh.{sum_none}
 use Rattle.alw_num.proofs.Sets.{has-none}
-use Rattle.alw_model.specs.FullMap.{sole, others, row, write_shared, recall, recall_from, give_back, give_back_from, acknowledge, end_read, end_write, ToMemory, RREQ, WREQ, REPM, UPDATE, ACKC}
-use Rattle.alw_model.specs.Lines.{LineState, is_update, is_ackc}
+use Rattle.alw_msg.specs.Contents.{ToMemory, RREQ, WREQ, REPM, UPDATE, ACKC, is_update, is_ackc}
+use Rattle.alw_model.specs.FullMap.{sole, others, row, write_shared, recall, recall_from, give_back, give_back_from, acknowledge, end_read, end_write}
+use Rattle.alw_model.specs.Lines.{LineState}
 use Rattle.alw_line.specs.Protocol.{LineEvent, Opens, Stores, Leaves, Comes, Acts, start, acted, acts, step, run, IsLegal, IsLegalRun, value_after, last_stored}
 use Rattle.alw_line.specs.Sound.{Sound}
 use Rattle.alw_line.proofs.Nodes.{opens_keeps, stores_keeps, leaves_keeps, comes_keeps}

@@ -8,9 +8,10 @@ use Rattle.alw_num.specs.declared.states.Mode.{Mode}
 use Rattle.alw_num.specs.declared.states.Mode.TheVariants.{Read, Write}
 use Rattle.alw_num.specs.Weights.{digit, weigh, sum_below}
 use Rattle.alw_num.proofs.Weigh.{sum_same}
-use Rattle.alw_model.specs.FullMap.{ToMemory, RREQ, WREQ, REPM, UPDATE, ACKC, ToCache, RDATA, WDATA, INV, BUSY}
-use Rattle.alw_model.specs.Lines.{LineState, LineNode, is_repm, is_update, is_ackc, is_rdata, is_wdata, is_inv, count_of, is_followed, is_clear_behind, copy_carried, up_carried, down_carried, carried, carriers, value_by, line_value}
-use Rattle.alw_model.specs.LineInvariant.{reads, writes, is_data, is_request_or_ackc, data_holds}
+use Rattle.alw_msg.specs.Contents.{ToMemory, RREQ, WREQ, REPM, UPDATE, ACKC, ToCache, RDATA, WDATA, INV, BUSY, is_repm, is_update, is_ackc, is_rdata, is_wdata, is_inv, is_data, is_request_or_ackc}
+use Rattle.alw_msg.specs.Lists.{count_of, is_followed, is_clear_behind}
+use Rattle.alw_model.specs.Lines.{LineState, LineNode, copy_carried, up_carried, down_carried, carried, carriers, value_by, line_value}
+use Rattle.alw_model.specs.LineInvariant.{reads, writes, data_holds}
 use Rattle.alw_line.specs.Census.{is_read, is_write, copies_of, off_copy, off_up, off_down, wrong_up, wrong_down, census, carries}
 use Rattle.alw_line.proofs.Bodies.{line_equals, same_of_off}
 

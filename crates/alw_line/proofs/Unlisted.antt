@@ -7,8 +7,10 @@ use Rattle.alw_num.specs.declared.states.State.{State}
 use Rattle.alw_num.specs.declared.states.State.TheVariants.{RO, RW, RT, WT}
 use Rattle.alw_num.specs.Weights.{digit}
 use Rattle.alw_num.proofs.Weigh.{is_node, digit_same, digit_other}
-use Rattle.alw_model.specs.FullMap.{Home, Sends, sole, act, row, unlisted, recall, recall_from, give_back, give_back_from, end_read, end_write, acknowledge, ToMemory, RREQ, WREQ, REPM, UPDATE, ACKC}
-use Rattle.alw_model.specs.Lines.{LineState, is_rreq, is_wreq, is_repm, is_update, is_ackc, count_of}
+use Rattle.alw_msg.specs.Contents.{ToMemory, RREQ, WREQ, REPM, UPDATE, ACKC, is_rreq, is_wreq, is_repm, is_update, is_ackc}
+use Rattle.alw_model.specs.FullMap.{Home, Sends, sole, act, row, unlisted, recall, recall_from, give_back, give_back_from, end_read, end_write, acknowledge}
+use Rattle.alw_msg.specs.Lists.{count_of}
+use Rattle.alw_model.specs.Lines.{LineState}
 use Rattle.alw_line.specs.Combinations.{ListedIn, IsListed}
 use Rattle.alw_line.specs.Census.{wrong_up}
 use Rattle.alw_line.specs.Sound.{Sound}

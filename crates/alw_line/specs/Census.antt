@@ -4,9 +4,10 @@ use Rattle.alw_num.specs.declared.addresses.Line.{Line}
 use Rattle.alw_num.specs.declared.states.Mode.{Mode}
 use Rattle.alw_num.specs.declared.states.Mode.TheVariants.{Read, Write}
 use Rattle.alw_num.specs.Weights.{digit, weigh}
-use Rattle.alw_model.specs.FullMap.{ToMemory, RREQ, WREQ, REPM, UPDATE, ACKC, ToCache, RDATA, WDATA, INV, BUSY}
+use Rattle.alw_msg.specs.Contents.{ToMemory, RREQ, WREQ, REPM, UPDATE, ACKC, ToCache, RDATA, WDATA, INV, BUSY, is_rreq, is_wreq, is_repm, is_update, is_ackc, is_rdata, is_wdata, is_inv, is_busy}
 use Rattle.alw_model.specs.LineInvariant.{same_line}
-use Rattle.alw_model.specs.Lines.{LineNode, is_rreq, is_wreq, is_repm, is_update, is_ackc, is_rdata, is_wdata, is_inv, is_busy, count_of}
+use Rattle.alw_msg.specs.Lists.{count_of}
+use Rattle.alw_model.specs.Lines.{LineNode}
 
 -- ---- copies and transactions of a mode
 

@@ -2,7 +2,8 @@
 use Rattle.std.specs.Prelude.{◌≡◌, ◌≢◌, ℕ, ◌<◌, ◌⊎◌, Some, IsSomeAnd, IsSome, ⊤}
 use Rattle.alw_num.specs.declared.states.State.{State}
 use Rattle.alw_num.specs.declared.states.State.TheVariants.{RO, RW}
-use Rattle.alw_model.specs.FullMap.{Home, ToMemory, RREQ, WREQ, REPM, UPDATE, ACKC, sole}
+use Rattle.alw_msg.specs.Contents.{ToMemory, RREQ, WREQ, REPM, UPDATE, ACKC}
+use Rattle.alw_model.specs.FullMap.{Home, sole}
 
 -- what is listed in a state: requests anywhere but from the owner; in Read-Write a REPM of the owner; in a transaction a REPM, the UPDATE that ends it, and an ACKC that is counted
 abbrev pub ListedIn : State → Home → ℕ → ToMemory → Type 0

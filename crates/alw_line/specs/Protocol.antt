@@ -3,7 +3,8 @@ use Rattle.std.specs.Prelude.{◌≡◌, ℕ, ◌<◌, Bool, true, false, cond, 
 use Rattle.alw_num.specs.declared.addresses.Line.{Line}
 use Rattle.alw_num.specs.declared.states.Mode.{Mode}
 use Rattle.alw_num.specs.declared.states.Mode.TheVariants.{Read, Write}
-use Rattle.alw_model.specs.FullMap.{ToMemory, REPM, ACKC, ToCache, RDATA, WDATA, INV, BUSY, Home, Sends, home_start, act}
+use Rattle.alw_msg.specs.Contents.{ToMemory, REPM, ACKC, ToCache, RDATA, WDATA, INV, BUSY}
+use Rattle.alw_model.specs.FullMap.{Home, Sends, home_start, act}
 use Rattle.alw_model.specs.Caches.{grants, inv_answer, request}
 use Rattle.alw_model.specs.Lines.{LineState, absent, LineNode}
 

@@ -1,9 +1,8 @@
 ghost use Rattle.std.specs.Prelude.{◌≡◌, ◌≢◌, ℕ, ◌+◌, ◌<◌, ◌≤◌, ◌⊎◌, List, [], ◌∷◌, None, length, IsSome, IsTrue};
 ghost use Rattle.std.specs.List.{list_all};
 ghost use Rattle.alw_num.specs.Weights.{sum_below};
-ghost use Rattle.alw_model.specs.FullMap.{Home, ToMemory, ToCache, act, unlisted};
-ghost use Rattle.alw_model.specs.Caches.{is_reply};
-ghost use Rattle.alw_model.specs.Lines.{is_repm};
+ghost use Rattle.alw_msg.specs.Contents.{ToMemory, ToCache, is_reply, is_repm};
+ghost use Rattle.alw_model.specs.FullMap.{Home, act, unlisted};
 ghost use Rattle.alw_model.specs.LineInvariant.{owes};
 ghost use Rattle.alw_line.specs.Protocol.{AfterEveryRun};
 ghost use Rattle.alw_line.specs.Combinations.{IsListed};

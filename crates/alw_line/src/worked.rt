@@ -3,7 +3,7 @@ ghost use Rattle.alw_num.specs.declared.addresses.Line.{Line};
 ghost use Rattle.alw_num.specs.declared.states.Mode.TheVariants.{Read};
 ghost use Rattle.alw_num.specs.declared.states.State.TheVariants.{RO, RW, WT};
 ghost use Rattle.alw_num.specs.NodeSets.{one_node};
-ghost use Rattle.alw_model.specs.FullMap.{WDATA};
+ghost use Rattle.alw_msg.specs.Contents.{WDATA};
 ghost use Rattle.alw_model.specs.Lines.{absent};
 ghost use Rattle.alw_line.specs.Protocol.{start, run, IsLegalRun};
 ghost use Rattle.alw_line.specs.Worked.{handover, crossing, one_answered, both_answered};

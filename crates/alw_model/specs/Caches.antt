@@ -4,7 +4,7 @@ use Rattle.alw_num.specs.declared.addresses.Line.{Line}
 use Rattle.alw_num.specs.declared.states.Mode.{Mode}
 use Rattle.alw_num.specs.declared.states.Mode.TheVariants.{Read, Write}
 use Rattle.alw_num.specs.Maps.{Map, kept_if, value_at, with_value, without_value}
-use Rattle.alw_model.specs.FullMap.{ToMemory, RREQ, WREQ, REPM, UPDATE, ACKC, ToCache, RDATA, WDATA, INV, BUSY}
+use Rattle.alw_msg.specs.Contents.{ToMemory, RREQ, WREQ, REPM, UPDATE, ACKC, ToCache, RDATA, WDATA, INV, BUSY, is_reply}
 
 -- a copy of a line: Read-Only (Read) or Read-Write (Write)
 pub record Copy : Type 0 where
@@ -84,17 +84,6 @@ react sets cache line (RDATA body) = fill sets cache (record { line = line; mode
 react sets cache line (WDATA body) = fill sets cache (record { line = line; mode = Write; body = body })
 react sets cache line BUSY = (cache, [])
 react sets cache line INV = invalidate sets cache line (copy_at sets cache line)
-
--- the message ends a transaction on its line, where there is one
-abbrev pub is_reply : ToCache → Bool
-is_reply INV = false
-is_reply _ = true
-
--- the message brings its line
-abbrev pub brings_line : ToCache → Bool
-brings_line (RDATA body) = true
-brings_line (WDATA body) = true
-brings_line _ = false
 
 -- the transaction that a message about a line ends
 abbrev pub ended_by : Transactions → ℕ → ToCache → Option Transaction

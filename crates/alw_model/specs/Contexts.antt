@@ -1,10 +1,11 @@
 -- The contexts of a node: registers, status and hold of each slot, which slot runs, and what wakes those that wait (the papers on Alewife: up to four contexts per processor, and a switch to another on a remote miss).
-use Rattle.std.specs.Prelude.{ℕ, ◌+◌, ◌*◌, ◌%◌, Bool, true, false, cond, ◌==◌, Option, Some, None, List, map, find, length, slice_index_or, slice_set, unwrap_or, is_some}
+use Rattle.std.specs.Prelude.{ℕ, ◌+◌, ◌*◌, ◌%◌, Bool, cond, ◌==◌, Option, Some, None, List, map, find, length, slice_index_or, slice_set, unwrap_or, is_some}
 use Rattle.std.specs.List.{list_any, list_all, range_with_len}
 use Rattle.sparc_table.specs.Registers.{start_of}
 use Rattle.sparc_table.specs.declared.registers.Regs.{Regs}
 use Rattle.alw_msg.specs.declared.contexts.Status.{Status}
 use Rattle.alw_msg.specs.declared.contexts.Status.TheVariants.{Ready, Waiting, Halted, Trapped}
+use Rattle.alw_msg.specs.Statuses.{is_ready, is_halted, waits_on}
 use Rattle.alw_image.specs.declared.parts.Parts.{Parts}
 use Rattle.alw_image.specs.Images.{context_count}
 use Rattle.alw_image.specs.Images as images
@@ -33,23 +34,6 @@ slot_start parts node slot =
 -- the slots of a node at the start
 abbrev pub slots_start : Parts → ℕ → List Slot
 slots_start parts node = map (slot_start parts node) (range_with_len 0 parts.contexts)
-
-abbrev pub is_ready : Status → Bool
-is_ready Ready = true
-is_ready _ = false
-
-abbrev pub is_halted : Status → Bool
-is_halted Halted = true
-is_halted _ = false
-
-abbrev pub has_trapped : Status → Bool
-has_trapped (Trapped pc tt) = true
-has_trapped _ = false
-
--- the slot waits on this line
-abbrev pub waits_on : ℕ → Status → Bool
-waits_on line (Waiting waited) = waited.0 == line
-waits_on line _ = false
 
 -- the slot with this number, or one that has halted where there is none
 abbrev pub no_slot : Slot

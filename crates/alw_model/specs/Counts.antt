@@ -12,6 +12,8 @@ use Rattle.alw_num.specs.declared.states.Meta.{Meta}
 use Rattle.alw_num.specs.NodeSets.{Nodes, members, count_nodes}
 use Rattle.alw_msg.specs.declared.messages.Kind.{Kind}
 use Rattle.alw_msg.specs.declared.messages.Kind.TheVariants as kinds
+use Rattle.alw_msg.specs.Kinds.{kind_number}
+use Rattle.alw_msg.specs.Contents.{Content, ForMemory, ForCache, content, brings_line}
 use Rattle.alw_image.specs.declared.parts.Parts.{Parts}
 use Rattle.alw_image.specs.Images.{line_count}
 use Rattle.alw_image.specs.Parameters.{Parameters}
@@ -20,9 +22,7 @@ use Rattle.alw_model.specs.declared.steps.Did.{Did}
 use Rattle.alw_model.specs.declared.steps.Did.TheVariants.{Turn, Missed, Handled, Evicted}
 use Rattle.alw_num.specs.Maps.{passes}
 use Rattle.alw_model.specs.LimitLess.{Directory, full_map_of}
-use Rattle.alw_model.specs.Caches.{brings_line}
 use Rattle.alw_model.specs.Contexts.{slot_at}
-use Rattle.alw_model.specs.Messages.{Content, ForMemory, ForCache, content}
 use Rattle.alw_model.specs.NodeStates.{NodeState}
 use Rattle.alw_model.specs.Machine.{MachineState}
 use Rattle.alw_model.specs.Lines.{entry_of, current_value}
@@ -60,18 +60,6 @@ uses_hold before _ = false
 abbrev pub is_data : Content → Bool
 is_data (ForCache said) = brings_line said
 is_data (ForMemory said) = false
-
--- kinds by number
-abbrev pub kind_number : Kind → ℕ
-kind_number kinds.RREQ = 0
-kind_number kinds.WREQ = 1
-kind_number kinds.REPM = 2
-kind_number kinds.UPDATE = 3
-kind_number kinds.ACKC = 4
-kind_number kinds.RDATA = 5
-kind_number kinds.WDATA = 6
-kind_number kinds.INV = 7
-kind_number kinds.BUSY = 8
 
 -- columns and rows between two nodes
 abbrev pub hops_between : Parts → ℕ → ℕ → ℕ

@@ -13,10 +13,11 @@ use Rattle.sparc_table.specs.declared.outcomes.Outcome.{Outcome}
 use Rattle.sparc_table.specs.declared.outcomes.Outcome.TheVariants.{Out}
 use Rattle.alw_msg.specs.declared.contexts.Status.{Status}
 use Rattle.alw_msg.specs.declared.contexts.Status.TheVariants.{Halted}
+use Rattle.alw_msg.specs.Statuses.{is_ready}
 use Rattle.alw_image.specs.declared.parts.Parts.{Parts}
 use Rattle.alw_image.specs.Images.{line_count, context_count, body_of, zero_line}
 use Rattle.alw_image.specs.Images as images
-use Rattle.alw_model.specs.Contexts.{regs_start, status_start, is_ready}
+use Rattle.alw_model.specs.Contexts.{regs_start, status_start}
 use Rattle.alw_model.specs.NodeSteps.{status_after}
 
 -- a context: its registers, and whether it is Ready, Halted or Trapped

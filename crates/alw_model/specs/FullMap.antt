@@ -4,21 +4,7 @@ use Rattle.alw_num.specs.declared.addresses.Line.{Line}
 use Rattle.alw_num.specs.declared.states.State.{State}
 use Rattle.alw_num.specs.declared.states.State.TheVariants.{RO, RW, RT, WT}
 use Rattle.alw_num.specs.NodeSets.{Nodes, no_nodes, one_node, add_node, drop_node, members}
-
--- a message to memory, about a line: a request to read or to write, a Read-Write copy given back by itself or in answer to an INV, or the answer to an INV where there was none
-pub data ToMemory : Type 0 where
-  RREQ : ToMemory
-  WREQ : ToMemory
-  REPM : Line → ToMemory
-  UPDATE : Line → ToMemory
-  ACKC : ToMemory
-
--- a message to a cache, about a line: the line to read or to write, an invalidation, or a request refused
-pub data ToCache : Type 0 where
-  RDATA : Line → ToCache
-  WDATA : Line → ToCache
-  INV : ToCache
-  BUSY : ToCache
+use Rattle.alw_msg.specs.Contents.{ToMemory, RREQ, WREQ, REPM, UPDATE, ACKC, ToCache, RDATA, WDATA, INV, BUSY}
 
 -- an entry: its state, the pointers P, the counter of answers that are still to come, and the line's bytes
 pub record Home : Type 0 where

@@ -6,7 +6,8 @@ use Rattle.alw_num.specs.declared.states.State.TheVariants.{RO, RW}
 use Rattle.alw_num.specs.declared.states.Meta.{Meta}
 use Rattle.alw_num.specs.declared.states.Meta.TheVariants.{Normal, Progress, TrapWrite, TrapAlways}
 use Rattle.alw_num.specs.NodeSets.{Nodes, no_nodes, has_node, one_node, add_node, join_nodes, count_nodes}
-use Rattle.alw_model.specs.FullMap.{ToMemory, RREQ, WREQ, REPM, ACKC, Home, Sends, act, sole}
+use Rattle.alw_msg.specs.Contents.{ToMemory, RREQ, WREQ, REPM, ACKC}
+use Rattle.alw_model.specs.FullMap.{Home, Sends, act, sole}
 
 -- an entry: state, meta state, the hardware pointers H, the software set S, the counter, the line's bytes, and whether the image lists the line as Trap-Always
 pub record Directory : Type 0 where

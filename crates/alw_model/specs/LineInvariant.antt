@@ -10,11 +10,13 @@ use Rattle.alw_num.specs.declared.states.State.{State}
 use Rattle.alw_num.specs.declared.states.State.TheVariants.{RO, RW, RT, WT}
 use Rattle.alw_num.specs.declared.states.Meta.{Meta}
 use Rattle.alw_num.specs.declared.states.Meta.TheVariants.{Normal, Progress, TrapWrite, TrapAlways}
-use Rattle.alw_model.specs.FullMap.{ToMemory, ToCache, RDATA, sole}
+use Rattle.alw_msg.specs.Contents.{ToCache, RDATA, is_rreq, is_wreq, is_repm, is_update, is_ackc, is_rdata, is_wdata, is_inv, is_busy, is_data, is_request_or_ackc}
+use Rattle.alw_msg.specs.Lists.{count_of, is_followed, is_clear_behind}
+use Rattle.alw_model.specs.FullMap.{sole}
 use Rattle.alw_num.specs.Maps.{passes}
 use Rattle.alw_model.specs.Caches.{grants}
 use Rattle.alw_model.specs.LimitLess.{Directory}
-use Rattle.alw_model.specs.Lines.{LineNode, LineState, carried, line_value, is_rreq, is_wreq, is_repm, is_update, is_ackc, is_rdata, is_wdata, is_inv, is_busy, count_of, is_followed, is_clear_behind}
+use Rattle.alw_model.specs.Lines.{LineNode, LineState, carried, line_value}
 
 -- ---- words of the clauses
 
@@ -137,12 +139,6 @@ sharer_fits s i =
     || (reads node && ((is_writing s.home.state && is_sole s i) || list_any is_wdata node.down))))
 
 -- ---- order
-
-abbrev pub is_data : ToCache → Bool
-is_data message = is_rdata message || is_wdata message
-
-abbrev pub is_request_or_ackc : ToMemory → Bool
-is_request_or_ackc message = is_rreq message || (is_wreq message || is_ackc message)
 
 -- behind an INV there is no RDATA and no WDATA, and a REPM stands before every RREQ, WREQ and ACKC
 abbrev pub order_fits : LineNode → Bool

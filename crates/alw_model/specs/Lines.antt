@@ -1,19 +1,19 @@
 -- What a machine's state says of one line: its home's entry and pending packets, and each node's copy, transaction and messages; who carries its current value.
-use Rattle.std.specs.Prelude.{ℕ, Bool, true, false, cond, not, ◌&&◌, ◌||◌, ◌==◌, nat_lt, Option, None, List, [], ◌∷◌, ◌++◌, option_map, flat_map, filter, option_to_list, map}
-use Rattle.std.specs.List.{list_any, range_with_len}
-use Rattle.alw_num.specs.Weights.{digit, weigh}
+use Rattle.std.specs.Prelude.{ℕ, cond, ◌==◌, nat_lt, Option, None, List, [], ◌∷◌, ◌++◌, option_map, flat_map, filter, option_to_list, map}
+use Rattle.std.specs.List.{range_with_len}
 use Rattle.alw_num.specs.declared.addresses.Line.{Line}
 use Rattle.alw_num.specs.declared.states.Mode.{Mode}
 use Rattle.alw_num.specs.declared.states.Mode.TheVariants.{Write}
 use Rattle.alw_msg.specs.declared.messages.Msg.{Msg}
+use Rattle.alw_msg.specs.Contents.{ToMemory, REPM, UPDATE, ToCache, WDATA, content, request_in, reply_in}
 use Rattle.alw_image.specs.declared.parts.Parts.{Parts}
 use Rattle.alw_image.specs.Images.{node_count}
 use Rattle.alw_image.specs.Parameters.{Parameters}
 use Rattle.alw_num.specs.Maps.{kept_if, value_at}
-use Rattle.alw_model.specs.FullMap.{ToMemory, RREQ, WREQ, REPM, UPDATE, ACKC, ToCache, RDATA, WDATA, INV, BUSY, Home}
+use Rattle.alw_model.specs.FullMap.{Home}
 use Rattle.alw_model.specs.LimitLess.{Directory, full_map_of}
 use Rattle.alw_model.specs.Caches.{Copy, Transaction, grants, copy_at}
-use Rattle.alw_model.specs.Messages.{Content, ForMemory, ForCache, content, home_node}
+use Rattle.alw_model.specs.Messages.{home_node}
 use Rattle.alw_model.specs.NodeStates.{home_at}
 use Rattle.alw_model.specs.Machine.{MachineState, node_at, link_at}
 
@@ -34,15 +34,6 @@ abbrev pub absent : LineNode
 absent = record { copy = None; transaction = None; up = []; down = [] }
 
 -- ---- what one line has in a machine
-
--- what a message says to memory, or to a cache
-abbrev pub request_in : Content → List ToMemory
-request_in (ForMemory said) = said ∷ []
-request_in (ForCache said) = []
-
-abbrev pub reply_in : Content → List ToCache
-reply_in (ForMemory said) = []
-reply_in (ForCache said) = said ∷ []
 
 -- what messages say to memory about a line, in order
 abbrev pub ups : ℕ → List Msg → List ToMemory
@@ -119,57 +110,3 @@ line_value count s = value_by (carriers count s) s.home.body
 
 abbrev pub current_value : Parts → Parameters → MachineState → ℕ → Line
 current_value parts parameters machine line = line_value (node_count parts) (line_of parts parameters machine line)
-
--- ---- words on messages
-
--- which message to memory it is
-abbrev pub is_rreq : ToMemory → Bool
-is_rreq RREQ = true
-is_rreq _ = false
-
-abbrev pub is_wreq : ToMemory → Bool
-is_wreq WREQ = true
-is_wreq _ = false
-
-abbrev pub is_repm : ToMemory → Bool
-is_repm (REPM body) = true
-is_repm _ = false
-
-abbrev pub is_update : ToMemory → Bool
-is_update (UPDATE body) = true
-is_update _ = false
-
-abbrev pub is_ackc : ToMemory → Bool
-is_ackc ACKC = true
-is_ackc _ = false
-
--- which message to a cache it is
-abbrev pub is_rdata : ToCache → Bool
-is_rdata (RDATA body) = true
-is_rdata _ = false
-
-abbrev pub is_wdata : ToCache → Bool
-is_wdata (WDATA body) = true
-is_wdata _ = false
-
-abbrev pub is_inv : ToCache → Bool
-is_inv INV = true
-is_inv _ = false
-
-abbrev pub is_busy : ToCache → Bool
-is_busy BUSY = true
-is_busy _ = false
-
--- how many messages pass a test
-abbrev pub count_of : {M : Type 0} → (M → Bool) → List M → ℕ
-count_of test messages = weigh (λ message. digit (test message)) messages
-
--- each message that passes the first test has one behind it that passes the second
-abbrev pub is_followed : {M : Type 0} → (M → Bool) → (M → Bool) → List M → Bool
-is_followed first second [] = true
-is_followed first second (message ∷ rest) = (not (first message) || list_any second rest) && is_followed first second rest
-
--- no message that passes the second test stands behind one that passes the first
-abbrev pub is_clear_behind : {M : Type 0} → (M → Bool) → (M → Bool) → List M → Bool
-is_clear_behind first second [] = true
-is_clear_behind first second (message ∷ rest) = (not (first message) || not (list_any second rest)) && is_clear_behind first second rest

@@ -5,12 +5,15 @@ use Rattle.alw_msg.specs.declared.messages.Msg.{Msg}
 use Rattle.alw_msg.specs.declared.events.Event.{Event}
 use Rattle.alw_msg.specs.declared.events.Event.TheVariants.{Instr, Handle, Deliver}
 use Rattle.alw_msg.specs.declared.events.Entry.{Entry}
+use Rattle.alw_msg.specs.Events.{node_of}
+use Rattle.alw_msg.specs.Statuses.{has_trapped}
+use Rattle.alw_msg.specs.Lists.{is_nonempty, front, behind}
 use Rattle.alw_image.specs.declared.parts.Parts.{Parts}
 use Rattle.alw_image.specs.Images.{node_count}
 use Rattle.alw_image.specs.Parameters.{Parameters}
 use Rattle.alw_num.specs.Maps.{empty_map}
-use Rattle.alw_model.specs.Contexts.{all_halted, has_trapped}
-use Rattle.alw_model.specs.NodeStates.{NodeState, node_start, node_of, stamp_of, is_enabled_at, is_nonempty}
+use Rattle.alw_model.specs.Contexts.{all_halted}
+use Rattle.alw_model.specs.NodeStates.{NodeState, node_start, stamp_of, is_enabled_at}
 use Rattle.alw_model.specs.NodeSteps.{Stepped, node_step}
 
 -- all nodes by number, and the link of each ordered pair of nodes, a node with itself too: that of (from, to) has the place from * N + to
@@ -34,14 +37,6 @@ link_place parts from to = from * node_count parts + to
 
 abbrev pub link_at : Parts → MachineState → ℕ → ℕ → List Msg
 link_at parts machine from to = slice_index_or machine.links (link_place parts from to) []
-
-abbrev pub front : {X : Type 0} → List X → Option X
-front [] = None
-front (x ∷ rest) = Some x
-
-abbrev pub behind : {X : Type 0} → List X → List X
-behind [] = []
-behind (x ∷ rest) = rest
 
 -- the message that an event takes: a delivery takes the head of its link, and no other event takes one
 abbrev pub taken_by : Parts → MachineState → Event → Option Msg

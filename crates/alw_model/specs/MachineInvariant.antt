@@ -1,5 +1,5 @@
 -- The machine invariant: what holds of a machine after every legal journal, the line invariant of each line included.
-use Rattle.std.specs.Prelude.{ℕ, ◌+◌, ◌*◌, ◌<◌, Bool, true, false, cond, ◌&&◌, ◌||◌, ◌==◌, nat_le, nat_lt, max, fold, map, Option, Some, None, is_some, length, IsTrue}
+use Rattle.std.specs.Prelude.{ℕ, ◌+◌, ◌*◌, ◌<◌, Bool, true, cond, ◌&&◌, ◌||◌, ◌==◌, nat_le, nat_lt, max, fold, map, Option, Some, None, is_some, length, IsTrue}
 use Rattle.std.specs.List.{list_all}
 use Rattle.alw_num.specs.Weights.{weigh}
 use Rattle.alw_num.specs.NodeSets.{members, count_nodes}
@@ -10,25 +10,22 @@ use Rattle.sparc_table.specs.declared.outcomes.Need.TheVariants as needs
 use Rattle.alw_msg.specs.declared.messages.Msg.{Msg}
 use Rattle.alw_msg.specs.declared.contexts.Status.{Status}
 use Rattle.alw_msg.specs.declared.contexts.Status.TheVariants.{Waiting, Trapped}
+use Rattle.alw_msg.specs.Contents.{content, is_to_memory}
+use Rattle.alw_msg.specs.Statuses.{waited, is_ready, waits_on}
 use Rattle.alw_image.specs.declared.parts.Parts.{Parts}
 use Rattle.alw_image.specs.Images.{node_count, line_count}
 use Rattle.alw_image.specs.Parameters.{Parameters}
 use Rattle.alw_num.specs.Maps.{passes, passes_if_some, value_at}
 use Rattle.alw_model.specs.LimitLess.{Directory}
 use Rattle.alw_model.specs.Caches.{Copy, Transaction, set_of, grants, granted_copy}
-use Rattle.alw_model.specs.Contexts.{Slot, slot_at, is_ready, waits_on}
-use Rattle.alw_model.specs.Messages.{Content, ForMemory, ForCache, content, home_node, is_fit}
+use Rattle.alw_model.specs.Contexts.{Slot, slot_at}
+use Rattle.alw_model.specs.Messages.{home_node, is_fit}
 use Rattle.alw_model.specs.NodeStates.{NodeState}
 use Rattle.alw_model.specs.Machine.{MachineState, node_at, link_at, has_halted}
 use Rattle.alw_model.specs.Lines.{line_of, entry_of, packets_at, ups}
 use Rattle.alw_model.specs.LineInvariant.{LineInvariant}
 
 -- ---- contexts
-
--- the line that a context waits on
-abbrev pub waited : Status → Option ℕ
-waited (Waiting line) = Some line.0
-waited _ = None
 
 -- the mode in which an instruction needs this line
 abbrev pub mode_in : Need → ℕ → Option Mode
@@ -59,11 +56,6 @@ trapped_rightly at (Trapped pc tt) = pc == at
 trapped_rightly at _ = true
 
 -- ---- messages, packets, entries, caches
-
--- a message to memory
-abbrev pub is_to_memory : Content → Bool
-is_to_memory (ForMemory said) = true
-is_to_memory (ForCache said) = false
 
 -- a message on the link of two nodes is fit, and its stamp is at most its sender's clock
 abbrev pub links_rightly : Parts → MachineState → ℕ → ℕ → Msg → Bool

@@ -4,30 +4,11 @@ use Rattle.alw_num.specs.declared.addresses.Line.{Line}
 use Rattle.alw_msg.specs.declared.messages.Kind.{Kind}
 use Rattle.alw_msg.specs.declared.messages.Kind.TheVariants as kinds
 use Rattle.alw_msg.specs.declared.messages.Msg.{Msg}
+use Rattle.alw_msg.specs.Contents.{ToMemory, RREQ, WREQ, REPM, UPDATE, ACKC, ToCache, RDATA, WDATA, INV, BUSY, Content, ForMemory, ForCache, content}
 use Rattle.alw_image.specs.declared.parts.Parts.{Parts}
 use Rattle.alw_image.specs.Images.{line_count, zero_line}
-use Rattle.alw_model.specs.FullMap.{ToMemory, RREQ, WREQ, REPM, UPDATE, ACKC, ToCache, RDATA, WDATA, INV, BUSY, Sends}
+use Rattle.alw_model.specs.FullMap.{Sends}
 use Rattle.alw_model.specs.Caches.{Requests}
-
--- what a message says: one to memory, or one to a cache
-pub data Content : Type 0 where
-  ForMemory : ToMemory → Content
-  ForCache : ToCache → Content
-
--- what a message of a kind says, given the bytes that it carries
-abbrev pub content_by : Kind → Line → Content
-content_by kinds.RREQ body = ForMemory RREQ
-content_by kinds.WREQ body = ForMemory WREQ
-content_by kinds.REPM body = ForMemory (REPM body)
-content_by kinds.UPDATE body = ForMemory (UPDATE body)
-content_by kinds.ACKC body = ForMemory ACKC
-content_by kinds.RDATA body = ForCache (RDATA body)
-content_by kinds.WDATA body = ForCache (WDATA body)
-content_by kinds.INV body = ForCache INV
-content_by kinds.BUSY body = ForCache BUSY
-
-abbrev pub content : Msg → Content
-content msg = content_by msg.kind msg.body
 
 -- the kind of what is said, and the bytes that it carries: zero where it carries none
 abbrev pub spelled : Content → Kind × Line

@@ -1,18 +1,20 @@
 -- The state of a node: its contexts, its cache and transactions, the entries of its home lines, its packet queue and its clock (Lamport 1978).
-use Rattle.std.specs.Prelude.{ℕ, ◌+◌, ◌-◌, ◌*◌, ◌%◌, ◌^◌, Bool, true, false, not, ◌&&◌, ◌==◌, nat_lt, max, Option, Some, None, is_some, List, [], ◌∷◌, map, slice_index_or, slice_set}
+use Rattle.std.specs.Prelude.{ℕ, ◌+◌, ◌-◌, ◌*◌, ◌%◌, ◌^◌, Bool, true, false, not, ◌&&◌, ◌==◌, nat_lt, max, Option, Some, None, is_some, List, [], map, slice_index_or, slice_set}
 use Rattle.std.specs.List.{range_with_len}
 use Rattle.alw_msg.specs.declared.messages.Msg.{Msg}
 use Rattle.alw_msg.specs.declared.events.Event.{Event}
 use Rattle.alw_msg.specs.declared.events.Event.TheVariants.{Instr, Handle, Deliver, Evict}
+use Rattle.alw_msg.specs.Contents.{ToCache, INV, BUSY, Content, ForMemory, ForCache, content}
+use Rattle.alw_msg.specs.Events.{node_of}
+use Rattle.alw_msg.specs.Lists.{is_nonempty}
 use Rattle.alw_image.specs.declared.parts.Parts.{Parts}
 use Rattle.alw_image.specs.Images.{node_count, body_of, is_always, zero_line}
 use Rattle.alw_image.specs.Parameters.{Parameters}
 use Rattle.alw_num.specs.Maps.{passes, empty_map, value_at}
-use Rattle.alw_model.specs.FullMap.{ToCache, INV, BUSY}
 use Rattle.alw_model.specs.LimitLess.{Directory, directory_start, is_in_progress}
 use Rattle.alw_model.specs.Caches.{Cache, Transactions, replaced}
 use Rattle.alw_model.specs.Contexts.{Slot, slots_start, running, is_held}
-use Rattle.alw_model.specs.Messages.{Content, ForMemory, ForCache, content, is_fit}
+use Rattle.alw_model.specs.Messages.{is_fit}
 
 pub record NodeState : Type 0 where
   pub slots : List Slot
@@ -48,13 +50,6 @@ abbrev pub stamp_of : ℕ → Option Msg → ℕ
 stamp_of clock None = clock + 1
 stamp_of clock (Some msg) = max clock msg.stamp + 1
 
--- the node that an event is of
-abbrev pub node_of : Event → ℕ
-node_of (Instr node) = node.0
-node_of (Handle node) = node.0
-node_of (Deliver from to) = to.0
-node_of (Evict node set) = node.0
-
 -- what keeps a message to a cache on its link: an INV for a held line, and an RDATA or WDATA whose set holds another line that is held
 abbrev pub may_reach_cache : Parameters → NodeState → ℕ → ToCache → Bool
 may_reach_cache parameters node line INV = not (is_held node.slots line)
@@ -69,10 +64,6 @@ may_reach parts parameters node line (ForCache said) = may_reach_cache parameter
 -- the head of the link of two nodes can be delivered: it is fit, and nothing keeps it
 abbrev pub may_deliver : Parts → Parameters → ℕ → ℕ → NodeState → Msg → Bool
 may_deliver parts parameters from to node msg = is_fit parts from to msg && may_reach parts parameters node msg.line.0 (content msg)
-
-abbrev pub is_nonempty : {X : Type 0} → List X → Bool
-is_nonempty [] = false
-is_nonempty (x ∷ rest) = true
 
 -- what an event wants of the node that it is of, and of the head of the link that it names: a Ready slot, a packet, a head that can be delivered, or a set with a copy that isn't held
 abbrev pub may : Parts → Parameters → NodeState → Event → Option Msg → Bool

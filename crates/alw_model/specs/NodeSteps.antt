@@ -14,17 +14,17 @@ use Rattle.alw_msg.specs.declared.events.Event.{Event}
 use Rattle.alw_msg.specs.declared.events.Event.TheVariants.{Instr, Handle, Deliver, Evict}
 use Rattle.alw_msg.specs.declared.contexts.Status.{Status}
 use Rattle.alw_msg.specs.declared.contexts.Status.TheVariants.{Ready, Waiting, Halted, Trapped}
+use Rattle.alw_msg.specs.Contents.{ToMemory, ToCache, Content, ForMemory, ForCache, content, brings_line}
 use Rattle.alw_image.specs.declared.parts.Parts.{Parts}
 use Rattle.alw_image.specs.Images.{line_count, zero_line}
 use Rattle.alw_image.specs.Parameters.{Parameters}
 use Rattle.alw_model.specs.declared.steps.Did.{Did}
 use Rattle.alw_model.specs.declared.steps.Did.TheVariants.{Turn, Missed, Took, Packet, Handled, Evicted}
 use Rattle.alw_num.specs.Maps.{with_value, value_at}
-use Rattle.alw_model.specs.FullMap.{ToMemory, ToCache}
 use Rattle.alw_model.specs.LimitLess.{is_trapped, hardware_act, trapped, handle}
-use Rattle.alw_model.specs.Caches.{Copy, Cache, Transaction, Transactions, Requests, set_of, granted_copy, request, evict, react, ended_by, transactions_after, brings_line}
+use Rattle.alw_model.specs.Caches.{Copy, Cache, Transaction, Transactions, Requests, set_of, granted_copy, request, evict, react, ended_by, transactions_after}
 use Rattle.alw_model.specs.Contexts.{Slot, slot_at, running, ran, wake, give_hold}
-use Rattle.alw_model.specs.Messages.{Content, ForMemory, ForCache, content, to_homes, to_caches}
+use Rattle.alw_model.specs.Messages.{to_homes, to_caches}
 use Rattle.alw_model.specs.NodeStates.{NodeState, home_at, with_home, stamp_of}
 
 -- a node after an event, the messages sent, each with its destination, and what the event did

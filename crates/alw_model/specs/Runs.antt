@@ -6,19 +6,20 @@ use Rattle.alw_msg.specs.declared.messages.Msg.{Msg}
 use Rattle.alw_msg.specs.declared.events.Entry.{Entry}
 use Rattle.alw_msg.specs.declared.contexts.Status.{Status}
 use Rattle.alw_msg.specs.declared.contexts.Status.TheVariants.{Ready, Waiting}
+use Rattle.alw_msg.specs.Contents.{ToMemory, content, request_in}
+use Rattle.alw_msg.specs.Events.{node_of}
 use Rattle.alw_image.specs.declared.parts.Parts.{Parts}
 use Rattle.alw_image.specs.Images.{body_of, line_count}
 use Rattle.alw_image.specs.Parameters.{Parameters}
 use Rattle.alw_model.specs.declared.steps.Did.{Did}
 use Rattle.alw_model.specs.declared.steps.Did.TheVariants.{Turn, Took, Handled}
-use Rattle.alw_model.specs.FullMap.{ToMemory, Home, home_start, act}
+use Rattle.alw_model.specs.FullMap.{Home, home_start, act}
 use Rattle.alw_model.specs.Contexts.{Slot}
-use Rattle.alw_model.specs.Messages.{content}
-use Rattle.alw_model.specs.NodeStates.{NodeState, node_of}
+use Rattle.alw_model.specs.NodeStates.{NodeState}
 use Rattle.alw_model.specs.NodeSteps.{Stepped}
 use Rattle.alw_model.specs.Machine.{MachineState, machine_start, node_at, taken_by, stepped_by, after_step}
 use Rattle.alw_model.specs.Flat.{Context, Flat, print_of}
-use Rattle.alw_model.specs.Lines.{request_in, current_value}
+use Rattle.alw_model.specs.Lines.{current_value}
 
 -- one entry of a run: its node before it, the message that it took, and what it did
 pub record Moment : Type 0 where

@@ -1,12 +1,13 @@
 -- What threads leave: the log of each node as a run of its own, links that agree between logs, and the merge of logs into one journal (stamps after Lamport 1978).
-use Rattle.std.specs.Prelude.{◌≡◌, ℕ, ◌<◌, ◌≤◌, Bool, true, false, cond, not, ◌&&◌, ◌||◌, ◌==◌, nat_lt, Option, is_some, option_to_list, List, [], ◌∷◌, ◌++◌, map, filter, flat_map, length, slice_index_or, IsTrue, IfSome}
+use Rattle.std.specs.Prelude.{◌≡◌, ℕ, ◌<◌, ◌≤◌, Bool, false, cond, not, ◌&&◌, ◌||◌, ◌==◌, nat_lt, Option, is_some, option_to_list, List, [], ◌∷◌, ◌++◌, map, filter, flat_map, length, slice_index_or, IsTrue, IfSome}
 use Rattle.alw_msg.specs.declared.messages.Msg.{Msg}
 use Rattle.alw_msg.specs.declared.events.Event.{Event}
 use Rattle.alw_msg.specs.declared.events.Event.TheVariants.{Deliver, Evict}
 use Rattle.alw_msg.specs.declared.events.Entry.{Entry}
+use Rattle.alw_msg.specs.Events.{node_of, is_evict}
 use Rattle.alw_image.specs.declared.parts.Parts.{Parts}
 use Rattle.alw_image.specs.Parameters.{Parameters}
-use Rattle.alw_model.specs.NodeStates.{NodeState, node_start, node_of, stamp_of, is_enabled_at}
+use Rattle.alw_model.specs.NodeStates.{NodeState, node_start, stamp_of, is_enabled_at}
 use Rattle.alw_model.specs.NodeSteps.{node_step}
 
 -- an entry of a node's log, with the message that it took and the messages that it sent, each with its destination
@@ -23,10 +24,6 @@ Logs = List (List Logged)
 abbrev pub takes_rightly : Event → Option Msg → Bool
 takes_rightly (Deliver from to) taken = is_some taken
 takes_rightly _ taken = not (is_some taken)
-
-abbrev pub is_evict : Event → Bool
-is_evict (Evict node set) = true
-is_evict _ = false
 
 -- a log's entry is the node's step on a message that is fit, with its stamp, within the limit, and no eviction where none is wanted
 pub record IsNextLogged (parts : Parts) (parameters : Parameters) (number : ℕ) (node : NodeState) (logged : Logged) : Type 0 where

@@ -1,5 +1,5 @@
--- Which way a kind of message goes, and whether it carries the line.
-use Rattle.std.specs.Prelude.{Bool, true, false}
+-- Which way a kind of message goes, whether it carries the line, and kinds by number.
+use Rattle.std.specs.Prelude.{ℕ, Bool, true, false}
 use Rattle.alw_msg.specs.declared.messages.Kind.{Kind}
 use Rattle.alw_msg.specs.declared.messages.Kind.TheVariants.{RREQ, WREQ, REPM, UPDATE, ACKC, RDATA, WDATA, INV, BUSY}
 
@@ -26,3 +26,15 @@ has_body RDATA = true
 has_body WDATA = true
 has_body INV = false
 has_body BUSY = false
+
+-- kinds by number
+abbrev pub kind_number : Kind → ℕ
+kind_number RREQ = 0
+kind_number WREQ = 1
+kind_number REPM = 2
+kind_number UPDATE = 3
+kind_number ACKC = 4
+kind_number RDATA = 5
+kind_number WDATA = 6
+kind_number INV = 7
+kind_number BUSY = 8

@@ -1,3 +1,6 @@
+ghost use Rattle.std.specs.Prelude.{◌≡◌};
+ghost use Rattle.alw_msg.specs.Events.{node_of};
+
 use alw_num::{NodeNo, Sequence};
 
 /// One atomic step of the machine: an instruction of a node, an action of its trap handler, the
@@ -8,6 +11,18 @@ pub enum Event {
     Handle { node: NodeNo },
     Deliver { from: NodeNo, to: NodeNo },
     Evict { node: NodeNo, set: u32 },
+}
+
+impl Event {
+    /// The node whose state the event changes.
+    pub fn node(self) -> NodeNo
+        ensures { result.0 ≡ node_of self }
+    {
+        match self {
+            Event::Instr { node } | Event::Handle { node } | Event::Evict { node, .. } => node,
+            Event::Deliver { to, .. } => to,
+        }
+    }
 }
 
 /// An event with its stamp, a logical clock (Lamport 1978).

@@ -1,4 +1,4 @@
-use crate::{Kind, Sends};
+use crate::{Event, Kind, Sends};
 use alw_num::{Line, LineNo, NodeNo};
 use std::test::Fail;
 
@@ -27,5 +27,15 @@ fn an_event_sends_to_two_nodes(rt: HostRuntime) -> Result<(), Fail> {
     assert_eq!(rt; msg.body, BODY);
     sends.begin(NodeNo(0), 7);
     assert_eq!(rt; sends.len(), 0);
+    Ok(())
+}
+
+#[test]
+fn a_delivery_is_of_its_receiver(rt: HostRuntime) -> Result<(), Fail> {
+    let event = Event::Deliver {
+        from: NodeNo(2),
+        to: NodeNo(1),
+    };
+    assert_eq!(rt; event.node(), NodeNo(1));
     Ok(())
 }

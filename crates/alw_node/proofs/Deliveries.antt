@@ -13,9 +13,10 @@ use Rattle.alw_msg.specs.declared.messages.Kind.TheVariants as kinds
 use Rattle.alw_msg.specs.declared.messages.Msg.{Msg}
 use Rattle.alw_model.specs.declared.steps.Did.{Did}
 use Rattle.alw_model.specs.declared.steps.Did.TheVariants.{Took, Packet}
-use Rattle.alw_model.specs.FullMap.{ToMemory, RREQ, WREQ, REPM, UPDATE, ACKC, Home, row}
+use Rattle.alw_msg.specs.Contents.{ToMemory, RREQ, WREQ, REPM, UPDATE, ACKC, ForMemory, content_by, content}
+use Rattle.alw_model.specs.FullMap.{Home, row}
 use Rattle.alw_model.specs.LimitLess.{Directory, Keeping, Joined, Alone, Emptied, Kept, keeping, overflows, traps_in, is_trapped, is_in_progress, hardware_of, hardware_act, trapped}
-use Rattle.alw_model.specs.Messages.{ForMemory, content, content_by, to_caches}
+use Rattle.alw_model.specs.Messages.{to_caches}
 use Rattle.alw_model.specs.NodeSteps.{Stepped, deliver_by, at_home}
 use Rattle.alw_limitless.proofs.Soundness.{trapped_sound, hardware_sound}
 use Rattle.alw_limitless.proofs.Actions.{pointers_by, row-pointers}

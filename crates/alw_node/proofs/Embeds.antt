@@ -9,11 +9,10 @@ use Rattle.alw_msg.specs.declared.messages.Msg.{Msg}
 use Rattle.alw_image.specs.declared.parts.Parts.{Parts}
 use Rattle.alw_image.specs.Images.{line_count}
 use Rattle.alw_image.specs.Parameters.{Parameters}
-use Rattle.alw_model.specs.FullMap.{ToMemory, ToCache}
+use Rattle.alw_msg.specs.Contents.{ToMemory, ToCache, Content, ForMemory, ForCache, content}
 use Rattle.alw_model.specs.LimitLess.{is_trapped}
 use Rattle.alw_model.specs.Caches.{Copy, granted_copy}
 use Rattle.alw_model.specs.Contexts.{slot_at}
-use Rattle.alw_model.specs.Messages.{Content, ForMemory, ForCache, content}
 use Rattle.alw_model.specs.NodeStates.{NodeState, home_at}
 use Rattle.alw_model.specs.NodeSteps.{Stepped, instr, instr_by, access, at_home, deliver_by, handle_by, handle_front, evict_from}
 use Rattle.alw_proc.specs.Homeward.{sized}

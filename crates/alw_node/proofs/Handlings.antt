@@ -11,9 +11,9 @@ use Rattle.alw_num.proofs.Sets.{has-none, has-add, has-one, has-join}
 use Rattle.alw_msg.specs.Sending.{Sending}
 use Rattle.alw_msg.specs.declared.messages.Msg.{Msg}
 use Rattle.alw_model.specs.declared.steps.Did.TheVariants.{Handled}
-use Rattle.alw_model.specs.FullMap.{ToMemory}
+use Rattle.alw_msg.specs.Contents.{ToMemory, ForMemory, content}
 use Rattle.alw_model.specs.LimitLess.{Directory, Keeping, Joined, Alone, Emptied, Kept, keeping, kept, or_always, full_map_of, is_in_progress, handle}
-use Rattle.alw_model.specs.Messages.{ForMemory, content, to_caches}
+use Rattle.alw_model.specs.Messages.{to_caches}
 use Rattle.alw_model.specs.NodeSteps.{handle_by, handle_front}
 use Rattle.alw_limitless.proofs.Soundness.{handler_sound}
 use Rattle.dir_full.specs.Reactions.{with_sends, HasRoom}

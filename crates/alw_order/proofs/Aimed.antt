@@ -9,7 +9,8 @@ use Rattle.alw_msg.specs.declared.events.Event.TheVariants.{Instr, Handle, Deliv
 use Rattle.alw_image.specs.declared.parts.Parts.{Parts}
 use Rattle.alw_image.specs.Images.{node_count}
 use Rattle.alw_image.specs.Parameters.{Parameters}
-use Rattle.alw_model.specs.NodeStates.{node_start, node_of, stamp_of}
+use Rattle.alw_msg.specs.Events.{node_of}
+use Rattle.alw_model.specs.NodeStates.{node_start, stamp_of}
 use Rattle.alw_model.specs.Machine.{MachineState, machine_start, node_at, link_place, taken_by, is_enabled, links_taken, stepped_by, step}
 use Rattle.alw_lift.specs.Links.{GoBelow}
 use Rattle.alw_lift.proofs.Links.{read_set, length-sent}

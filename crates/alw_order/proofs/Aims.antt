@@ -19,12 +19,13 @@ use Rattle.alw_msg.specs.declared.events.Event.TheVariants.{Instr, Handle, Deliv
 use Rattle.alw_image.specs.declared.parts.Parts.{Parts}
 use Rattle.alw_image.specs.Images.{node_count, line_count, zero_line, body_of, is_always}
 use Rattle.alw_image.specs.Parameters.{Parameters}
-use Rattle.alw_model.specs.FullMap.{ToMemory, ToCache, RDATA, WDATA, INV, BUSY}
+use Rattle.alw_msg.specs.Contents.{ToMemory, ToCache, RDATA, WDATA, INV, BUSY, Content, ForMemory, ForCache, content}
 use Rattle.alw_model.specs.LimitLess.{Directory, directory_start, is_trapped, hardware_act, handle}
 use Rattle.alw_model.specs.Caches.{Copy, Cache, Transaction, set_of, grants, copy_at, granted_copy, replaced, react, invalidate}
 use Rattle.alw_model.specs.Contexts.{slot_at, running}
-use Rattle.alw_model.specs.Messages.{Content, ForMemory, ForCache, content, to_homes, is_fit}
-use Rattle.alw_model.specs.NodeStates.{NodeState, node_start, node_of, home_at, with_home, place_of, may, may_deliver}
+use Rattle.alw_model.specs.Messages.{to_homes, is_fit}
+use Rattle.alw_msg.specs.Events.{node_of}
+use Rattle.alw_model.specs.NodeStates.{NodeState, node_start, home_at, with_home, place_of, may, may_deliver}
 use Rattle.alw_model.specs.NodeSteps.{Stepped, written, opened, take_turn, miss, access, instr_by, instr, at_home, deliver_by, deliver, handle_by, handle_front, event_at, clocked}
 use Rattle.alw_model.proofs.Journals.{and_parts}
 use Rattle.alw_lift.specs.Links.{GoBelow}

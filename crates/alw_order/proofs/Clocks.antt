@@ -8,7 +8,8 @@ use Rattle.alw_msg.specs.declared.events.Event.{Event}
 use Rattle.alw_msg.specs.declared.events.Entry.{Entry}
 use Rattle.alw_image.specs.declared.parts.Parts.{Parts}
 use Rattle.alw_image.specs.Parameters.{Parameters}
-use Rattle.alw_model.specs.NodeStates.{NodeState, node_of, stamp_of}
+use Rattle.alw_msg.specs.Events.{node_of}
+use Rattle.alw_model.specs.NodeStates.{NodeState, stamp_of}
 use Rattle.alw_model.specs.Machine.{MachineState, node_at, taken_by, is_enabled, stamp_at, stepped_by, step, AreLegal}
 use Rattle.alw_order.specs.Orders.{NodesRise}
 use Rattle.alw_lift.proofs.Steps.{enabled_is}

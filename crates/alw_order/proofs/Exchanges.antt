@@ -7,7 +7,8 @@ use Rattle.alw_num.proofs.Weigh.{is_node, cases_lt_then}
 use Rattle.alw_msg.specs.declared.messages.Msg.{Msg}
 use Rattle.alw_image.specs.declared.parts.Parts.{Parts}
 use Rattle.alw_image.specs.Images.{node_count}
-use Rattle.alw_model.specs.Machine.{link_place, links_sent, front, behind}
+use Rattle.alw_msg.specs.Lists.{front, behind}
+use Rattle.alw_model.specs.Machine.{link_place, links_sent}
 use Rattle.alw_lift.specs.Links.{GoBelow}
 use Rattle.alw_order.proofs.Places.{changed, changes_apart, changes_here, changed_here, changed_there, fits_where_front, front_push, behind_push}
 

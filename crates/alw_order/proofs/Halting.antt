@@ -9,12 +9,13 @@ use Rattle.alw_msg.specs.declared.events.Event.{Event}
 use Rattle.alw_msg.specs.declared.events.Event.TheVariants.{Instr, Handle, Deliver, Evict}
 use Rattle.alw_image.specs.declared.parts.Parts.{Parts}
 use Rattle.alw_image.specs.Parameters.{Parameters}
-use Rattle.alw_model.specs.FullMap.{ToMemory}
+use Rattle.alw_msg.specs.Contents.{ToMemory, brings_line, Content, ForMemory, ForCache, content}
 use Rattle.alw_model.specs.LimitLess.{is_trapped}
-use Rattle.alw_model.specs.Caches.{Transaction, ended_by, brings_line}
-use Rattle.alw_model.specs.Contexts.{Slot, slot_at, no_slot, is_ready, is_halted, all_halted, running, turn_order, woken, wake, waits_on}
-use Rattle.alw_model.specs.Messages.{Content, ForMemory, ForCache, content}
-use Rattle.alw_model.specs.NodeStates.{NodeState, node_of, home_at, stamp_of, may}
+use Rattle.alw_model.specs.Caches.{Transaction, ended_by}
+use Rattle.alw_msg.specs.Statuses.{is_ready, is_halted, waits_on}
+use Rattle.alw_model.specs.Contexts.{Slot, slot_at, no_slot, all_halted, running, turn_order, woken, wake}
+use Rattle.alw_msg.specs.Events.{node_of}
+use Rattle.alw_model.specs.NodeStates.{NodeState, home_at, stamp_of, may}
 use Rattle.alw_model.specs.NodeSteps.{at_home, deliver_by, deliver, handle_by, handle_front, event_at, slots_after}
 use Rattle.alw_model.specs.Machine.{MachineState, node_at, no_node, taken_by, is_enabled, has_halted, step, stepped_by}
 use Rattle.alw_model.proofs.Journals.{and_parts, and_is}

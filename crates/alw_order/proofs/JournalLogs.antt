@@ -11,7 +11,8 @@ use Rattle.alw_msg.specs.declared.events.Entry.{Entry}
 use Rattle.alw_image.specs.declared.parts.Parts.{Parts}
 use Rattle.alw_image.specs.Images.{node_count}
 use Rattle.alw_image.specs.Parameters.{Parameters}
-use Rattle.alw_model.specs.NodeStates.{NodeState, node_start, node_of}
+use Rattle.alw_msg.specs.Events.{node_of}
+use Rattle.alw_model.specs.NodeStates.{NodeState, node_start}
 use Rattle.alw_model.specs.Machine.{MachineState, machine_start, node_at, link_at, taken_by, is_enabled, stepped_by, step, after, AreLegal, IsLegal, IsNext}
 use Rattle.alw_model.specs.Runs.{Moment, number_of, moment_of, moments_from, moments}
 use Rattle.alw_model.specs.Rows.{log_in, logs_of}

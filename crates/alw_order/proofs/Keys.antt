@@ -2,7 +2,7 @@
 use Rattle.std.proofs.Common.{◌≡◌, ◌≢◌, ℕ, ◌≤◌, ◌==◌, nat_lt, Bool, false, ◌&&◌, ◌||◌, IsTrue, arith}
 use Rattle.std.proofs.lemmas.Bool.Decides.{nat_tests}
 use Rattle.alw_msg.specs.declared.events.Entry.{Entry}
-use Rattle.alw_model.specs.NodeStates.{node_of}
+use Rattle.alw_msg.specs.Events.{node_of}
 use Rattle.alw_model.specs.Threads.{is_before}
 
 -- the order as one of numbers: stamp and node of the one, stamp and node of the other

@@ -11,9 +11,11 @@ use Rattle.alw_num.specs.declared.addresses.NodeNo.{NodeNo}
 use Rattle.alw_image.specs.declared.parts.Parts.{Parts}
 use Rattle.alw_image.specs.Images.{node_count}
 use Rattle.alw_image.specs.Parameters.{Parameters}
-use Rattle.alw_model.specs.NodeStates.{NodeState, node_of, stamp_of, may, is_enabled_at}
+use Rattle.alw_msg.specs.Events.{node_of}
+use Rattle.alw_model.specs.NodeStates.{NodeState, stamp_of, may, is_enabled_at}
 use Rattle.alw_model.specs.NodeSteps.{Stepped, node_step}
-use Rattle.alw_model.specs.Machine.{MachineState, node_at, link_at, front, taken_by, stamp_at, has_halted, stepped_by, step, IsNext}
+use Rattle.alw_msg.specs.Lists.{front}
+use Rattle.alw_model.specs.Machine.{MachineState, node_at, link_at, taken_by, stamp_at, has_halted, stepped_by, step, IsNext}
 use Rattle.alw_model.specs.Threads.{Logged, IsNextLogged, IsRunFrom, IsFront, takes_rightly, is_from, took_from, sent_to}
 use Rattle.alw_model.proofs.Journals.{and_parts}
 use Rattle.alw_order.proofs.Local.{node_kept}

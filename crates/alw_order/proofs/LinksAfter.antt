@@ -7,8 +7,9 @@ use Rattle.alw_msg.specs.declared.events.Event.TheVariants.{Instr, Handle, Deliv
 use Rattle.alw_image.specs.declared.parts.Parts.{Parts}
 use Rattle.alw_image.specs.Images.{node_count}
 use Rattle.alw_image.specs.Parameters.{Parameters}
-use Rattle.alw_model.specs.NodeStates.{node_of}
-use Rattle.alw_model.specs.Machine.{MachineState, link_at, link_place, behind, is_enabled, links_taken, stepped_by, step}
+use Rattle.alw_msg.specs.Events.{node_of}
+use Rattle.alw_msg.specs.Lists.{behind}
+use Rattle.alw_model.specs.Machine.{MachineState, link_at, link_place, is_enabled, links_taken, stepped_by, step}
 use Rattle.alw_model.proofs.Journals.{and_parts}
 use Rattle.alw_lift.specs.Links.{msgs_to}
 use Rattle.alw_lift.proofs.Links.{link_sent, link_taken}

@@ -10,9 +10,11 @@ use Rattle.alw_msg.specs.declared.events.Event.TheVariants.{Instr, Handle, Deliv
 use Rattle.alw_image.specs.declared.parts.Parts.{Parts}
 use Rattle.alw_image.specs.Images.{node_count}
 use Rattle.alw_image.specs.Parameters.{Parameters}
-use Rattle.alw_model.specs.NodeStates.{node_of, stamp_of, may_deliver, is_enabled_at}
+use Rattle.alw_msg.specs.Events.{node_of}
+use Rattle.alw_model.specs.NodeStates.{stamp_of, may_deliver, is_enabled_at}
 use Rattle.alw_model.specs.NodeSteps.{Stepped, node_step}
-use Rattle.alw_model.specs.Machine.{MachineState, node_at, link_at, link_place, front, behind, taken_by, is_enabled, stamp_at, links_taken, links_sent, stepped_by, after_step}
+use Rattle.alw_msg.specs.Lists.{front, behind}
+use Rattle.alw_model.specs.Machine.{MachineState, node_at, link_at, link_place, taken_by, is_enabled, stamp_at, links_taken, links_sent, stepped_by, after_step}
 use Rattle.alw_model.proofs.Journals.{and_parts}
 use Rattle.alw_order.specs.Orders.{SeesAlike}
 use Rattle.alw_order.proofs.Places.{changes_apart, changed_there}

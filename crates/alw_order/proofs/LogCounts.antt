@@ -10,7 +10,7 @@ use Rattle.alw_msg.specs.declared.events.Entry.{Entry}
 use Rattle.alw_image.specs.declared.parts.Parts.{Parts}
 use Rattle.alw_image.specs.Images.{node_count}
 use Rattle.alw_image.specs.Parameters.{Parameters}
-use Rattle.alw_model.specs.NodeStates.{node_of}
+use Rattle.alw_msg.specs.Events.{node_of}
 use Rattle.alw_model.specs.Machine.{MachineState, machine_start, step, AreLegal, IsLegal}
 use Rattle.alw_model.specs.Runs.{moments}
 use Rattle.alw_model.specs.Rows.{log_in, logs_of}

@@ -10,8 +10,9 @@ use Rattle.alw_msg.specs.declared.events.Event.TheVariants.{Instr, Handle, Deliv
 use Rattle.alw_image.specs.declared.parts.Parts.{Parts}
 use Rattle.alw_image.specs.Images.{node_count}
 use Rattle.alw_image.specs.Parameters.{Parameters}
-use Rattle.alw_model.specs.NodeStates.{node_of}
-use Rattle.alw_model.specs.Machine.{MachineState, link_at, front, behind, taken_by, is_enabled, stepped_by, step}
+use Rattle.alw_msg.specs.Events.{node_of}
+use Rattle.alw_msg.specs.Lists.{front, behind}
+use Rattle.alw_model.specs.Machine.{MachineState, link_at, taken_by, is_enabled, stepped_by, step}
 use Rattle.alw_model.specs.Threads.{Logged, is_from}
 use Rattle.alw_lift.specs.Links.{msgs_to}
 use Rattle.alw_lift.proofs.Taken.{split_front}

@@ -6,7 +6,7 @@ use Rattle.std.proofs.lemmas.Bool.{eq-eqb, ne_eqb}
 use Rattle.std.proofs.lemmas.List.{map-append}
 use Rattle.std.proofs.lemmas.List.Elements.{filter-append}
 use Rattle.alw_msg.specs.declared.events.Entry.{Entry}
-use Rattle.alw_model.specs.NodeStates.{node_of}
+use Rattle.alw_msg.specs.Events.{node_of}
 use Rattle.alw_model.specs.Threads.{Logged, Logs, StampsRise, is_before, placed, in_order}
 use Rattle.alw_order.proofs.Keys.{stamps_le, stamps_ge}
 

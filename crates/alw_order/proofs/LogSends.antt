@@ -7,9 +7,10 @@ use Rattle.alw_num.proofs.Weigh.{is_node}
 use Rattle.alw_msg.specs.declared.messages.Msg.{Msg}
 use Rattle.alw_image.specs.declared.parts.Parts.{Parts}
 use Rattle.alw_image.specs.Parameters.{Parameters}
-use Rattle.alw_model.specs.NodeStates.{NodeState, node_of, stamp_of}
+use Rattle.alw_msg.specs.Events.{node_of}
+use Rattle.alw_model.specs.NodeStates.{NodeState, stamp_of}
 use Rattle.alw_model.specs.NodeSteps.{node_step}
-use Rattle.alw_model.specs.Machine.{front}
+use Rattle.alw_msg.specs.Lists.{front}
 use Rattle.alw_model.specs.Threads.{Logged, IsRunFrom, is_from, took_from, sent_to}
 use Rattle.alw_lift.specs.Links.{msgs_to}
 use Rattle.alw_order.proofs.Sends.{BearStamp, step_so}

@@ -10,7 +10,8 @@ use Rattle.alw_msg.specs.declared.events.Entry.{Entry}
 use Rattle.alw_image.specs.declared.parts.Parts.{Parts}
 use Rattle.alw_image.specs.Images.{node_count}
 use Rattle.alw_image.specs.Parameters.{Parameters}
-use Rattle.alw_model.specs.NodeStates.{NodeState, node_start, node_of}
+use Rattle.alw_msg.specs.Events.{node_of}
+use Rattle.alw_model.specs.NodeStates.{NodeState, node_start}
 use Rattle.alw_model.specs.NodeSteps.{node_step}
 use Rattle.alw_model.specs.Machine.{MachineState, machine_start, node_at, link_at, link_place, stepped_by, step, after, state, AreLegal, IsLegal}
 use Rattle.alw_model.specs.Threads.{Logged, Logs, IsRunFrom, StampsRise, node_after, took_from, sent_to, log_at, in_order, merged}

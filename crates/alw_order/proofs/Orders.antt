@@ -4,7 +4,7 @@ use Rattle.std.specs.List.{AllByRecursion}
 use Rattle.std.specs.List.Sorted.{IsPermutation}
 use Rattle.std.proofs.lemmas.List.Sorted.{IsPermutation-refl, IsPermutation-trans, IsPermutation-cons, IsPermutation-middle}
 use Rattle.alw_msg.specs.declared.events.Entry.{Entry}
-use Rattle.alw_model.specs.NodeStates.{node_of}
+use Rattle.alw_msg.specs.Events.{node_of}
 use Rattle.alw_model.specs.Threads.{is_before, placed, in_order}
 use Rattle.alw_order.specs.Orders.{NodesRise, Ascends}
 use Rattle.alw_order.proofs.Keys.{never_trans, never_both, either_before}

@@ -2,7 +2,7 @@
 use Rattle.std.proofs.Common.{◌≡◌, ◌≢◌, ℕ, ◌<◌, Some, None, List, [], ◌∷◌, ◌++◌, length, get_or, set, refl, sym, ap, ◌∙◌}
 use Rattle.std.proofs.lemmas.List.{get_or-set_same, get_or-set_other, set-set, set_comm, get_or_past}
 use Rattle.alw_num.proofs.Weigh.{cases_lt_then}
-use Rattle.alw_model.specs.Machine.{front, behind}
+use Rattle.alw_msg.specs.Lists.{front, behind}
 
 module _ {X : Type 0} (d : X) where
   -- a list with its element at one place changed

@@ -3,7 +3,8 @@ use Rattle.std.proofs.Common.{◌≡◌, ℕ, ◌<◌, ◌==◌, Bool, true, fal
 use Rattle.std.proofs.lemmas.Bool.{eqb-true, false≢true}
 use Rattle.alw_num.specs.NodeSets.{Nodes, has_node, no_nodes, one_node, add_node, join_nodes}
 use Rattle.alw_num.proofs.Sets.{has-none, has-add, has-join}
-use Rattle.alw_model.specs.FullMap.{Home, ToMemory, act}
+use Rattle.alw_msg.specs.Contents.{ToMemory}
+use Rattle.alw_model.specs.FullMap.{Home, act}
 use Rattle.alw_model.specs.LimitLess.{Directory, Keeping, Joined, Alone, Emptied, Kept, full_map_of, hardware_of, hardware_act, trapped, keeping, kept, handled, handle}
 use Rattle.alw_line.proofs.Homes.{DestsBelow}
 use Rattle.alw_limitless.proofs.Actions.{pointers_by, row-pointers}

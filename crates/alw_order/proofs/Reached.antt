@@ -3,7 +3,7 @@ use Rattle.std.proofs.Common.{◌≡◌, ◌≢◌, ℕ, ◌≤◌, List, [], �
 use Rattle.alw_msg.specs.declared.events.Entry.{Entry}
 use Rattle.alw_image.specs.declared.parts.Parts.{Parts}
 use Rattle.alw_image.specs.Parameters.{Parameters}
-use Rattle.alw_model.specs.NodeStates.{node_of}
+use Rattle.alw_msg.specs.Events.{node_of}
 use Rattle.alw_model.specs.Machine.{MachineState, machine_start, step, after, state, AreLegal, IsLegal}
 use Rattle.alw_model.specs.Threads.{in_order}
 use Rattle.alw_model.proofs.Journals.{after-append}

@@ -12,11 +12,12 @@ use Rattle.alw_image.specs.declared.parts.Parts.{Parts}
 use Rattle.alw_image.specs.Images.{line_count}
 use Rattle.alw_image.specs.Parameters.{Parameters}
 use Rattle.alw_num.specs.Maps.{value_at}
-use Rattle.alw_model.specs.FullMap.{ToMemory, Sends}
+use Rattle.alw_msg.specs.Contents.{ToMemory, Content, ForMemory, ForCache, content}
+use Rattle.alw_model.specs.FullMap.{Sends}
 use Rattle.alw_model.specs.LimitLess.{is_trapped, hardware_act, handle}
 use Rattle.alw_model.specs.Caches.{Copy, Requests, granted_copy, react, evict}
 use Rattle.alw_model.specs.Contexts.{slot_at, running}
-use Rattle.alw_model.specs.Messages.{Content, ForMemory, ForCache, content, to_homes, to_caches}
+use Rattle.alw_model.specs.Messages.{to_homes, to_caches}
 use Rattle.alw_model.specs.NodeStates.{NodeState, home_at, stamp_of}
 use Rattle.alw_model.specs.NodeSteps.{opened, access, instr_by, instr, at_home, deliver_by, deliver, handle_by, handle_front, event_at, node_step}
 

@@ -4,7 +4,7 @@ use Rattle.std.proofs.lemmas.Bool.Decides.{nat_tests}
 use Rattle.alw_msg.specs.declared.events.Entry.{Entry}
 use Rattle.alw_image.specs.declared.parts.Parts.{Parts}
 use Rattle.alw_image.specs.Parameters.{Parameters}
-use Rattle.alw_model.specs.NodeStates.{node_of}
+use Rattle.alw_msg.specs.Events.{node_of}
 use Rattle.alw_model.specs.Machine.{MachineState, stamp_at, has_halted, step, after, AreLegal, IsNext}
 use Rattle.alw_model.specs.Threads.{is_before, placed, in_order}
 use Rattle.alw_order.proofs.Halting.{halted_stays}

@@ -7,8 +7,10 @@ use Rattle.alw_msg.specs.declared.events.Event.TheVariants.{Instr, Handle, Deliv
 use Rattle.alw_image.specs.declared.parts.Parts.{Parts}
 use Rattle.alw_image.specs.Images.{node_count}
 use Rattle.alw_image.specs.Parameters.{Parameters}
-use Rattle.alw_model.specs.NodeStates.{node_of, stamp_of}
-use Rattle.alw_model.specs.Machine.{MachineState, node_at, link_at, link_place, front, taken_by, is_enabled, stamp_at, links_taken, stepped_by, after_step, step}
+use Rattle.alw_msg.specs.Events.{node_of}
+use Rattle.alw_model.specs.NodeStates.{stamp_of}
+use Rattle.alw_msg.specs.Lists.{front}
+use Rattle.alw_model.specs.Machine.{MachineState, node_at, link_at, link_place, taken_by, is_enabled, stamp_at, links_taken, stepped_by, after_step, step}
 use Rattle.alw_order.specs.Orders.{SeesAlike}
 use Rattle.alw_lift.specs.Links.{GoBelow}
 use Rattle.alw_order.proofs.Exchanges.{each_sent}

@@ -5,7 +5,8 @@ use Rattle.alw_msg.specs.declared.events.Entry.{Entry}
 use Rattle.alw_image.specs.declared.parts.Parts.{Parts}
 use Rattle.alw_image.specs.Images.{node_count}
 use Rattle.alw_image.specs.Parameters.{Parameters}
-use Rattle.alw_model.specs.Threads.{Logs, log_at, is_evict, IsLocalRun, LinksAgree}
+use Rattle.alw_msg.specs.Events.{is_evict}
+use Rattle.alw_model.specs.Threads.{Logs, log_at, IsLocalRun, LinksAgree}
 
 -- a log for each node, each a local run of its node, whose links agree
 pub record AreLocalRuns (parts : Parts) (parameters : Parameters) (logs : Logs) : Type 0 where

@@ -7,8 +7,9 @@ use Rattle.alw_msg.specs.declared.events.Event.TheVariants.{Deliver}
 use Rattle.alw_msg.specs.declared.events.Entry.{Entry}
 use Rattle.alw_image.specs.declared.parts.Parts.{Parts}
 use Rattle.alw_image.specs.Parameters.{Parameters}
-use Rattle.alw_model.specs.NodeStates.{node_of}
-use Rattle.alw_model.specs.Machine.{MachineState, node_at, link_at, behind, taken_by, stepped_by, IsLegal}
+use Rattle.alw_msg.specs.Events.{node_of}
+use Rattle.alw_msg.specs.Lists.{behind}
+use Rattle.alw_model.specs.Machine.{MachineState, node_at, link_at, taken_by, stepped_by, IsLegal}
 use Rattle.alw_model.specs.Threads.{is_before}
 use Rattle.alw_lift.specs.Links.{msgs_to}
 

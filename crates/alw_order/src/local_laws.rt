@@ -3,7 +3,7 @@ ghost use Rattle.alw_msg.specs.declared.events.Event.{Event};
 ghost use Rattle.alw_image.specs.declared.parts.Parts.{Parts};
 ghost use Rattle.alw_image.specs.Images.{node_count};
 ghost use Rattle.alw_image.specs.Parameters.{Parameters};
-ghost use Rattle.alw_model.specs.NodeStates.{node_of};
+ghost use Rattle.alw_msg.specs.Events.{node_of};
 ghost use Rattle.alw_model.specs.Machine.{MachineState, node_at, link_at, is_enabled, stamp_at, stepped_by, step, state};
 ghost use Rattle.alw_order.specs.Orders.{EveryJournal, SeesAlike, NodesRise, link_after};
 

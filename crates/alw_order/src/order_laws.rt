@@ -3,7 +3,7 @@ ghost use Rattle.std.specs.List.Sorted.{IsPermutation};
 ghost use Rattle.alw_msg.specs.declared.events.Entry.{Entry};
 ghost use Rattle.alw_image.specs.declared.parts.Parts.{Parts};
 ghost use Rattle.alw_image.specs.Parameters.{Parameters};
-ghost use Rattle.alw_model.specs.NodeStates.{node_of};
+ghost use Rattle.alw_msg.specs.Events.{node_of};
 ghost use Rattle.alw_model.specs.Machine.{state, AreLegal, IsLegal};
 ghost use Rattle.alw_model.specs.Threads.{in_order};
 ghost use Rattle.alw_order.specs.Orders.{EveryJournal, Ascends, kept_by, later_than};

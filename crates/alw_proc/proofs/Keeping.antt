@@ -11,7 +11,8 @@ use Rattle.sparc_table.specs.declared.registers.Regs.{Regs}
 use Rattle.alw_msg.specs.declared.contexts.Status.{Status}
 use Rattle.alw_msg.specs.declared.contexts.Status.TheVariants.{Ready, Waiting, Halted, Trapped}
 use Rattle.alw_model.specs.Caches.{Copy, Cache, Transaction, Transactions}
-use Rattle.alw_model.specs.Contexts.{Slot, no_slot, slot_at, is_ready, waits_on, running, turn_order, ran, woken, wake, give_hold}
+use Rattle.alw_msg.specs.Statuses.{is_ready, waits_on}
+use Rattle.alw_model.specs.Contexts.{Slot, no_slot, slot_at, running, turn_order, ran, woken, wake, give_hold}
 use Rattle.alw_model.specs.NodeSteps.{opened, slots_after}
 use Rattle.alw_proc.specs.Openings.{IsNotOf}
 use Rattle.alw_proc.specs.Processors.{HoldsLine}

@@ -10,7 +10,8 @@ use Rattle.alw_msg.specs.declared.messages.Msg.{Msg}
 use Rattle.alw_image.specs.declared.parts.Parts.{Parts}
 use Rattle.alw_image.specs.Parameters.{Parameters}
 use Rattle.alw_model.specs.Caches.{Copy, Cache, Transaction, Transactions, set_of}
-use Rattle.alw_model.specs.Contexts.{Slot, slots_start, slot_at, waits_on}
+use Rattle.alw_msg.specs.Statuses.{waits_on}
+use Rattle.alw_model.specs.Contexts.{Slot, slots_start, slot_at}
 use Rattle.alw_model.specs.NodeStates.{NodeState}
 use Rattle.alw_cache.specs.Places.{Copies, copy_of}
 use Rattle.alw_ctx.specs.Residents.{NodeContexts}

@@ -9,7 +9,7 @@ ghost use Rattle.alw_image.specs.Images.{node_count};
 ghost use Rattle.alw_model.specs.declared.steps.Did.TheVariants as dids;
 ghost use Rattle.alw_model.specs.Caches.{granted_copy};
 ghost use Rattle.alw_model.specs.Contexts.{running, slot_at, is_held};
-ghost use Rattle.alw_model.specs.Messages.{content};
+ghost use Rattle.alw_msg.specs.Contents.{content};
 ghost use Rattle.alw_model.specs.NodeStates.{may_reach};
 ghost use Rattle.alw_model.specs.NodeSteps.{instr, access, miss, deliver_by, evict_from};
 ghost use Rattle.alw_proc.specs.Processors.{parts_of, parameters_of, state_of, with_state, with_messages, processor_start, lines_of, mode_of, cached_of, IsProcessor, AreBegun};

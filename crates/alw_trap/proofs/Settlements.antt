@@ -6,7 +6,7 @@ use Rattle.alw_num.specs.NodeSets.{Nodes, no_nodes, join_nodes}
 use Rattle.alw_num.proofs.MapLaws.{value-with, value-without}
 use Rattle.alw_num.specs.Maps.{Map, value_at, with_value, without_value}
 use Rattle.alw_model.specs.LimitLess.{Directory, full_map_of, handled, kept, Keeping, Joined, Alone, Emptied, Kept, keeping, or_always}
-use Rattle.alw_model.specs.Messages.{Content, ForMemory, ForCache}
+use Rattle.alw_msg.specs.Contents.{Content, ForMemory, ForCache}
 use Rattle.dir_full.specs.Reactions.{reaction}
 use Rattle.dir_hw.specs.declared.entries.HomeEntry.{HomeEntry}
 use Rattle.dir_soft.specs.Tables.{Table, set_or_none, set_of_line}

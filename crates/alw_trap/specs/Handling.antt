@@ -6,7 +6,7 @@ use Rattle.alw_num.specs.declared.states.Meta.TheVariants.{Normal, TrapWrite}
 use Rattle.alw_num.specs.Maps.{with_value, without_value}
 use Rattle.alw_model.specs.FullMap.{Home, Sends}
 use Rattle.alw_model.specs.LimitLess.{Directory, full_map_of, handled, kept, Keeping, Kept, keeping, meta_of}
-use Rattle.alw_model.specs.Messages.{Content, ForMemory, ForCache}
+use Rattle.alw_msg.specs.Contents.{Content, ForMemory, ForCache}
 use Rattle.dir_full.specs.Reactions.{reaction}
 use Rattle.dir_soft.specs.Tables.{Table}
 use Rattle.alw_home.specs.declared.changes.Change.{Change}

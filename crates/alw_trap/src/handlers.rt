@@ -3,7 +3,7 @@ ghost use Rattle.alw_num.specs.NodeSets.{nodes_of, add_node, join_nodes};
 ghost use Rattle.alw_msg.specs.Kinds.{to_memory};
 ghost use Rattle.alw_num.specs.Maps.{value_at, with_value};
 ghost use Rattle.alw_model.specs.LimitLess.{full_map_of, or_always};
-ghost use Rattle.alw_model.specs.Messages.{content};
+ghost use Rattle.alw_msg.specs.Contents.{content};
 ghost use Rattle.dir_full.specs.Reactions.{with_sends, HasRoom};
 ghost use Rattle.dir_soft.specs.Tables.{set_of_line, used_lines};
 ghost use Rattle.alw_home.specs.Changes.{directory_of, change_of};

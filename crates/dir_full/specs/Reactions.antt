@@ -6,7 +6,8 @@ use Rattle.alw_num.specs.declared.states.State.TheVariants.{RT, WT}
 use Rattle.alw_num.specs.NodeSets.{Nodes, has_node}
 use Rattle.alw_msg.specs.Sending.{Sending}
 use Rattle.alw_model.specs.FullMap.{Home, Sends, act, unlisted, sole, end_read, end_write}
-use Rattle.alw_model.specs.Messages.{Content, ForMemory, ForCache, to_caches}
+use Rattle.alw_msg.specs.Contents.{Content, ForMemory, ForCache}
+use Rattle.alw_model.specs.Messages.{to_caches}
 
 -- the home table, on what a message of node i says: one to a cache isn't listed
 abbrev pub reaction : Home → ℕ → Content → Home × Sends

@@ -2,7 +2,7 @@ ghost use Rattle.std.specs.Prelude.{◌≡◌, ◌<◌, [], ◌∷◌, IsTrue, O
 ghost use Rattle.alw_num.specs.NodeSets.{nodes_of, drop_node};
 ghost use Rattle.alw_msg.specs.Kinds.{to_memory};
 ghost use Rattle.alw_model.specs.FullMap.{home_start, write_shared, recall, give_back, others, sole, acknowledge};
-ghost use Rattle.alw_model.specs.Messages.{content};
+ghost use Rattle.alw_msg.specs.Contents.{content};
 ghost use Rattle.dir_full.specs.Reactions.{reaction, ended, with_sends, HasRoom};
 
 use crate::sets::{invalidate, sole_member};

@@ -3,8 +3,8 @@ use Rattle.std.proofs.Common.{◌≡◌, ◌∷◌, [], List, ℕ, zero, suc, �
 use Rattle.std.proofs.lemmas.List.{append-nil}
 use Rattle.alw_num.specs.declared.addresses.Line.{Line}
 use Rattle.alw_msg.specs.declared.messages.Msg.{Msg}
-use Rattle.alw_model.specs.FullMap.{RREQ, WREQ, UPDATE, RDATA, WDATA, INV}
-use Rattle.alw_model.specs.Messages.{ForMemory, ForCache, message}
+use Rattle.alw_msg.specs.Contents.{RREQ, WREQ, UPDATE, RDATA, WDATA, INV, ForMemory, ForCache}
+use Rattle.alw_model.specs.Messages.{message}
 use Rattle.alw_model.specs.Threads.{Logs, IsFront, took_from, sent_to, log_at}
 use Rattle.alw_model.specs.Rows.{defaults, logs_of, closed_runs}
 use Rattle.alw_model.specs.Rows.TwoNodes.{writers_image, writers_journal, two_node_runs}

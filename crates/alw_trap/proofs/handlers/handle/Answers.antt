@@ -1,6 +1,6 @@
 -- The parts are put together.
 use Rattle.alw_num.specs.NodeSets.{nodes_of}
-use Rattle.alw_model.specs.Messages.{content}
+use Rattle.alw_msg.specs.Contents.{content}
 use Rattle.alw_trap.proofs.Settlements.{settled}
 use Rattle.alw_trap.proofs.handlers.handle.Goals as goal
 

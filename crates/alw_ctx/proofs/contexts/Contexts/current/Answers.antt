@@ -1,7 +1,8 @@
 -- The first Ready slot in the turn's order, or none.
 use Rattle.std.proofs.Common.{◌≡◌, ◌+◌, ◌%◌, false, ap, sym, ◌∙◌, arith}
 use borrow.Author.Count.{below_more}
-use Rattle.alw_model.specs.Contexts.{Slot, is_ready}
+use Rattle.alw_msg.specs.Statuses.{is_ready}
+use Rattle.alw_model.specs.Contexts.{Slot}
 use Rattle.alw_ctx.specs.Residents.{slots_of}
 use Rattle.alw_ctx.proofs.Slots.{length_slots, slot_read}
 use Rattle.alw_ctx.proofs.Choices.{ready_at, runs, runs_none}

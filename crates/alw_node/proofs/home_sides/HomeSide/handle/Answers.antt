@@ -2,7 +2,7 @@
 use Rattle.std.proofs.Common.{◌≡◌, ◌<◌, ◌*◌, ◌%◌, ◌∷◌, length, sym, ap, subst, ◌∙◌, arith}
 use Rattle.alw_num.specs.NodeSets.{join_nodes}
 use Rattle.alw_model.specs.LimitLess.{Directory, is_in_progress, full_map_of}
-use Rattle.alw_model.specs.Messages.{content}
+use Rattle.alw_msg.specs.Contents.{content}
 use Rattle.dir_full.specs.Reactions.{HasRoom}
 use Rattle.dir_soft.specs.Tables.{set_of_line}
 use Rattle.alw_home.specs.Changes.{directory_of, change_of}
