@@ -1,10 +1,14 @@
 -- Home lines as entries: what is read of one, and what a change does.
-use Rattle.std.proofs.Common.{◌≡◌, ◌≢◌, ℕ, zero, suc, ◌+◌, ◌*◌, ◌/◌, ◌%◌, ◌<◌, ◌≤◌, Bool, List, [], ◌∷◌, length, slice_set, slice_index_or, refl, ap, arith}
+use Rattle.std.proofs.Common.{◌≡◌, ◌≢◌, ℕ, zero, suc, ◌+◌, ◌*◌, ◌/◌, ◌%◌, ◌<◌, ◌≤◌, Bool, List, [], ◌∷◌, length, slice_set, slice_index_or, refl, sym, ap, subst, arith}
 use Rattle.std.proofs.Math.Nat.{div-add-mod, mul_comm}
+use Rattle.alw_num.specs.NodeSets.{Nodes, nodes_of}
 use Rattle.dir_soft.specs.Tables.{Table, set_of_line}
+use Rattle.alw_model.specs.LimitLess.{Directory}
 use Rattle.alw_home.specs.Changes.{directory_of}
 use Rattle.dir_hw.specs.declared.entries.HomeEntry.{HomeEntry}
 use Rattle.alw_node.specs.declared.home_sides.HomeLine.{HomeLine}
+use Rattle.alw_node.specs.declared.views.HomeView.{HomeView}
+use Rattle.alw_node.specs.Views.{IsViewOf}
 use Rattle.alw_node.specs.HomeSides.{entries_from, entry_at}
 
 abbrev pub home_line : HomeEntry → Bool → HomeLine
@@ -38,3 +42,8 @@ entries_set line (first ∷ rest) table after (suc place) at home l e others =
 -- the place of a line among those of its home
 pub line_is : (line per_node number : ℕ) → line / per_node ≡ number → line ≡ number * per_node + line % per_node
 line_is line per_node number e = omega (arith, div-add-mod line per_node, ap (λ n. per_node * n) e, mul_comm per_node number)
+
+-- what shows an entry and its software set shows what they come to
+pub shows : (view : HomeView) (d : Directory) (entry : HomeEntry) (software : Nodes) (always : Bool) → d ≡ directory_of entry software always
+    → nodes_of view.hw ≡ entry.pointers → nodes_of view.sw ≡ software → view.state ≡ entry.state → view.meta ≡ entry.meta → view.acks ≡ entry.acks → view.body ≡ entry.body → IsViewOf view d
+shows view d entry software always is hardware soft state meta acks body = subst (IsViewOf view) (sym is) (record { state = state; meta = meta; hardware = hardware; software = soft; acks = acks; body = body })

@@ -2,6 +2,8 @@ pub mod Deliveries
 pub mod Embeds
 pub mod Entries
 pub mod Handlings
+pub mod KeptMembers
 pub mod Sides
 pub mod Starts
 pub mod TableSizes
+pub mod Wholes

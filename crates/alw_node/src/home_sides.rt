@@ -1,4 +1,4 @@
-ghost use Rattle.std.specs.Prelude.{◌≡◌, ◌<◌, ◌≤◌, ◌*◌, ◌/◌, IfOk, IsTrue, false, not};
+ghost use Rattle.std.specs.Prelude.{◌≡◌, ◌<◌, ◌≤◌, ◌*◌, ◌/◌, IfOk, IsTrue, false, not, slice_get};
 ghost use Rattle.std.specs.Option.{option_map};
 ghost use Rattle.alw_msg.specs.Kinds.{to_memory};
 ghost use Rattle.alw_image.specs.Images.{node_count, line_count};
@@ -10,8 +10,10 @@ ghost use Rattle.alw_model.specs.NodeSteps.{deliver_by, handle_front};
 ghost use Rattle.alw_proc.specs.Homeward.{sized};
 ghost use Rattle.alw_proc.specs.Processors.{with_messages};
 ghost use Rattle.alw_node.specs.Insides.{has_trapped, line_start, lines_start, side_start};
+ghost use Rattle.alw_node.specs.Views.{IsViewOf};
 ghost use Rattle.alw_node.specs.HomeSides.{side_state, with_side, side_parameters, IsSide, IsBegun};
 
+use crate::views::HomeView;
 use alw_home::{Acted, deliver};
 use alw_image::{Image, Params};
 use alw_model::Did;
@@ -120,6 +122,29 @@ impl HomeSide {
         ensures { result ≡ is_nonempty self.now.packets }
     {
         !self.packets.is_empty()
+    }
+
+    /// The entry of a line of this home.
+    pub fn home(&self, line: LineNo) -> HomeView
+        requires { line.0 / self.now.per_node ≡ self.now.number }
+        ensures { IsViewOf result (home_at (sized self.now.per_node) (side_state self.now) line.0) }
+    {
+        let home = &self.homes[(line.0 % u32::from(self.per_node)) as usize];
+        HomeView {
+            state: home.entry.state,
+            meta: home.entry.meta,
+            hw: home.entry.pointers(),
+            sw: self.soft.set(line),
+            acks: home.entry.acks,
+            body: home.entry.body,
+        }
+    }
+
+    /// The packet at a place of the queue, where 0 is the front. None exactly behind its end.
+    pub fn packet(&self, i: u32) -> Option<Msg>
+        ensures { result ≡ slice_get self.now.packets i }
+    {
+        self.packets.get(i as usize).copied()
     }
 
     /// A message to memory: it traps, which puts it behind the packets, or hardware acts on it.

@@ -1,0 +1,68 @@
+-- A node: its number, its share of the image, its parameters and its state.
+use Rattle.std.specs.Prelude.{◌≡◌, ℕ, ◌*◌, ◌<◌, ◌≤◌, ◌&&◌, nat_lt, Bool, Option, Some, None, length}
+use Rattle.alw_msg.specs.declared.messages.Msg.{Msg}
+use Rattle.alw_msg.specs.Sending.{Sending}
+use Rattle.alw_image.specs.declared.parts.Parts.{Parts}
+use Rattle.alw_image.specs.Images.{node_count}
+use Rattle.alw_image.specs.Parameters.{Parameters}
+use Rattle.alw_model.specs.NodeStates.{NodeState, node_start, may_deliver}
+use Rattle.alw_model.specs.NodeSteps.{Stepped}
+use Rattle.alw_proc.specs.Processors.{Processor}
+use Rattle.alw_node.specs.HomeSides.{Side}
+use Rattle.alw_node.specs.Shares.{share_of}
+
+pub record Whole : Type 0 where
+  pub number : ℕ
+  pub parts : Parts
+  pub parameters : Parameters
+  pub state : NodeState
+
+-- a node at the start of an image
+abbrev pub whole_start : Parts → Parameters → ℕ → Whole
+whole_start parts parameters number = record { number = number; parts = share_of parts number; parameters = parameters; state = node_start parts number }
+
+-- the state of a node with these two sides and this clock
+abbrev pub state_with : Processor → Side → ℕ → NodeState
+state_with p side clock = record { slots = p.slots; current = p.current; cache = p.cache; transactions = p.transactions; homes = side.homes; packets = side.packets; clock = clock }
+
+-- the node that these make up
+abbrev pub whole_of : Parts → Parameters → Processor → Side → ℕ → Whole
+whole_of share parameters p side clock = record {
+  number = p.number;
+  parts = record share { width = p.width; height = p.height; per_node = p.per_node };
+  parameters = parameters;
+  state = state_with p side clock;
+}
+
+-- the two sides are of one node, which has this share and these parameters
+pub record AreOne (share : Parts) (parameters : Parameters) (p : Processor) (side : Side) : Type 0 where
+  pub width : p.width ≡ share.width
+  pub height : p.height ≡ share.height
+  pub lines : p.per_node ≡ share.per_node
+  pub number : side.number ≡ p.number
+  pub nodes : side.nodes ≡ p.width * p.height
+  pub per_node : side.per_node ≡ p.per_node
+  pub pointers : side.pointers ≡ parameters.pointers
+  pub sets : p.sets ≡ parameters.sets
+
+-- what holds of every node: it exists, its sizes are those of an image, and it has an entry for each home line
+pub record IsNode (node : Whole) : Type 0 where
+  pub number : node.number < node_count node.parts
+  pub width : node.parts.width ≤ 16
+  pub height : node.parts.height ≤ 16
+  pub per_node : (1 ≤ node.parts.per_node) × (node.parts.per_node ≤ 4096)
+  pub slots : length node.state.slots ≤ 4
+  pub homes : length node.state.homes ≡ node.parts.per_node
+
+-- the sends of an event of a node at a stamp, which are a step's
+abbrev pub sent_by : Sending → ℕ → ℕ → Stepped → Sending
+sent_by sending number stamp step = record { room = sending.room; src = number; stamp = stamp; messages = step.sends }
+
+-- a message that is taken has a stamp below the greatest
+abbrev pub FitsStamp : Option Msg → Type 0
+FitsStamp None = Unit {0}
+FitsStamp (Some msg) = msg.stamp < 4294967295
+
+-- a message at the head of the link from a node can be delivered
+abbrev pub may_take_from : Whole → ℕ → Msg → Bool
+may_take_from node from msg = nat_lt from (node_count node.parts) && may_deliver node.parts node.parameters from node.number node.state msg

@@ -1,0 +1,262 @@
+ghost use Rattle.std.specs.Prelude.{◌≡◌, ◌≤◌, ◌*◌, ◌<◌, ◌/◌, true, not, is_some, length, slice_get, option_copied, nat_lt, IfOk};
+ghost use Rattle.std.specs.Option.{option_map};
+ghost use Rattle.alw_num.specs.Maps.{value_at, passes};
+ghost use Rattle.alw_num.specs.Weights.{digit, weigh};
+ghost use Rattle.alw_image.specs.Images.{node_count};
+ghost use Rattle.alw_model.specs.Contexts.{slot_at};
+ghost use Rattle.alw_msg.specs.Contents.{content};
+ghost use Rattle.alw_model.specs.Messages.{home_node, is_fit};
+ghost use Rattle.alw_model.specs.NodeStates.{home_at, is_enabled_at, may_reach, stamp_of};
+ghost use Rattle.alw_model.specs.NodeSteps.{node_step};
+ghost use Rattle.alw_proc.specs.Processors.{mode_of, cached_of};
+ghost use Rattle.alw_node.specs.Nodes.{whole_start, sent_by, may_take_from, FitsStamp, IsNode};
+ghost use Rattle.alw_node.specs.Views.{IsViewOf};
+
+use crate::home_sides::HomeSide;
+use crate::shares::share_of;
+use crate::views::HomeView;
+use alw_image::{Image, Params, Parts};
+use alw_model::Did;
+use alw_msg::{Event, Msg, Sends, Status};
+use alw_num::{Line, LineNo, Mode, NoMemory, NodeNo};
+use alw_proc::Proc;
+use sparc_table::Regs;
+use std::alloc::Global;
+use std::marker::Model;
+
+/// A node of the machine: its share of the image, its contexts and cache, its home lines, and its
+/// clock (Lamport 1978).
+#[derive(Debug, Drop)]
+pub struct Node {
+    share: Parts,
+    params: Params,
+    proc: Proc,
+    side: HomeSide,
+    clock: u32,
+}
+
+impl Model for Node {
+    ghost use Rattle.alw_node.specs.Nodes.{Whole, whole_of, AreOne};
+
+    ghost Value = { Whole };
+
+    ghost view = { λ n. whole_of n.share n.params n.proc n.side n.clock };
+
+    ghost invariant = { λ n. AreOne n.share n.params n.proc n.side };
+}
+
+impl Node {
+    /// A node at the start of an image. It takes all memory that the node ever needs.
+    pub fn start(
+        alloc: Global,
+        image: &Image,
+        params: &Params,
+        node: NodeNo,
+    ) -> Result<Node, NoMemory>
+        requires { node.0 < node_count image.now }
+        ensures { IfOk result (λ n. n ≡ whole_start image.now params.now node.0) }
+    {
+        Ok(Node {
+            share: share_of(alloc, image, node)?,
+            params: *params,
+            proc: Proc::start(alloc, image, params, node)?,
+            side: HomeSide::start(alloc, image, params, node)?,
+            clock: 0,
+        })
+    }
+
+    /// An event is enabled at this node, the limit aside: it is of this node, whose clock isn't the
+    /// greatest, and nothing keeps it back. `head` is the message at the head of the link that a
+    /// delivery names; other events don't look at it.
+    pub fn may(&self, event: Event, head: Option<&Msg>) -> bool
+        ensures { result ≡ is_enabled_at self.now.parts self.now.parameters self.now.number self.now.state event (option_copied head.entry) }
+    {
+        if event.node() != self.proc.number() || self.clock == u32::MAX {
+            return false;
+        }
+        match event {
+            Event::Instr { .. } => self.proc.is_ready(),
+            Event::Handle { .. } => self.side.has_packet(),
+            Event::Deliver { from, .. } => match head {
+                Some(msg) => self.may_take_from(from, msg),
+                None => false,
+            },
+            Event::Evict { set, .. } => set < self.proc.sets() && self.proc.may_evict(set),
+        }
+    }
+
+    /// One event of the node, which is enabled, with the message that it takes: none, but for a
+    /// delivery. Its stamp is below the greatest, as that of each fit message. What is sent is in
+    /// `sent`, which has room for each node.
+    pub fn local(&mut self, event: Event, taken: Option<Msg>, sent: &mut Sends) -> Did
+        requires enabled { is_enabled_at self.old.parts self.old.parameters self.old.number self.old.state event taken ≡ true }
+        requires taken { FitsStamp taken }
+        requires room { node_count self.old.parts ≤ sent.old.room }
+        ensures node { self.new ≡ record self.old { state = (node_step self.old.parts self.old.parameters self.old.number self.old.state event taken).node } }
+        ensures sends { sent.new ≡ sent_by sent.old self.old.number (stamp_of self.old.state.clock taken) (node_step self.old.parts self.old.parameters self.old.number self.old.state event taken) }
+        ensures did { result ≡ (node_step self.old.parts self.old.parameters self.old.number self.old.state event taken).did }
+    {
+        let stamp = next_stamp(self.clock, taken);
+        sent.begin(self.proc.number(), stamp);
+        self.clock = stamp;
+        match event {
+            Event::Instr { .. } => self.proc.instr(self.share.code.words(), sent),
+            Event::Handle { .. } => self.side.handle(sent),
+            Event::Evict { set, .. } => {
+                self.proc.evict(set, sent);
+                Did::Evicted
+            }
+            Event::Deliver { .. } => {
+                let Some(msg) = taken else {
+                    return Did::Took;
+                };
+                if msg.kind.is_to_memory() {
+                    self.side.deliver(&msg, sent)
+                } else {
+                    self.proc.cache_msg(&msg, sent);
+                    Did::Took
+                }
+            }
+        }
+    }
+
+    /// The node's number.
+    pub fn number(&self) -> NodeNo
+        ensures number { result.0 ≡ self.now.number }
+        ensures stands { IsNode self.now }
+    {
+        let _stands = self.side.number();
+        self.proc.number()
+    }
+
+    /// The node's share of the image: its sizes and code, the starts of the node's contexts, and the
+    /// first bytes and Trap-Always marks of its home lines.
+    pub fn share(&self) -> &Parts
+        ensures { result.now ≡ self.now.parts }
+    {
+        &self.share
+    }
+
+    /// The parameters of the run.
+    pub fn params(&self) -> &Params
+        ensures { result.now ≡ self.now.parameters }
+    {
+        &self.params
+    }
+
+    /// The clock: the stamp of the node's last event, and 0 before the first.
+    pub fn clock(&self) -> u32
+        ensures { result ≡ self.now.state.clock }
+    {
+        self.clock
+    }
+
+    /// The current slot: the one that ran last.
+    pub fn last(&self) -> u8
+        ensures slot { result ≡ self.now.state.current }
+        ensures within { result < length self.now.state.slots }
+    {
+        self.proc.last()
+    }
+
+    /// What the context of a slot does.
+    pub fn status(&self, slot: u8) -> Status
+        requires { slot < length self.now.state.slots }
+        ensures { result ≡ (slot_at self.now.state.slots slot).status }
+    {
+        self.proc.status(slot)
+    }
+
+    /// The registers of a slot.
+    pub fn regs(&self, slot: u8) -> Regs
+        requires { slot < length self.now.state.slots }
+        ensures { result ≡ (slot_at self.now.state.slots slot).regs }
+    {
+        self.proc.regs(slot)
+    }
+
+    /// The number of slots with a hold.
+    pub fn holds(&self) -> u32
+        ensures { result ≡ weigh (λ slot. digit (is_some slot.hold)) self.now.state.slots }
+    {
+        self.proc.holds()
+    }
+
+    /// The mode of the transaction on a line. None exactly where there is none.
+    pub fn pending(&self, line: LineNo) -> Option<Mode>
+        ensures { result ≡ option_map mode_of (value_at self.now.state.transactions line.0) }
+    {
+        self.proc.pending(line)
+    }
+
+    /// The line, mode and bytes of the copy that a set holds. None exactly where it holds none.
+    pub fn cached(&self, set: u32) -> Option<(LineNo, Mode, Line)>
+        requires { set < self.now.parameters.sets }
+        ensures { result ≡ option_map cached_of (value_at self.now.state.cache set) }
+    {
+        self.proc.cached(set)
+    }
+
+    /// The entry of a line of which this node is the home.
+    pub fn home(&self, line: LineNo) -> HomeView
+        requires { home_node self.now.parts line.0 ≡ self.now.number }
+        ensures { IsViewOf result (home_at self.now.parts self.now.state line.0) }
+    {
+        self.side.home(line)
+    }
+
+    /// The packet at a place of the queue, where 0 is the front. None exactly behind its end.
+    pub fn packet(&self, i: u32) -> Option<Msg>
+        ensures { result ≡ slice_get self.now.state.packets i }
+    {
+        self.side.packet(i)
+    }
+
+    // The message at the head of the link from a node can be delivered.
+    fn may_take_from(&self, from: NodeNo, msg: &Msg) -> bool
+        ensures { result ≡ may_take_from self.now from.0 msg.now }
+    {
+        u32::from(from.0) < self.side.nodes() && self.is_fit(from, msg) && self.may_reach(msg)
+    }
+
+    // A message is fit for the link from a node: sent by that node, about a line that exists, with a
+    // stamp below the greatest, to or from the line's home.
+    fn is_fit(&self, from: NodeNo, msg: &Msg) -> bool
+        ensures { result ≡ is_fit self.now.parts from.0 self.now.number msg.now }
+    {
+        let here = self.side.number();
+        let home = msg.line.0 / u32::from(self.side.per_node());
+        let end = if msg.kind.is_to_memory() {
+            here
+        } else {
+            from
+        };
+        msg.src == from
+            && msg.line.0 < self.proc.lines()
+            && msg.stamp < u32::MAX
+            && home == u32::from(end.0)
+    }
+
+    // Nothing keeps a message on its link.
+    fn may_reach(&self, msg: &Msg) -> bool
+        ensures { result ≡ may_reach self.now.parts self.now.parameters self.now.state msg.now.line.0 (content msg.now) }
+    {
+        if msg.kind.is_to_memory() {
+            self.side.is_free(msg.line)
+        } else {
+            self.proc.may_take(msg)
+        }
+    }
+}
+
+// The stamp of an event that takes this message, at a clock that isn't the greatest.
+fn next_stamp(clock: u32, taken: Option<Msg>) -> u32
+    requires clock { clock < 4294967295 }
+    requires taken { FitsStamp taken }
+    ensures { result ≡ stamp_of clock taken }
+{
+    match taken {
+        Some(msg) => clock.max(msg.stamp) + 1,
+        None => clock + 1,
+    }
+}
