@@ -1,3 +1,4 @@
 pub mod Invalidations
 pub mod Members
 pub mod SharedWrites
+pub mod Rooms

@@ -6,3 +6,6 @@ mod sets;
 
 pub use entries::FullMap;
 pub use sets::{invalidate, sole_member};
+
+#[cfg(test)]
+mod tests;

@@ -91,3 +91,26 @@ fn three_chains(rt: HostRuntime) -> Result<(), Fail> {
     }
     Ok(())
 }
+
+// Nodes of both ends of the range join one line; they come out in ascending order.
+#[test]
+fn nodes_come_out_in_order(rt: HostRuntime) -> Result<(), Fail> {
+    let mut table = SoftDir::room(rt.alloc(), 1, 1)?;
+    assert!(rt; table.free() > 0);
+    table.add(LineNo(0), NodeNo(255));
+    assert!(rt; table.size(LineNo(0)) > 0);
+    table.add(LineNo(0), NodeNo(0));
+    assert!(rt; table.size(LineNo(0)) > 0);
+    table.add(LineNo(0), NodeNo(64));
+    assert_eq!(rt; table.size(LineNo(0)), 3);
+    let set = table.set(LineNo(0));
+    let mut rest = table.take(LineNo(0));
+    assert_eq!(rt; rest, set);
+    for node in [0, 64, 255] {
+        assert_eq!(rt; rest.lowest(), Some(NodeNo(node)));
+        rest = rest.without(NodeNo(node));
+    }
+    assert!(rt; rest.is_empty());
+    assert_eq!(rt; table.free(), 1);
+    Ok(())
+}
