@@ -1,6 +1,7 @@
 pub mod Deliveries
 pub mod Embeds
 pub mod Entries
+pub mod Given
 pub mod Handlings
 pub mod KeptMembers
 pub mod Sides

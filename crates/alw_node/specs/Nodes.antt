@@ -1,5 +1,7 @@
 -- A node: its number, its share of the image, its parameters and its state.
 use Rattle.std.specs.Prelude.{◌≡◌, ℕ, ◌*◌, ◌<◌, ◌≤◌, ◌&&◌, nat_lt, Bool, Option, Some, None, length}
+use Rattle.alw_msg.specs.declared.events.Event.{Event}
+use Rattle.alw_msg.specs.declared.events.Event.TheVariants.{Deliver}
 use Rattle.alw_msg.specs.declared.messages.Msg.{Msg}
 use Rattle.alw_msg.specs.Sending.{Sending}
 use Rattle.alw_image.specs.declared.parts.Parts.{Parts}
@@ -58,10 +60,15 @@ pub record IsNode (node : Whole) : Type 0 where
 abbrev pub sent_by : Sending → ℕ → ℕ → Stepped → Sending
 sent_by sending number stamp step = record { room = sending.room; src = number; stamp = stamp; messages = step.sends }
 
--- a message that is taken has a stamp below the greatest
+-- a message has a stamp below the greatest, if there is one
 abbrev pub FitsStamp : Option Msg → Type 0
 FitsStamp None = Unit {0}
 FitsStamp (Some msg) = msg.stamp < 4294967295
+
+-- only a delivery takes a message; one that is given with another event is let be, and its stamp isn't the greatest
+abbrev pub IsGiven : Event → Option Msg → Type 0
+IsGiven (Deliver from to) taken = Unit {0}
+IsGiven event taken = FitsStamp taken
 
 -- a message at the head of the link from a node can be delivered
 abbrev pub may_take_from : Whole → ℕ → Msg → Bool

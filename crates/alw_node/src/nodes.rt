@@ -9,7 +9,7 @@ ghost use Rattle.alw_model.specs.Messages.{home_node, is_fit};
 ghost use Rattle.alw_model.specs.NodeStates.{home_at, is_enabled_at, may_reach, stamp_of};
 ghost use Rattle.alw_model.specs.NodeSteps.{node_step};
 ghost use Rattle.alw_proc.specs.Processors.{mode_of, cached_of};
-ghost use Rattle.alw_node.specs.Nodes.{whole_start, sent_by, may_take_from, FitsStamp, IsNode};
+ghost use Rattle.alw_node.specs.Nodes.{whole_start, sent_by, may_take_from, FitsStamp, IsGiven, IsNode};
 ghost use Rattle.alw_node.specs.Views.{IsViewOf};
 
 use crate::home_sides::HomeSide;
@@ -86,11 +86,10 @@ impl Node {
     }
 
     /// One event of the node, which is enabled, with the message that it takes: none, but for a
-    /// delivery. Its stamp is below the greatest, as that of each fit message. What is sent is in
-    /// `sent`, which has room for each node.
+    /// delivery. What is sent is in `sent`, which has room for a message to each node.
     pub fn local(&mut self, event: Event, taken: Option<Msg>, sent: &mut Sends) -> Did
         requires enabled { is_enabled_at self.old.parts self.old.parameters self.old.number self.old.state event taken ≡ true }
-        requires taken { FitsStamp taken }
+        requires taken { IsGiven event taken }
         requires room { node_count self.old.parts ≤ sent.old.room }
         ensures node { self.new ≡ record self.old { state = (node_step self.old.parts self.old.parameters self.old.number self.old.state event taken).node } }
         ensures sends { sent.new ≡ sent_by sent.old self.old.number (stamp_of self.old.state.clock taken) (node_step self.old.parts self.old.parameters self.old.number self.old.state event taken) }

@@ -1,7 +1,11 @@
 -- A delivery to memory is the home side's.
 use Rattle.std.proofs.Common.{sym, ◌∙◌}
+use Rattle.alw_node.proofs.Given.{given_fits}
 use Rattle.alw_node.proofs.Wholes.{memory_step}
 use Rattle.alw_node.proofs.nodes.Node.local.Goals as goal
+
+pub next_stamp-stamp-requires-clause-taken : goal.next_stamp-stamp-requires-clause-taken
+next_stamp-stamp-requires-clause-taken c = (let whole = c.args.self.now in given_fits whole.parts whole.parameters whole.number whole.state c.args.event c.args.taken c.requires.enabled c.requires.taken)
 
 pub returns-then-is_to_memory-clause-did : goal.returns-then-is_to_memory-clause-did
 returns-then-is_to_memory-clause-did c =
