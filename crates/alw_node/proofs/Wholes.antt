@@ -1,7 +1,6 @@
 -- A delivery to memory at a node, by its home side.
-use Rattle.std.proofs.Common.{◌≡◌, ℕ, true, List, refl, sym, ap, ◌∙◌}
+use Rattle.std.proofs.Common.{◌≡◌, ℕ, true, List, sym, ap, ◌∙◌}
 use Rattle.alw_msg.specs.Kinds.{to_memory}
-use Rattle.alw_msg.specs.Sending.{Sending}
 use Rattle.alw_msg.specs.declared.messages.Msg.{Msg}
 use Rattle.alw_image.specs.declared.parts.Parts.{Parts}
 use Rattle.alw_image.specs.Parameters.{Parameters}
@@ -10,9 +9,9 @@ use Rattle.alw_msg.specs.Contents.{ForMemory, content}
 use Rattle.alw_model.specs.NodeStates.{NodeState}
 use Rattle.alw_model.specs.NodeSteps.{Stepped, deliver_by, clocked}
 use Rattle.alw_proc.specs.Homeward.{sized}
-use Rattle.alw_proc.specs.Processors.{Processor, with_messages}
+use Rattle.alw_proc.specs.Processors.{Processor}
 use Rattle.alw_node.specs.HomeSides.{Side, side_state, side_parameters, with_side}
-use Rattle.alw_node.specs.Nodes.{Whole, whole_of, state_with, AreOne, sent_by}
+use Rattle.alw_node.specs.Nodes.{Whole, whole_of, state_with, AreOne}
 use Rattle.alw_node.proofs.Deliveries.{Says, Said, says}
 use Rattle.alw_node.proofs.Embeds.{memory_embeds, home_parameters}
 

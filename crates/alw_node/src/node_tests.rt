@@ -277,13 +277,16 @@ fn a_node_asks_itself(rt: HostRuntime) -> Result<(), Fail> {
     assert_eq!(rt; step(&mut mesh, instr(0), &mut sent)?, None);
     assert_eq!(rt; last_status(&mesh), Some(Status::Halted));
     if let Some(home) = first_home(&mesh) {
-        assert_eq!(rt; (home.state, home.meta, home.acks), (State::RW, Meta::Normal, 0));
-        assert_eq!(rt; (home.hw, home.sw), (NodeSet { low: 1, high: 0 }, NodeSet::empty()));
+        assert_eq!(rt;
+            (home.state, home.meta, home.acks),
+            (State::RW, Meta::Normal, 0)
+        );
+        assert_eq!(rt;
+            (home.hw, home.sw),
+            (NodeSet { low: 1, high: 0 }, NodeSet::empty())
+        );
     }
-    let five = Line {
-        a: 5,
-        ..Line::ZERO
-    };
+    let five = Line { a: 5, ..Line::ZERO };
     assert_eq!(rt; first_copy(&mesh), Some((LineNo(0), Mode::Write, five)));
     Ok(())
 }
@@ -363,7 +366,10 @@ fn one_set(rt: HostRuntime) -> Result<(), Fail> {
     assert_eq!(rt; mesh.waiting.len(), 1);
     if let Some((from, to, msg)) = mesh.waiting.first().copied() {
         assert_eq!(rt; (from, to), (NodeNo(0), NodeNo(0)));
-        assert_eq!(rt; (msg.kind, msg.line, msg.body.a), (Kind::REPM, LineNo(0), 1));
+        assert_eq!(rt;
+            (msg.kind, msg.line, msg.body.a),
+            (Kind::REPM, LineNo(0), 1)
+        );
     }
     Ok(())
 }
@@ -434,9 +440,15 @@ fn a_line_in_progress_keeps_messages_waiting(rt: HostRuntime) -> Result<(), Fail
     ];
     assert!(rt; plays(&mut mesh, &traps, &mut sent)?);
     assert_eq!(rt; step(&mut mesh, deliver(0, 0), &mut sent)?, None);
-    assert_eq!(rt; first_home(&mesh).map(|home| home.meta), Some(Meta::Progress));
+    assert_eq!(rt;
+        first_home(&mesh).map(|home| home.meta),
+        Some(Meta::Progress)
+    );
     if let Some(node) = mesh.nodes.first() {
-        assert_eq!(rt; node.packet(0).map(|msg| (msg.kind, msg.src)), Some((Kind::RREQ, NodeNo(1))));
+        assert_eq!(rt;
+            node.packet(0).map(|msg| (msg.kind, msg.src)),
+            Some((Kind::RREQ, NodeNo(1)))
+        );
         assert_eq!(rt; node.packet(1), None);
     }
     let goes_on = [
@@ -456,7 +468,14 @@ fn sixteen_by_sixteen_nodes_start(rt: HostRuntime) -> Result<(), Fail> {
         contexts: 1,
         per_node: 4,
     };
-    let mesh = started(rt.alloc(), sizes, 256, &LINK_TO_ITSELF, &[(255, 0, 0)], &[1023])?;
+    let mesh = started(
+        rt.alloc(),
+        sizes,
+        256,
+        &LINK_TO_ITSELF,
+        &[(255, 0, 0)],
+        &[1023],
+    )?;
     assert_eq!(rt; mesh.nodes.len(), 256);
     assert_eq!(rt; first_ready(&mesh.nodes), Some(NodeNo(255)));
     if let Some(node) = mesh.nodes.last() {

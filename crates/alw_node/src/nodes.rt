@@ -1,6 +1,6 @@
-ghost use Rattle.std.specs.Prelude.{◌≡◌, ◌≤◌, ◌*◌, ◌<◌, ◌/◌, true, not, is_some, length, slice_get, option_copied, nat_lt, IfOk};
+ghost use Rattle.std.specs.Prelude.{◌≡◌, ◌≤◌, ◌<◌, true, is_some, length, slice_get, option_copied, IfOk};
 ghost use Rattle.std.specs.Option.{option_map};
-ghost use Rattle.alw_num.specs.Maps.{value_at, passes};
+ghost use Rattle.alw_num.specs.Maps.{value_at};
 ghost use Rattle.alw_num.specs.Weights.{digit, weigh};
 ghost use Rattle.alw_image.specs.Images.{node_count};
 ghost use Rattle.alw_model.specs.Contexts.{slot_at};
@@ -225,11 +225,7 @@ impl Node {
     {
         let here = self.side.number();
         let home = msg.line.0 / u32::from(self.side.per_node());
-        let end = if msg.kind.is_to_memory() {
-            here
-        } else {
-            from
-        };
+        let end = if msg.kind.is_to_memory() { here } else { from };
         msg.src == from
             && msg.line.0 < self.proc.lines()
             && msg.stamp < u32::MAX
