@@ -59,7 +59,7 @@ const OTHER: LineNo = LineNo(5);
 
 // The contexts of the node with four slots.
 fn four_slots(alloc: Global) -> Result<Contexts, Fail> {
-    let image = read_image(alloc, &FOUR_SLOTS).ok().ok_or("no image")?;
+    let image = read_image(alloc, &FOUR_SLOTS)?;
     if image.width() != 1 || image.height() != 1 {
         return Err(Fail::from("no image of one node"));
     }
