@@ -14,8 +14,7 @@ const SMALLEST: [u8; 40] = [
 // stays until it has run.
 #[test]
 fn waits_and_wakes(rt: HostRuntime) -> Result<(), Fail> {
-    let read = read_image(rt.alloc(), &SMALLEST).ok();
-    let image = read.ok_or("no image")?;
+    let image = read_image(rt.alloc(), &SMALLEST)?;
     assert_eq!(rt; image.width(), 1);
     assert_eq!(rt; image.height(), 1);
     let mut contexts = Contexts::start(&image, NodeNo(0));
