@@ -14,8 +14,7 @@ const SMALLEST: [u8; 40] = [
 // stays until it has run.
 #[test]
 fn waits_and_wakes(rt: HostRuntime) -> Result<(), Fail> {
-    let read = read_image(rt.alloc(), &SMALLEST).ok();
-    let image = read.ok_or("no image")?;
+    let image = read_image(rt.alloc(), &SMALLEST)?;
     assert_eq!(rt; image.width(), 1);
     assert_eq!(rt; image.height(), 1);
     let mut contexts = Contexts::start(&image, NodeNo(0));
@@ -59,7 +58,7 @@ const OTHER: LineNo = LineNo(5);
 
 // The contexts of the node with four slots.
 fn four_slots(alloc: Global) -> Result<Contexts, Fail> {
-    let image = read_image(alloc, &FOUR_SLOTS).ok().ok_or("no image")?;
+    let image = read_image(alloc, &FOUR_SLOTS)?;
     if image.width() != 1 || image.height() != 1 {
         return Err(Fail::from("no image of one node"));
     }

@@ -89,7 +89,7 @@ fn message(kind: Kind, line: u32, word: u32) -> Msg
 fn started(alloc: Global, image: &[u8], nodes: u8) -> Result<Proc, Fail>
     requires { length image.now < 2 ^ 32 }
 {
-    let image = read_image(alloc, image).ok().ok_or("no image")?;
+    let image = read_image(alloc, image)?;
     let params = Params::new(4, 4, 100, 0).ok_or("no parameters")?;
     if nodes == 0 || image.width() != nodes || image.height() != 1 {
         return Err(Fail::from("no image of so many nodes"));
