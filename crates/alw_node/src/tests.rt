@@ -16,7 +16,7 @@ const SMALLEST: [u8; 40] = [
 
 // The home side of the one node.
 fn started(alloc: Global) -> Result<HomeSide, Fail> {
-    let image = read_image(alloc, &SMALLEST).ok().ok_or("no image")?;
+    let image = read_image(alloc, &SMALLEST)?;
     let params = Params::new(1, 4, 100, 0).ok_or("no parameters")?;
     if image.width() != 1 || image.height() != 1 {
         return Err(Fail::from("no image of one node"));
