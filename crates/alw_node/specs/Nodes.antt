@@ -13,6 +13,7 @@ use Rattle.alw_proc.specs.Processors.{Processor}
 use Rattle.alw_node.specs.HomeSides.{Side}
 use Rattle.alw_node.specs.Shares.{share_of}
 
+-- a node
 pub record Whole : Type 0 where
   pub number : ℕ
   pub parts : Parts
@@ -27,7 +28,7 @@ whole_start parts parameters number = record { number = number; parts = share_of
 abbrev pub state_with : Processor → Side → ℕ → NodeState
 state_with p side clock = record { slots = p.slots; current = p.current; cache = p.cache; transactions = p.transactions; homes = side.homes; packets = side.packets; clock = clock }
 
--- the node that these make up
+-- the node that these make up; its sizes are the processor side's, which are the share's
 abbrev pub whole_of : Parts → Parameters → Processor → Side → ℕ → Whole
 whole_of share parameters p side clock = record {
   number = p.number;

@@ -7,8 +7,8 @@ ghost use Rattle.alw_model.specs.NodeStates.{NodeState, node_start, is_enabled_a
 ghost use Rattle.alw_model.specs.NodeSteps.{node_step};
 ghost use Rattle.alw_node.specs.Shares.{share_of};
 
-/// A node reads no more of an image than its share: by the share it starts as by the image, the same
-/// events are enabled at it, and each does the same.
+/// The definitions of one node read no more of an image than the node's share: by the share it starts
+/// as by the image, the same events are enabled at it, and each does the same.
 #[tactic(auto, using(crate::proofs::KeptMembers::start_same, crate::proofs::KeptMembers::enabled_same, crate::proofs::KeptMembers::step_same))]
 pub fn shares_are_enough()
     ensures start { (parts : Parts) (number : ℕ) → node_start (share_of parts number) number ≡ node_start parts number }

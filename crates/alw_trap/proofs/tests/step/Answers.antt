@@ -1,5 +1,5 @@
 -- There is room for a message to each node.
-use Rattle.alw_trap.proofs.Rooms.{room_for, below_by}
+use Rattle.dir_full.proofs.Rooms.{room_for, below_by}
 use Rattle.alw_trap.proofs.tests.step.Goals as goal
 
 pub act-requires-clause-room : goal.act-requires-clause-room

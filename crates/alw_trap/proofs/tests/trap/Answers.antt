@@ -1,5 +1,6 @@
 -- There is room for a message to each node.
-use Rattle.alw_trap.proofs.Rooms.{room_for, below_by, below_joined}
+use Rattle.dir_full.proofs.Rooms.{room_for, below_by}
+use Rattle.alw_trap.proofs.Rooms.{below_joined}
 use Rattle.alw_trap.proofs.tests.trap.Goals as goal
 
 pub handle-requires-clause-room : goal.handle-requires-clause-room
