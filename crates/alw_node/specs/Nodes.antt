@@ -37,7 +37,7 @@ whole_of share parameters p side clock = record {
   state = state_with p side clock;
 }
 
--- the two sides are of one node, which has this share and these parameters
+-- the two sides are of one node, which has this share, with a slot for each context, and these parameters
 pub record AreOne (share : Parts) (parameters : Parameters) (p : Processor) (side : Side) : Type 0 where
   pub width : p.width ≡ share.width
   pub height : p.height ≡ share.height
@@ -47,14 +47,16 @@ pub record AreOne (share : Parts) (parameters : Parameters) (p : Processor) (sid
   pub per_node : side.per_node ≡ p.per_node
   pub pointers : side.pointers ≡ parameters.pointers
   pub sets : p.sets ≡ parameters.sets
+  pub slots : length p.slots ≡ share.contexts
 
--- what holds of every node: it exists, its sizes are those of an image, and it has an entry for each home line
+-- what holds of every node: it exists, its sizes are those of an image, and it has a slot for each of its contexts and an entry for each home line
 pub record IsNode (node : Whole) : Type 0 where
   pub number : node.number < node_count node.parts
   pub width : node.parts.width ≤ 16
   pub height : node.parts.height ≤ 16
   pub per_node : (1 ≤ node.parts.per_node) × (node.parts.per_node ≤ 4096)
-  pub slots : length node.state.slots ≤ 4
+  pub contexts : node.parts.contexts ≤ 4
+  pub slots : length node.state.slots ≡ node.parts.contexts
   pub homes : length node.state.homes ≡ node.parts.per_node
 
 -- the sends of an event of a node at a stamp, which are a step's
