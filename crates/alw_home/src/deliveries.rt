@@ -4,10 +4,11 @@ ghost use Rattle.alw_msg.specs.Kinds.{to_memory};
 ghost use Rattle.alw_model.specs.LimitLess.{is_trapped, overflows};
 ghost use Rattle.alw_msg.specs.Contents.{content};
 ghost use Rattle.dir_full.specs.Reactions.{with_sends, HasRoom};
-ghost use Rattle.alw_home.specs.Changes.{directory_of};
+ghost use Rattle.alw_home.specs.Entries.{directory_of};
 ghost use Rattle.alw_home.specs.Deliveries.{is_overflow, is_trap, answer_of, after_delivery};
 
-use crate::changes::{Change, react};
+use crate::reactions::react;
+use alw_model::Keeping;
 use alw_msg::{Kind, Msg, Sends};
 use alw_num::{MOST_NODES, Meta, State};
 use dir_hw::{HomeEntry, MOST_POINTERS};
@@ -44,12 +45,12 @@ pub fn deliver(entry: &mut HomeEntry, pointers: u8, msg: &Msg, sent: &mut Sends)
     }
     let set = entry.pointers();
     match react(entry, set, msg, sent) {
-        Change::Joins => {
+        Keeping::Joined => {
             entry.add_pointer(msg.src, pointers);
         }
-        Change::Alone => entry.only(msg.src),
-        Change::Empties => entry.clear(),
-        Change::Stays => {}
+        Keeping::Alone => entry.only(msg.src),
+        Keeping::Emptied => entry.clear(),
+        Keeping::Kept => {}
     }
     Acted::Acted
 }

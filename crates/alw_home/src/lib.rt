@@ -1,11 +1,11 @@
 //! A home as hardware runs it: a message to memory is acted on over the hardware pointers, or traps.
 #![tactic(auto)]
 
-mod changes;
 mod deliveries;
+mod reactions;
 
-pub use changes::{Change, react};
 pub use deliveries::{Acted, deliver};
+pub use reactions::react;
 
 #[cfg(test)]
 mod tests;

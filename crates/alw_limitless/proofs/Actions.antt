@@ -12,7 +12,9 @@ use Rattle.alw_num.proofs.Sets.{join-none, none-join, add-join, none_of_count}
 use Rattle.alw_num.specs.Weights.{digit}
 use Rattle.alw_msg.specs.Contents.{ToMemory, RREQ, WREQ, REPM, UPDATE, ACKC}
 use Rattle.alw_model.specs.FullMap.{Home, Sends, row, act, sole, others, recall, recall_from, give_back, give_back_from, write_shared, acknowledge, end_read, end_write}
-use Rattle.alw_model.specs.LimitLess.{Directory, full_map_of, hardware_of, overflows, traps_in, is_trapped, is_in_progress, hardware_act, handle, kept, keeping, keeping_request, keeping_return, Keeping, Joined, Alone, Emptied, Kept}
+use Rattle.alw_model.specs.declared.steps.Keeping.{Keeping}
+use Rattle.alw_model.specs.declared.steps.Keeping.TheVariants.{Joined, Alone, Emptied, Kept}
+use Rattle.alw_model.specs.LimitLess.{Directory, full_map_of, hardware_of, overflows, traps_in, is_trapped, is_in_progress, hardware_act, handle, kept, keeping, keeping_request, keeping_return}
 use Rattle.alw_model.specs.LineInvariant.{software_by, is_shared}
 use Rattle.alw_limitless.specs.Entries.{IsSound, ActsAlike}
 
@@ -146,7 +148,8 @@ row-pointers h i st m = go st m
     go WT ACKC = counted _ h.acks (write_ended h.body (sole h.pointers))
 
 -- H joined with S, as the handler keeps them, is P after the action
-kept_pointers : (d : Directory) (i : ℕ) (k : Keeping) → join_nodes (kept d i k).0 (kept d i k).1 ≡ pointers_by (full_map_of d) i k
+kept_pointers : (d : Directory) (i : ℕ) (k : Keeping)
+    → join_nodes (kept d.hardware d.software i k).0 (kept d.hardware d.software i k).1 ≡ pointers_by (full_map_of d) i k
 kept_pointers d i Joined = none-join (add_node (join_nodes d.hardware d.software) i)
 kept_pointers d i Alone = join-none (one_node i)
 kept_pointers d i Emptied = join-none no_nodes
@@ -157,5 +160,6 @@ pub handler_acts : (d : Directory) (i : ℕ) (m : ToMemory) → ActsAlike d i m 
 handler_acts d i m =
     let h = full_map_of d in
     let after = act h i m in
-    let same : join_nodes (kept d i (keeping h i h.state m)).0 (kept d i (keeping h i h.state m)).1 ≡ after.0.pointers = kept_pointers d i (keeping h i h.state m) ∙ sym (row-pointers h i h.state m) in
+    let same : join_nodes (kept d.hardware d.software i (keeping h i h.state m)).0 (kept d.hardware d.software i (keeping h i h.state m)).1
+        ≡ after.0.pointers = kept_pointers d i (keeping h i h.state m) ∙ sym (row-pointers h i h.state m) in
     record { entry = λ k. record { state = after.0.state; pointers = same k; acks = after.0.acks; body = after.0.body }; sent = refl }

@@ -9,7 +9,9 @@ use Rattle.alw_num.proofs.Sets.{join-none}
 use Rattle.alw_num.specs.NodeSets.{no_nodes, count_nodes}
 use Rattle.alw_msg.specs.Contents.{ToMemory}
 use Rattle.alw_model.specs.FullMap.{Home, Sends, home_start, act}
-use Rattle.alw_model.specs.LimitLess.{Directory, or_always, full_map_of, is_trapped, is_in_progress, hardware_act, trapped, handle, kept, keeping, Keeping, Joined, Alone, Emptied, Kept}
+use Rattle.alw_model.specs.declared.steps.Keeping.{Keeping}
+use Rattle.alw_model.specs.declared.steps.Keeping.TheVariants.{Joined, Alone, Emptied, Kept}
+use Rattle.alw_model.specs.LimitLess.{Directory, or_always, full_map_of, is_trapped, is_in_progress, hardware_act, trapped, handle, kept, keeping}
 use Rattle.alw_limitless.specs.Entries.{IsSound, ActsAlike}
 use Rattle.alw_limitless.specs.Courses.{HomeEvent, Comes, Handles, Course, course_start, acted_with, take_in, come, run_handler, happen, happen_all, reactions, ActsAsFullMap, one_by_one}
 use Rattle.alw_limitless.proofs.Actions.{hardware_acts, handler_acts}
@@ -94,7 +96,7 @@ calm_meta : (always : Bool) (mt : Meta) → is_in_progress mt ≡ false → is_i
 calm_meta true mt e = refl
 calm_meta false mt e = e
 
-kept_calm : (d : Directory) (i : ℕ) (k : Keeping) → is_in_progress (kept d i k).2 ≡ false
+kept_calm : (d : Directory) (i : ℕ) (k : Keeping) → is_in_progress (kept d.hardware d.software i k).2 ≡ false
 kept_calm d i Joined = refl
 kept_calm d i Alone = refl
 kept_calm d i Emptied = refl

@@ -12,7 +12,9 @@ use Rattle.alw_num.specs.Weights.{digit}
 use Rattle.alw_num.proofs.Sets.{count-none, count-one, count-add, has-add, has-none, none_of_count}
 use Rattle.alw_msg.specs.Contents.{ToMemory, RREQ, WREQ, REPM, UPDATE, ACKC}
 use Rattle.alw_model.specs.FullMap.{Home, row}
-use Rattle.alw_model.specs.LimitLess.{Directory, directory_start, or_always, full_map_of, hardware_of, overflows, traps_in, is_trapped, is_in_progress, hardware_act, trapped, handle, kept, keeping, keeping_request, keeping_return, Keeping, Joined, Alone, Emptied, Kept}
+use Rattle.alw_model.specs.declared.steps.Keeping.{Keeping}
+use Rattle.alw_model.specs.declared.steps.Keeping.TheVariants.{Joined, Alone, Emptied, Kept}
+use Rattle.alw_model.specs.LimitLess.{Directory, directory_start, or_always, full_map_of, hardware_of, overflows, traps_in, is_trapped, is_in_progress, hardware_act, trapped, handle, kept, keeping, keeping_request, keeping_return}
 use Rattle.alw_model.specs.LineInvariant.{software_by, is_shared}
 use Rattle.alw_limitless.specs.Entries.{IsSound}
 use Rattle.alw_limitless.proofs.Actions.{pointers_by, row-pointers}
@@ -141,7 +143,7 @@ some_added P i = ne_eqb (count_nodes (add_node P i)) 0 (λ e.
 
 -- S after the handler, by how P is kept
 handled_fits : (d : Directory) (i : ℕ) (shared : Bool) (k : Keeping) → (k ≡ Joined → shared ≡ true) → (k ≡ Kept → IsTrue (shared || (count_nodes d.software == 0)))
-    → IsTrue (fits (or_always d.always (kept d i k).2) shared (count_nodes (kept d i k).1 == 0))
+    → IsTrue (fits (or_always d.always (kept d.hardware d.software i k).2) shared (count_nodes (kept d.hardware d.software i k).1 == 0))
 handled_fits d i shared Joined joined kept = always_fits d.always TrapWrite shared _ refl (grind (arith, joined refl, some_added (join_nodes d.hardware d.software) i)) (grind (arith, joined refl))
 handled_fits d i shared Alone joined kept = always_fits d.always Normal shared _ refl (grind (arith, nat_tests, count-none)) (grind (arith, nat_tests, count-none))
 handled_fits d i shared Emptied joined kept = always_fits d.always Normal shared _ refl (grind (arith, nat_tests, count-none)) (grind (arith, nat_tests, count-none))
@@ -151,7 +153,8 @@ handled_fits d i shared Kept joined kept = go (count_nodes d.software == 0) (kep
     go true either = always_fits d.always Normal shared true refl (grind arith) either
     go false either = always_fits d.always TrapWrite shared false refl (grind arith) either
 
-handled_few : (most : ℕ) (d : Directory) (i : ℕ) (k : Keeping) → 1 ≤ most → count_nodes d.hardware ≤ most → count_nodes (kept d i k).0 ≤ most
+handled_few : (most : ℕ) (d : Directory) (i : ℕ) (k : Keeping) → 1 ≤ most → count_nodes d.hardware ≤ most
+    → count_nodes (kept d.hardware d.software i k).0 ≤ most
 handled_few most d i Joined some few = omega (arith, count-none)
 handled_few most d i Alone some few = omega (arith, count-one i)
 handled_few most d i Emptied some few = omega (arith, count-none)

@@ -7,6 +7,8 @@ use Rattle.alw_num.specs.declared.states.Meta.{Meta}
 use Rattle.alw_num.specs.declared.states.Meta.TheVariants.{Normal, Progress, TrapWrite, TrapAlways}
 use Rattle.alw_num.specs.NodeSets.{Nodes, no_nodes, has_node, one_node, add_node, join_nodes, count_nodes}
 use Rattle.alw_msg.specs.Contents.{ToMemory, RREQ, WREQ, REPM, ACKC}
+use Rattle.alw_model.specs.declared.steps.Keeping.{Keeping}
+use Rattle.alw_model.specs.declared.steps.Keeping.TheVariants.{Joined, Alone, Emptied, Kept}
 use Rattle.alw_model.specs.FullMap.{Home, Sends, act, sole}
 
 -- an entry: state, meta state, the hardware pointers H, the software set S, the counter, the line's bytes, and whether the image lists the line as Trap-Always
@@ -72,13 +74,6 @@ hardware_act d i message =
 abbrev pub trapped : Directory → Directory
 trapped d = record d { meta = Progress }
 
--- how the handler keeps P, by what the home table does to it: a reader joins it, it becomes {i}, it becomes empty, or it stays
-pub data Keeping : Type 0 where
-  Joined : Keeping
-  Alone : Keeping
-  Emptied : Keeping
-  Kept : Keeping
-
 -- RW, a request of i: P becomes {i} where another node owns the line
 abbrev pub keeping_request : ℕ → Option ℕ → Keeping
 keeping_request i None = Kept
@@ -89,7 +84,7 @@ abbrev pub keeping_return : ℕ → Option ℕ → Keeping
 keeping_return i None = Kept
 keeping_return i (Some owner) = cond (i == owner) Emptied Kept
 
--- what the home table does to P
+-- what the home table does to P with a message of node i
 abbrev pub keeping : Home → ℕ → State → ToMemory → Keeping
 keeping h i RO RREQ = Joined
 keeping h i RO WREQ = Alone
@@ -103,11 +98,11 @@ abbrev pub meta_of : Nodes → Meta
 meta_of software = cond (count_nodes software == 0) Normal TrapWrite
 
 -- H, S and the meta state that the handler leaves, by the paper's four rules
-abbrev pub kept : Directory → ℕ → Keeping → Nodes × Nodes × Meta
-kept d i Joined = (no_nodes, add_node (join_nodes d.hardware d.software) i, TrapWrite)
-kept d i Alone = (one_node i, no_nodes, Normal)
-kept d i Emptied = (no_nodes, no_nodes, Normal)
-kept d i Kept = (d.hardware, d.software, meta_of d.software)
+abbrev pub kept : Nodes → Nodes → ℕ → Keeping → Nodes × Nodes × Meta
+kept hardware software i Joined = (no_nodes, add_node (join_nodes hardware software) i, TrapWrite)
+kept hardware software i Alone = (one_node i, no_nodes, Normal)
+kept hardware software i Emptied = (no_nodes, no_nodes, Normal)
+kept hardware software i Kept = (hardware, software, meta_of software)
 
 -- the handler's entry, from what the home table and the rules give
 abbrev pub handled : Directory → Home → Nodes × Nodes × Meta → Directory
@@ -118,4 +113,4 @@ abbrev pub handle : Directory → ℕ → ToMemory → Directory × Sends
 handle d i message =
     let home = full_map_of d in
     let after = act home i message in
-    (handled d after.0 (kept d i (keeping home i home.state message)), after.1)
+    (handled d after.0 (kept d.hardware d.software i (keeping home i home.state message)), after.1)

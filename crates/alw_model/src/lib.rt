@@ -15,4 +15,4 @@ pub use runs_of_one::{limit_ends, link_to_itself, one_set, trap_ends, two_contex
 pub use runs_of_three::{crossing_messages, one_node_in_both_sets, silent_drop, spill};
 pub use runs_of_two::{hold_until_used, progress_blocks, trap_always, two_logs_merge, two_writers};
 pub use runs_recorded::recorded_run;
-pub use steps::{Counts, Did};
+pub use steps::{Counts, Did, Keeping};

@@ -27,6 +27,16 @@ pub struct Counts {
     pub used: u64,
 }
 
+/// What the home table does to the pointers P of an entry with a message: the sender joins them, is
+/// then the only one, none is left, or they stay.
+#[derive(Clone, Copy, Debug, PartialEq, Eq)]
+pub enum Keeping {
+    Joined,
+    Alone,
+    Emptied,
+    Kept,
+}
+
 /// What an event of a node did: a turn of a slot with its outcome, a miss of a slot, a delivery on
 /// which the cache or the home's hardware acted, a delivery that trapped, a packet that was handled
 /// with its kind and the home's state before, or an eviction.

@@ -15,7 +15,9 @@ use Rattle.alw_model.specs.declared.steps.Did.{Did}
 use Rattle.alw_model.specs.declared.steps.Did.TheVariants.{Took, Packet}
 use Rattle.alw_msg.specs.Contents.{ToMemory, RREQ, WREQ, REPM, UPDATE, ACKC, ForMemory, content_by, content}
 use Rattle.alw_model.specs.FullMap.{Home, row}
-use Rattle.alw_model.specs.LimitLess.{Directory, Keeping, Joined, Alone, Emptied, Kept, keeping, overflows, traps_in, is_trapped, is_in_progress, hardware_of, hardware_act, trapped}
+use Rattle.alw_model.specs.declared.steps.Keeping.{Keeping}
+use Rattle.alw_model.specs.declared.steps.Keeping.TheVariants.{Joined, Alone, Emptied, Kept}
+use Rattle.alw_model.specs.LimitLess.{Directory, keeping, overflows, traps_in, is_trapped, is_in_progress, hardware_of, hardware_act, trapped}
 use Rattle.alw_model.specs.Messages.{to_caches}
 use Rattle.alw_model.specs.NodeSteps.{Stepped, deliver_by, at_home}
 use Rattle.alw_limitless.proofs.Soundness.{trapped_sound, hardware_sound}
@@ -23,7 +25,7 @@ use Rattle.alw_limitless.proofs.Actions.{pointers_by, row-pointers}
 use Rattle.dir_full.specs.Reactions.{with_sends, HasRoom}
 use Rattle.dir_hw.specs.declared.entries.HomeEntry.{HomeEntry}
 use Rattle.dir_soft.specs.Tables.{Table, set_of_line}
-use Rattle.alw_home.specs.Changes.{directory_of}
+use Rattle.alw_home.specs.Entries.{directory_of}
 use Rattle.alw_home.specs.Deliveries.{answer_by, answer_of, after_delivery}
 use Rattle.alw_home.specs.declared.deliveries.Acted.{Acted}
 use Rattle.alw_home.specs.declared.deliveries.Acted.TheVariants as acted

@@ -4,7 +4,7 @@ use Rattle.std.proofs.Math.Nat.{div-add-mod, mul_comm}
 use Rattle.alw_num.specs.NodeSets.{Nodes, nodes_of}
 use Rattle.dir_soft.specs.Tables.{Table, set_of_line}
 use Rattle.alw_model.specs.LimitLess.{Directory}
-use Rattle.alw_home.specs.Changes.{directory_of}
+use Rattle.alw_home.specs.Entries.{directory_of}
 use Rattle.dir_hw.specs.declared.entries.HomeEntry.{HomeEntry}
 use Rattle.alw_node.specs.declared.home_sides.HomeLine.{HomeLine}
 use Rattle.alw_node.specs.declared.views.HomeView.{HomeView}

@@ -12,16 +12,16 @@ use Rattle.alw_msg.specs.Sending.{Sending}
 use Rattle.alw_msg.specs.declared.messages.Msg.{Msg}
 use Rattle.alw_model.specs.declared.steps.Did.TheVariants.{Handled}
 use Rattle.alw_msg.specs.Contents.{ToMemory, ForMemory, content}
-use Rattle.alw_model.specs.LimitLess.{Directory, Keeping, Joined, Alone, Emptied, Kept, keeping, kept, or_always, full_map_of, is_in_progress, handle}
+use Rattle.alw_model.specs.declared.steps.Keeping.{Keeping}
+use Rattle.alw_model.specs.declared.steps.Keeping.TheVariants.{Joined, Alone, Emptied, Kept}
+use Rattle.alw_model.specs.LimitLess.{Directory, keeping, kept, or_always, full_map_of, is_in_progress, handle}
 use Rattle.alw_model.specs.Messages.{to_caches}
 use Rattle.alw_model.specs.NodeSteps.{handle_by, handle_front}
 use Rattle.alw_limitless.proofs.Soundness.{handler_sound}
-use Rattle.dir_full.specs.Reactions.{with_sends, HasRoom}
+use Rattle.dir_full.specs.Reactions.{keeping_of, with_sends, HasRoom}
 use Rattle.dir_hw.specs.declared.entries.HomeEntry.{HomeEntry}
 use Rattle.dir_soft.specs.Tables.{Table, set_or_none, set_of_line, used_lines}
-use Rattle.alw_home.specs.Changes.{directory_of, change_of}
-use Rattle.alw_home.specs.declared.changes.Change.{Change}
-use Rattle.alw_home.specs.declared.changes.Change.TheVariants as changes
+use Rattle.alw_home.specs.Entries.{directory_of}
 use Rattle.alw_trap.specs.Handling.{handler_on, table_after}
 use Rattle.alw_proc.specs.Homeward.{sized}
 use Rattle.alw_proc.specs.Processors.{with_messages}
@@ -35,7 +35,7 @@ use Rattle.alw_node.proofs.Deliveries.{Says, Said, says, Steps, steps_from, with
 
 -- ---- what the handler keeps
 
-kept_hardware : (nodes : ℕ) (d : Directory) (i : ℕ) (k : Keeping) → AreBelow nodes d.hardware → i < nodes → AreBelow nodes (kept d i k).0
+kept_hardware : (nodes : ℕ) (d : Directory) (i : ℕ) (k : Keeping) → AreBelow nodes d.hardware → i < nodes → AreBelow nodes (kept d.hardware d.software i k).0
 kept_hardware nodes d i Joined below l j has = absurd (true≢false (sym has ∙ has-none j))
 kept_hardware nodes d i Alone below l j has = let same : j ≡ i = eqb-true j i (sym (has-one i j) ∙ has) in rw same l
 kept_hardware nodes d i Emptied below l j has = absurd (true≢false (sym has ∙ has-none j))
@@ -49,7 +49,8 @@ joined_below nodes H S h s j has = go (has_node H j) refl
     go true e = h j e
     go false e = s j (sym (has-join H S j ∙ ap (λ b. b || has_node S j) e) ∙ has)
 
-kept_software : (nodes : ℕ) (d : Directory) (i : ℕ) (k : Keeping) → AreBelow nodes d.hardware → AreBelow nodes d.software → i < nodes → AreBelow nodes (kept d i k).1
+kept_software : (nodes : ℕ) (d : Directory) (i : ℕ) (k : Keeping) → AreBelow nodes d.hardware → AreBelow nodes d.software → i < nodes
+    → AreBelow nodes (kept d.hardware d.software i k).1
 kept_software nodes d i Joined h s l j has = go (j == i) refl
   where
     go : (b : Bool) → (j == i) ≡ b → j < nodes
@@ -59,7 +60,7 @@ kept_software nodes d i Alone h s l j has = absurd (true≢false (sym has ∙ ha
 kept_software nodes d i Emptied h s l j has = absurd (true≢false (sym has ∙ has-none j))
 kept_software nodes d i Kept h s l j has = s j has
 
-kept_free : (d : Directory) (i : ℕ) (k : Keeping) (always : Bool) → is_in_progress (or_always always (kept d i k).2) ≡ false
+kept_free : (d : Directory) (i : ℕ) (k : Keeping) (always : Bool) → is_in_progress (or_always always (kept d.hardware d.software i k).2) ≡ false
 kept_free d i k true = refl
 kept_free d i Joined false = refl
 kept_free d i Alone false = refl
@@ -79,11 +80,15 @@ handled_stands most nodes d i m some is l = record {
 
 -- ---- the table
 
-others_stay : (table : Table) (line : ℕ) (software : Nodes) (change : Change) (l : ℕ) → l ≢ line → set_of_line (table_after table line software change) l ≡ set_of_line table l
-others_stay table line software changes.Joins l other = ap set_or_none (value-with table.sets line software l ∙ ap (λ b. cond b (Some software) (value_at table.sets l)) (ne_eqb l line other))
-others_stay table line software changes.Alone l other = ap set_or_none (value-without table.sets line l ∙ ap (λ b. cond b None (value_at table.sets l)) (ne_eqb l line other))
-others_stay table line software changes.Empties l other = ap set_or_none (value-without table.sets line l ∙ ap (λ b. cond b None (value_at table.sets l)) (ne_eqb l line other))
-others_stay table line software changes.Stays l other = refl
+others_stay : (table : Table) (line : ℕ) (software : Nodes) (keeping : Keeping) (l : ℕ) → l ≢ line
+    → set_of_line (table_after table line software keeping) l ≡ set_of_line table l
+others_stay table line software Joined l other =
+    ap set_or_none (value-with table.sets line software l ∙ ap (λ b. cond b (Some software) (value_at table.sets l)) (ne_eqb l line other))
+others_stay table line software Alone l other =
+    ap set_or_none (value-without table.sets line l ∙ ap (λ b. cond b None (value_at table.sets l)) (ne_eqb l line other))
+others_stay table line software Emptied l other =
+    ap set_or_none (value-without table.sets line l ∙ ap (λ b. cond b None (value_at table.sets l)) (ne_eqb l line other))
+others_stay table line software Kept l other = refl
 
 keys_with : (number per_node line : ℕ) (sets : Map Nodes) (software : Nodes) → line / per_node ≡ number → ((l : ℕ) (set : Nodes) → value_at sets l ≡ Some set → l / per_node ≡ number) → (l : ℕ) (set : Nodes) → value_at (with_value sets line software) l ≡ Some set → l / per_node ≡ number
 keys_with number per_node line sets software home keys l set e = go (l == line) refl (sym (value-with sets line software l) ∙ e)
@@ -99,11 +104,13 @@ keys_without number per_node line sets keys l set e = go (l == line) (sym (value
     go true f = absurd (cc)
     go false f = keys l set f
 
-pub table_stands : (number per_node line : ℕ) (table : Table) (software : Nodes) (change : Change) → line / per_node ≡ number → IsTable number per_node table → IsTable number per_node (table_after table line software change)
-table_stands number per_node line table software changes.Joins home is = record { lines = is.lines; keys = keys_with number per_node line table.sets software home is.keys }
-table_stands number per_node line table software changes.Alone home is = record { lines = is.lines; keys = keys_without number per_node line table.sets is.keys }
-table_stands number per_node line table software changes.Empties home is = record { lines = is.lines; keys = keys_without number per_node line table.sets is.keys }
-table_stands number per_node line table software changes.Stays home is = is
+pub table_stands : (number per_node line : ℕ) (table : Table) (software : Nodes) (keeping : Keeping) → line / per_node ≡ number
+    → IsTable number per_node table → IsTable number per_node (table_after table line software keeping)
+table_stands number per_node line table software Joined home is =
+    record { lines = is.lines; keys = keys_with number per_node line table.sets software home is.keys }
+table_stands number per_node line table software Alone home is = record { lines = is.lines; keys = keys_without number per_node line table.sets is.keys }
+table_stands number per_node line table software Emptied home is = record { lines = is.lines; keys = keys_without number per_node line table.sets is.keys }
+table_stands number per_node line table software Kept home is = is
 
 -- a home line without a set finds a free place
 pub table_room : (number per_node line : ℕ) (table : Table) → 1 ≤ per_node → line / per_node ≡ number → IsTable number per_node table → value_at table.sets line ≡ None → used_lines table < table.lines
@@ -136,7 +143,9 @@ front_packet side packet rest is front = (subst (AllByRecursion (IsPacket side.n
 pub handled : (number nodes per_node most : ℕ) (homes : List HomeLine) (table after : Table) (packets rest : List Msg) (packet : Msg) (d : HomeLine) (e : HomeEntry) (sent sent' : Sending)
     → IsSide (side_of number nodes per_node most homes table packets) → packets ≡ packet ∷ rest → d ≡ slice_index_or homes (packet.line.0 % per_node) d
     → directory_of e (set_of_line after packet.line.0) d.always ≡ (handler_on (directory_of d.entry (set_of_line table packet.line.0) d.always) packet.src.0 (content packet)).0
-    → after ≡ table_after table packet.line.0 (handler_on (directory_of d.entry (set_of_line table packet.line.0) d.always) packet.src.0 (content packet)).0.software (change_of (full_map_of (directory_of d.entry (set_of_line table packet.line.0) d.always)) packet.src.0 (content packet))
+    → after ≡ table_after table packet.line.0
+        (handler_on (directory_of d.entry (set_of_line table packet.line.0) d.always) packet.src.0 (content packet)).0.software
+        (keeping_of (full_map_of (directory_of d.entry (set_of_line table packet.line.0) d.always)) packet.src.0 (content packet))
     → sent' ≡ with_sends sent packet.line.0 (handler_on (directory_of d.entry (set_of_line table packet.line.0) d.always) packet.src.0 (content packet)).1 → sent.src ≡ number → sent.messages ≡ []
     → Steps (side_of number nodes per_node most homes table packets) (side_of number nodes per_node most (slice_set homes (packet.line.0 % per_node) (home_line e d.always)) after rest) sent sent' (Handled packet.kind d.entry.state)
     (handle_front (sized per_node) number sent.stamp (side_state (side_of number nodes per_node most homes table packets)) packets)
@@ -177,7 +186,8 @@ handled number nodes per_node most homes table after packets rest packet d e sen
 
     changed : entries_from (number * per_node) (slice_set homes (packet.line.0 % per_node) (home_line e d.always)) after ≡ slice_set (entries_from (number * per_node) homes table) (packet.line.0 % per_node) (directory_of e (set_of_line after packet.line.0) d.always)
     changed = entries_set (number * per_node) homes table after (packet.line.0 % per_node) packet.line.0 (home_line e d.always) within at
-        (λ line other. ap (λ (t : Table). set_of_line t line) table_is ∙ others_stay table packet.line.0 (handler_on D' i (content packet)).0.software (change_of (full_map_of D') i (content packet)) line other)
+        (λ line other. ap (λ (t : Table). set_of_line t line) table_is
+            ∙ others_stay table packet.line.0 (handler_on D' i (content packet)).0.software (keeping_of (full_map_of D') i (content packet)) line other)
 
     by_said : Says packet.kind packet.body → Steps side (side_of number nodes per_node most (slice_set homes (packet.line.0 % per_node) (home_line e d.always)) after rest) sent sent' (Handled packet.kind d.entry.state) (handle_front (sized per_node) number sent.stamp (side_state side) packets)
     by_said (Said said content_is) =

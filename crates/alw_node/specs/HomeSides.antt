@@ -13,7 +13,7 @@ use Rattle.alw_model.specs.LimitLess.{Directory, directory_start, is_in_progress
 use Rattle.alw_model.specs.NodeStates.{NodeState}
 use Rattle.alw_limitless.specs.Entries.{IsSound}
 use Rattle.dir_soft.specs.Tables.{Table, set_of_line}
-use Rattle.alw_home.specs.Changes.{directory_of}
+use Rattle.alw_home.specs.Entries.{directory_of}
 use Rattle.alw_node.specs.declared.home_sides.HomeLine.{HomeLine}
 
 -- a home side: the node's number, the number of nodes, lines of each node, hardware pointers of an entry, the entries and the packets

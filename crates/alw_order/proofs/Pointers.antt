@@ -5,7 +5,9 @@ use Rattle.alw_num.specs.NodeSets.{Nodes, has_node, no_nodes, one_node, add_node
 use Rattle.alw_num.proofs.Sets.{has-none, has-add, has-join}
 use Rattle.alw_msg.specs.Contents.{ToMemory}
 use Rattle.alw_model.specs.FullMap.{Home, act}
-use Rattle.alw_model.specs.LimitLess.{Directory, Keeping, Joined, Alone, Emptied, Kept, full_map_of, hardware_of, hardware_act, trapped, keeping, kept, handled, handle}
+use Rattle.alw_model.specs.declared.steps.Keeping.{Keeping}
+use Rattle.alw_model.specs.declared.steps.Keeping.TheVariants.{Joined, Alone, Emptied, Kept}
+use Rattle.alw_model.specs.LimitLess.{Directory, full_map_of, hardware_of, hardware_act, trapped, keeping, kept, handled, handle}
 use Rattle.alw_line.proofs.Homes.{DestsBelow}
 use Rattle.alw_limitless.proofs.Actions.{pointers_by, row-pointers}
 use Rattle.alw_lift.proofs.Destinations.{act_below}
@@ -58,7 +60,7 @@ module _ (n i : ℕ) (here : i < n) where
   whole_below : (d : Directory) → PointsBelow n d → AreBelow n (full_map_of d).pointers
   whole_below d points = join_below n d.hardware d.software points.hardware points.software
 
-  handled_points : (d : Directory) (home : Home) (keeps : Keeping) → PointsBelow n d → PointsBelow n (handled d home (kept d i keeps))
+  handled_points : (d : Directory) (home : Home) (keeps : Keeping) → PointsBelow n d → PointsBelow n (handled d home (kept d.hardware d.software i keeps))
   handled_points d home Joined points = record { hardware = none_below n; software = add_below n i (join_nodes d.hardware d.software) here (whole_below d points) }
   handled_points d home Alone points = record { hardware = one_below n i here; software = none_below n }
   handled_points d home Emptied points = record { hardware = none_below n; software = none_below n }

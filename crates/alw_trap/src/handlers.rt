@@ -2,14 +2,15 @@ ghost use Rattle.std.specs.Prelude.{◌≡◌, ◌<◌, None, IsTrue};
 ghost use Rattle.alw_num.specs.NodeSets.{nodes_of, add_node, join_nodes};
 ghost use Rattle.alw_msg.specs.Kinds.{to_memory};
 ghost use Rattle.alw_num.specs.Maps.{value_at, with_value};
-ghost use Rattle.alw_model.specs.LimitLess.{full_map_of, or_always};
+ghost use Rattle.alw_model.specs.LimitLess.{full_map_of, kept, or_always};
 ghost use Rattle.alw_msg.specs.Contents.{content};
-ghost use Rattle.dir_full.specs.Reactions.{with_sends, HasRoom};
+ghost use Rattle.dir_full.specs.Reactions.{keeping_of, with_sends, HasRoom};
 ghost use Rattle.dir_soft.specs.Tables.{set_of_line, used_lines};
-ghost use Rattle.alw_home.specs.Changes.{directory_of, change_of};
-ghost use Rattle.alw_trap.specs.Handling.{handler_on, kept_by, table_after};
+ghost use Rattle.alw_home.specs.Entries.{directory_of};
+ghost use Rattle.alw_trap.specs.Handling.{handler_on, table_after};
 
-use alw_home::{Change, react};
+use alw_home::react;
+use alw_model::Keeping;
 use alw_msg::{Msg, Sends};
 use alw_num::{LineNo, MOST_NODES, Meta, NodeNo, NodeSet};
 use dir_hw::HomeEntry;
@@ -33,13 +34,13 @@ pub fn handle(
     ensures entry { directory_of entry.new (set_of_line soft.new packet.now.line.0) always
         ≡ (handler_on (directory_of entry.old (set_of_line soft.old packet.now.line.0) always) packet.now.src.0 (content packet.now)).0 }
     ensures table { let d = directory_of entry.old (set_of_line soft.old packet.now.line.0) always in
-        soft.new ≡ table_after soft.old packet.now.line.0 (handler_on d packet.now.src.0 (content packet.now)).0.software (change_of (full_map_of d) packet.now.src.0 (content packet.now)) }
+        soft.new ≡ table_after soft.old packet.now.line.0 (handler_on d packet.now.src.0 (content packet.now)).0.software (keeping_of (full_map_of d) packet.now.src.0 (content packet.now)) }
     ensures sends { sent.new ≡ with_sends sent.old packet.now.line.0
         (handler_on (directory_of entry.old (set_of_line soft.old packet.now.line.0) always) packet.now.src.0 (content packet.now)).1 }
 {
     let pointers = entry.pointers().union(soft.set(packet.line));
-    let change = react(entry, pointers, packet, sent);
-    let meta = keep(entry, soft, packet.line, packet.src, change);
+    let keeping = react(entry, pointers, packet, sent);
+    let meta = keep(entry, soft, packet.line, packet.src, keeping);
     entry.meta = unless_listed(always, meta);
 }
 
@@ -56,31 +57,31 @@ fn keep(
     soft: &mut SoftDir,
     line: LineNo,
     sender: NodeNo,
-    change: Change,
+    keeping: Keeping,
 ) -> Meta
     requires node { sender.0 < MOST_NODES }
     requires free { value_at soft.old.sets line.0 ≡ None → used_lines soft.old < soft.old.lines }
-    ensures entry { entry.new ≡ record entry.old { pointers = (kept_by entry.old.pointers (set_of_line soft.old line.0) sender.0 change).0 } }
-    ensures table { soft.new ≡ table_after soft.old line.0 (kept_by entry.old.pointers (set_of_line soft.old line.0) sender.0 change).1 change }
-    ensures meta { result ≡ (kept_by entry.old.pointers (set_of_line soft.old line.0) sender.0 change).2 }
+    ensures entry { entry.new ≡ record entry.old { pointers = (kept entry.old.pointers (set_of_line soft.old line.0) sender.0 keeping).0 } }
+    ensures table { soft.new ≡ table_after soft.old line.0 (kept entry.old.pointers (set_of_line soft.old line.0) sender.0 keeping).1 keeping }
+    ensures meta { result ≡ (kept entry.old.pointers (set_of_line soft.old line.0) sender.0 keeping).2 }
 {
-    match change {
-        Change::Joins => {
+    match keeping {
+        Keeping::Joined => {
             spill(soft, line, entry.pointers(), sender);
             entry.clear();
             Meta::TrapWrite
         }
-        Change::Alone => {
+        Keeping::Alone => {
             soft.take(line);
             entry.only(sender);
             Meta::Normal
         }
-        Change::Empties => {
+        Keeping::Emptied => {
             soft.take(line);
             entry.clear();
             Meta::Normal
         }
-        Change::Stays => {
+        Keeping::Kept => {
             if soft.size(line) == 0 {
                 Meta::Normal
             } else {

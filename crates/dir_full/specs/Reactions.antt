@@ -5,7 +5,10 @@ use Rattle.alw_num.specs.declared.states.State.{State}
 use Rattle.alw_num.specs.declared.states.State.TheVariants.{RT, WT}
 use Rattle.alw_num.specs.NodeSets.{Nodes, has_node}
 use Rattle.alw_msg.specs.Sending.{Sending}
+use Rattle.alw_model.specs.declared.steps.Keeping.{Keeping}
+use Rattle.alw_model.specs.declared.steps.Keeping.TheVariants.{Kept}
 use Rattle.alw_model.specs.FullMap.{Home, Sends, act, unlisted, sole, end_read, end_write}
+use Rattle.alw_model.specs.LimitLess.{keeping}
 use Rattle.alw_msg.specs.Contents.{Content, ForMemory, ForCache}
 use Rattle.alw_model.specs.Messages.{to_caches}
 
@@ -13,6 +16,11 @@ use Rattle.alw_model.specs.Messages.{to_caches}
 abbrev pub reaction : Home → ℕ → Content → Home × Sends
 reaction home i (ForMemory said) = act home i said
 reaction home i (ForCache said) = unlisted home
+
+-- what becomes of P with what a message of node i says: one to a cache leaves it
+abbrev pub keeping_of : Home → ℕ → Content → Keeping
+keeping_of home i (ForMemory said) = keeping home i home.state said
+keeping_of home i (ForCache said) = Kept
 
 -- a transaction ends, by its state, with the body as it then is
 abbrev pub ended : Home → Line → State → Home × Sends

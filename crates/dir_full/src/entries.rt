@@ -2,10 +2,12 @@ ghost use Rattle.std.specs.Prelude.{◌≡◌, ◌<◌, [], ◌∷◌, IsTrue, O
 ghost use Rattle.alw_num.specs.NodeSets.{nodes_of, drop_node};
 ghost use Rattle.alw_msg.specs.Kinds.{to_memory};
 ghost use Rattle.alw_model.specs.FullMap.{home_start, write_shared, recall, give_back, others, sole, acknowledge};
+ghost use Rattle.alw_model.specs.LimitLess.{keeping_request, keeping_return};
 ghost use Rattle.alw_msg.specs.Contents.{content};
-ghost use Rattle.dir_full.specs.Reactions.{reaction, ended, with_sends, HasRoom};
+ghost use Rattle.dir_full.specs.Reactions.{reaction, keeping_of, ended, with_sends, HasRoom};
 
 use crate::sets::{invalidate, sole_member};
+use alw_model::Keeping;
 use alw_msg::{Kind, Msg, Sends};
 use alw_num::{Line, MOST_NODES, NodeSet, State};
 use std::marker::Model;
@@ -44,6 +46,18 @@ impl FullMap {
         }
     }
 
+    /// The entry with this state, these pointers P, this counter and these bytes.
+    pub fn of(state: State, pointers: NodeSet, acks: u32, body: Line) -> FullMap
+        ensures { result ≡ record { state = state; pointers = nodes_of pointers; acks = acks; body = body } }
+    {
+        FullMap {
+            state,
+            pointers,
+            acks,
+            body,
+        }
+    }
+
     pub fn state(&self) -> State
         ensures { result ≡ self.now.state }
     {
@@ -72,30 +86,45 @@ impl FullMap {
     }
 
     /// What the home does with a message to memory, by the home table. What it sends is appended to
-    /// `sent`.
-    pub fn act(&mut self, msg: &Msg, sent: &mut Sends)
+    /// `sent`; the answer says what becomes of P.
+    pub fn act(&mut self, msg: &Msg, sent: &mut Sends) -> Keeping
         requires to_memory { IsTrue (to_memory msg.now.kind) }
         requires node { msg.now.src.0 < MOST_NODES }
         requires room { HasRoom self.old.pointers msg.now.src.0 sent.old }
         ensures entry { self.new ≡ (reaction self.old msg.now.src.0 (content msg.now)).0 }
         ensures sends { sent.new ≡ with_sends sent.old msg.now.line.0 (reaction self.old msg.now.src.0 (content msg.now)).1 }
+        ensures keeping { result ≡ keeping_of self.old msg.now.src.0 (content msg.now) }
     {
         match (self.state, msg.kind) {
             (State::RO, Kind::RREQ) => {
                 self.pointers = self.pointers.with(msg.src);
                 sent.push(msg.src, Kind::RDATA, msg.line, self.body);
+                Keeping::Joined
             }
-            (State::RO, Kind::WREQ) => self.write_shared(msg, sent),
+            (State::RO, Kind::WREQ) => {
+                self.write_shared(msg, sent);
+                Keeping::Alone
+            }
             (State::RW, Kind::RREQ) => self.recall(State::RT, msg, sent),
             (State::RW, Kind::WREQ) => self.recall(State::WT, msg, sent),
             (State::RW, Kind::REPM) => self.give_back(msg),
             (State::RT | State::WT, Kind::RREQ | Kind::WREQ) => {
                 sent.push(msg.src, Kind::BUSY, msg.line, Line::ZERO);
+                Keeping::Kept
             }
-            (State::RT | State::WT, Kind::REPM) => self.body = msg.body,
-            (State::RT | State::WT, Kind::UPDATE) => self.end(msg.body, msg, sent),
-            (State::RT | State::WT, Kind::ACKC) => self.acknowledge(msg, sent),
-            _ => {}
+            (State::RT | State::WT, Kind::REPM) => {
+                self.body = msg.body;
+                Keeping::Kept
+            }
+            (State::RT | State::WT, Kind::UPDATE) => {
+                self.end(msg.body, msg, sent);
+                Keeping::Kept
+            }
+            (State::RT | State::WT, Kind::ACKC) => {
+                self.acknowledge(msg, sent);
+                Keeping::Kept
+            }
+            _ => Keeping::Kept,
         }
     }
 
@@ -119,33 +148,39 @@ impl FullMap {
     }
 
     // Read-Write, a request: an INV goes to the owner, where that is another node.
-    fn recall(&mut self, state: State, msg: &Msg, sent: &mut Sends)
+    fn recall(&mut self, state: State, msg: &Msg, sent: &mut Sends) -> Keeping
         requires node { msg.now.src.0 < MOST_NODES }
         requires room { HasRoom self.old.pointers msg.now.src.0 sent.old }
         ensures entry { self.new ≡ (recall self.old msg.now.src.0 state (sole self.old.pointers)).0 }
         ensures sends { sent.new ≡ with_sends sent.old msg.now.line.0 (recall self.old msg.now.src.0 state (sole self.old.pointers)).1 }
+        ensures keeping { result ≡ keeping_request msg.now.src.0 (sole self.old.pointers) }
     {
-        let Some(owner) = sole_member(self.pointers) else {
-            return;
-        };
-        if msg.src != owner {
-            self.state = state;
-            self.pointers = NodeSet::empty().with(msg.src);
-            self.acks = 1;
-            sent.push(owner, Kind::INV, msg.line, Line::ZERO);
+        match sole_member(self.pointers) {
+            Some(owner) if owner != msg.src => {
+                self.state = state;
+                self.pointers = NodeSet::empty().with(msg.src);
+                self.acks = 1;
+                sent.push(owner, Kind::INV, msg.line, Line::ZERO);
+                Keeping::Alone
+            }
+            _ => Keeping::Kept,
         }
     }
 
     // Read-Write, REPM: the line comes back, where the owner sends it.
-    fn give_back(&mut self, msg: &Msg)
-        ensures { self.new ≡ (give_back self.old msg.now.src.0 msg.now.body (sole self.old.pointers)).0 }
+    fn give_back(&mut self, msg: &Msg) -> Keeping
+        ensures entry { self.new ≡ (give_back self.old msg.now.src.0 msg.now.body (sole self.old.pointers)).0 }
+        ensures keeping { result ≡ keeping_return msg.now.src.0 (sole self.old.pointers) }
     {
-        if sole_member(self.pointers) == Some(msg.src) {
-            self.state = State::RO;
-            self.pointers = NodeSet::empty();
-            self.body = msg.body;
+        if sole_member(self.pointers) != Some(msg.src) {
+            return Keeping::Kept;
         }
+        self.state = State::RO;
+        self.pointers = NodeSet::empty();
+        self.body = msg.body;
+        Keeping::Emptied
     }
+
     // The last answer came, with the body as it then is: the line goes to the node that asked.
     fn end(&mut self, body: Line, msg: &Msg, sent: &mut Sends)
         requires empty { sent.old.messages ≡ [] }

@@ -2,6 +2,7 @@ ghost use Rattle.std.specs.Prelude.{◌≡◌, ◌<◌, IsTrue};
 ghost use Rattle.alw_msg.specs.Kinds.{to_memory};
 
 use crate::{FullMap, invalidate, sole_member};
+use alw_model::Keeping;
 use alw_msg::{Kind, Msg, Sends};
 use alw_num::{Line, LineNo, MOST_NODES, NodeNo, NodeSet, State};
 use std::alloc::Global;
@@ -27,7 +28,7 @@ fn set_of(nodes: &[u16]) -> NodeSet {
 }
 
 // The entry of line 3 acts on a message of a node, whose line has this first word.
-fn acts(entry: &mut FullMap, kind: Kind, node: u16, word: u32, sent: &mut Sends)
+fn acts(entry: &mut FullMap, kind: Kind, node: u16, word: u32, sent: &mut Sends) -> Keeping
     requires to_memory { IsTrue (to_memory kind) }
     requires node { node < MOST_NODES }
     requires room { sent.old.room ≡ 256 }
@@ -42,7 +43,7 @@ fn acts(entry: &mut FullMap, kind: Kind, node: u16, word: u32, sent: &mut Sends)
     };
     sent.begin(NodeNo(5), 9);
     let _pointers = entry.pointers();
-    entry.act(&msg, sent);
+    entry.act(&msg, sent)
 }
 
 // The entry has this state, this P, this counter and this first word.
@@ -95,7 +96,10 @@ fn read_only(rt: HostRuntime) -> Result<(), Fail> {
     let mut sent = Sends::room(rt.alloc(), 256)?;
     let mut entry = FullMap::start(line_of(6));
     assert!(rt; stands(&entry, State::RO, &[], 0, 6));
-    acts(&mut entry, Kind::RREQ, 255, 0, &mut sent);
+    assert_eq!(rt;
+        acts(&mut entry, Kind::RREQ, 255, 0, &mut sent),
+        Keeping::Joined
+    );
     assert!(rt; stands(&entry, State::RO, &[255], 0, 6));
     assert!(rt; are_sent(&sent, &[(255, Kind::RDATA, 6)]));
     acts(&mut entry, Kind::RREQ, 0, 0, &mut sent);
@@ -103,7 +107,10 @@ fn read_only(rt: HostRuntime) -> Result<(), Fail> {
     assert!(rt; stands(&entry, State::RO, &[0, 64, 255], 0, 6));
     let unlisted = [Kind::REPM, Kind::UPDATE, Kind::ACKC];
     assert!(rt; stays(rt.alloc(), &mut entry, &unlisted, 64)?);
-    acts(&mut entry, Kind::WREQ, 64, 0, &mut sent);
+    assert_eq!(rt;
+        acts(&mut entry, Kind::WREQ, 64, 0, &mut sent),
+        Keeping::Alone
+    );
     assert!(rt; stands(&entry, State::WT, &[64], 2, 6));
     assert!(rt; are_sent(&sent, &[(0, Kind::INV, 0), (255, Kind::INV, 0)]));
     let mut alone = FullMap::start(line_of(6));
@@ -125,7 +132,10 @@ fn read_write(rt: HostRuntime) -> Result<(), Fail> {
     let unlisted = [Kind::RREQ, Kind::WREQ, Kind::UPDATE, Kind::ACKC];
     assert!(rt; stays(rt.alloc(), &mut entry, &unlisted, 1)?);
     assert!(rt; stays(rt.alloc(), &mut entry, &[Kind::REPM], 2)?);
-    acts(&mut entry, Kind::REPM, 1, 7, &mut sent);
+    assert_eq!(rt;
+        acts(&mut entry, Kind::REPM, 1, 7, &mut sent),
+        Keeping::Emptied
+    );
     assert!(rt; stands(&entry, State::RO, &[], 0, 7));
     assert!(rt; sent.is_empty());
     for (kind, state) in [(Kind::RREQ, State::RT), (Kind::WREQ, State::WT)] {

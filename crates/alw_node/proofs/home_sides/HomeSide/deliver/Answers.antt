@@ -4,7 +4,7 @@ use Rattle.alw_num.specs.NodeSets.{Nodes, count_nodes}
 use Rattle.alw_model.specs.LimitLess.{Directory}
 use Rattle.dir_full.specs.Reactions.{HasRoom}
 use Rattle.dir_soft.specs.Tables.{set_of_line}
-use Rattle.alw_home.specs.Changes.{directory_of}
+use Rattle.alw_home.specs.Entries.{directory_of}
 use Rattle.alw_node.specs.declared.home_sides.HomeLine.{HomeLine}
 use Rattle.alw_node.specs.Insides.{side_of}
 use Rattle.alw_node.proofs.Entries.{length_entries, entry_read, line_is}

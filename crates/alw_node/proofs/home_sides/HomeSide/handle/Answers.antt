@@ -3,9 +3,9 @@ use Rattle.std.proofs.Common.{◌≡◌, ◌<◌, ◌*◌, ◌%◌, ◌∷◌, l
 use Rattle.alw_num.specs.NodeSets.{join_nodes}
 use Rattle.alw_model.specs.LimitLess.{Directory, is_in_progress, full_map_of}
 use Rattle.alw_msg.specs.Contents.{content}
-use Rattle.dir_full.specs.Reactions.{HasRoom}
+use Rattle.dir_full.specs.Reactions.{keeping_of, HasRoom}
 use Rattle.dir_soft.specs.Tables.{set_of_line}
-use Rattle.alw_home.specs.Changes.{directory_of, change_of}
+use Rattle.alw_home.specs.Entries.{directory_of}
 use Rattle.alw_trap.specs.Handling.{handler_on}
 use Rattle.alw_node.specs.declared.home_sides.HomeLine.{HomeLine}
 use Rattle.alw_node.specs.HomeSides.{entry_at, IsTable}
@@ -103,7 +103,9 @@ invariant_of-self-2 c =
     let steps = handled inside.number.0 inside.nodes inside.per_node inside.pointers inside.homes.items inside.soft c.handle.new.soft inside.packets.items rest packet c.index_mut-home.result.now c.handle.new.entry c.args.sent.now c.handle.new.sent
     is front read c.handle.ensures.entry c.handle.ensures.table c.handle.ensures.sends begun.by begun.empty in
     let d = directory_of c.index_mut-home.result.now.entry (set_of_line inside.soft packet.line.0) c.index_mut-home.result.now.always in
-    let table = subst (IsTable inside.number.0 inside.per_node) (sym c.handle.ensures.table) (table_stands inside.number.0 inside.per_node packet.line.0 inside.soft (handler_on d packet.src.0 (content packet)).0.software (change_of (full_map_of d) packet.src.0 (content packet)) one.home c.self.invariant.table_is) in
+    let table = subst (IsTable inside.number.0 inside.per_node) (sym c.handle.ensures.table)
+        (table_stands inside.number.0 inside.per_node packet.line.0 inside.soft (handler_on d packet.src.0 (content packet)).0.software
+        (keeping_of (full_map_of d) packet.src.0 (content packet)) one.home c.self.invariant.table_is) in
     rw c.from.ensures (record { side = steps.stands; table_is = table; room = omega (arith, c.self.invariant.room, c.in-Some.ensures.capacity) })
 
 pub returns-clause-node : goal.returns-clause-node

@@ -1,7 +1,7 @@
 -- What is told of an entry is the entry's.
 use Rattle.std.proofs.Common.{◌≡◌, ◌<◌, ◌*◌, ◌/◌, ◌%◌, length, refl, sym, ap, ◌∙◌, arith}
 use Rattle.dir_soft.specs.Tables.{set_of_line}
-use Rattle.alw_home.specs.Changes.{directory_of}
+use Rattle.alw_home.specs.Entries.{directory_of}
 use Rattle.alw_node.specs.declared.home_sides.HomeLine.{HomeLine}
 use Rattle.alw_node.proofs.Entries.{length_entries, entry_read, line_is, shows}
 use Rattle.alw_node.proofs.home_sides.HomeSide.home.Goals as goal
