@@ -1,38 +1,13 @@
 -- A home acts on a message of a node that exists: its pointers stay nodes that exist, and what it sends goes to such nodes.
-use Rattle.std.proofs.Common.{◌≡◌, ℕ, ◌<◌, ◌==◌, Bool, true, false, cond, ◌||◌, refl, sym, subst, ◌∙◌}
-use Rattle.std.proofs.lemmas.Bool.{eqb-true, false≢true}
-use Rattle.alw_num.specs.NodeSets.{Nodes, has_node, no_nodes, one_node, add_node, join_nodes}
-use Rattle.alw_num.proofs.Sets.{has-none, has-add, has-join}
+use Rattle.std.proofs.Common.{◌≡◌, ℕ, ◌<◌, sym, subst}
+use Rattle.alw_num.specs.NodeSets.{AreBelow, no_nodes, join_nodes}
+use Rattle.alw_num.proofs.Sets.{none_below, add_below, one_below, join_below}
 use Rattle.alw_msg.specs.Contents.{ToMemory}
 use Rattle.alw_model.specs.FullMap.{Home, act}
 use Rattle.alw_model.specs.LimitLess.{Directory, Keeping, Joined, Alone, Emptied, Kept, full_map_of, hardware_of, hardware_act, trapped, keeping, kept, handled, handle}
 use Rattle.alw_line.proofs.Homes.{DestsBelow}
 use Rattle.alw_limitless.proofs.Actions.{pointers_by, row-pointers}
 use Rattle.alw_lift.proofs.Destinations.{act_below}
-
--- each member of a set is below a number
-abbrev pub AreBelow : ℕ → Nodes → Type 0
-AreBelow n set = (k : ℕ) → has_node set k ≡ true → k < n
-
-none_below : (n : ℕ) → AreBelow n no_nodes
-none_below n k has = absurd (false≢true (sym (has-none k) ∙ has))
-
-add_below : (n i : ℕ) (set : Nodes) → i < n → AreBelow n set → AreBelow n (add_node set i)
-add_below n i set l below k has = go (k == i) refl (sym (has-add set i k) ∙ has)
-  where
-    go : (b : Bool) → (k == i) ≡ b → cond b true (has_node set k) ≡ true → k < n
-    go true same is = rw (eqb-true k i same) l
-    go false other is = below k is
-
-one_below : (n i : ℕ) → i < n → AreBelow n (one_node i)
-one_below n i l = add_below n i no_nodes l (none_below n)
-
-join_below : (n : ℕ) (one other : Nodes) → AreBelow n one → AreBelow n other → AreBelow n (join_nodes one other)
-join_below n one other first second k has = go (has_node one k) refl (sym (has-join one other k) ∙ has)
-  where
-    go : (b : Bool) → has_node one k ≡ b → (b || has_node other k) ≡ true → k < n
-    go true is either = first k is
-    go false is either = second k either
 
 -- the pointers of a home's entry are below a number
 pub record PointsBelow (n : ℕ) (d : Directory) : Type 0 where

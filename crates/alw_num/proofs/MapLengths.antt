@@ -1,23 +1,17 @@
 -- How many entries a finite map has after a change.
-use Rattle.std.proofs.Common.{◌≡◌, ℕ, ◌+◌, ◌<◌, T, Some, None, List, [], ◌∷◌, length, refl, arith}
+use Rattle.std.proofs.Common.{◌≡◌, ℕ, ◌+◌, T, Some, None, List, [], ◌∷◌, length, refl, arith}
 use Rattle.std.proofs.lemmas.Bool.Decides.{nat_tests}
+use Rattle.std.proofs.lemmas.Option.{none-some}
 use Rattle.alw_num.specs.Maps.{Map, ascends_from, put, taken, found, empty_map, value_at, with_value, without_value}
-
--- below all keys there is no value
-not_below : {X : Type 0} (at low : ℕ) (entries : List (ℕ × X)) → at < low → T (ascends_from low entries) → found at entries ≡ None
-not_below at low [] l a = refl
-not_below at low (entry ∷ rest) l a = grind (arith, nat_tests, not_below at (entry.0 + 1) rest)
-
-some_is_not : {X : Type 0} (x : X) → Some x ≡ None → ⊥
-some_is_not x e = cc
+use Rattle.alw_num.proofs.MapLaws.{not_below}
 
 length-put_new : {X : Type 0} (key : ℕ) (value : X) (entries : List (ℕ × X)) → found key entries ≡ None → length (put key value entries) ≡ length entries + 1
 length-put_new key value [] none = omega arith
-length-put_new {X} key value (entry ∷ rest) none = grind (arith, nat_tests, length-put_new key value rest, some_is_not entry.1)
+length-put_new {X} key value (entry ∷ rest) none = grind (arith, nat_tests, length-put_new key value rest, none-some entry.1)
 
 length-put_same : {X : Type 0} (key : ℕ) (value old : X) (low : ℕ) (entries : List (ℕ × X)) → T (ascends_from low entries) → found key entries ≡ Some old → length (put key value entries) ≡ length entries
 length-put_same key value old low [] a some = absurd (cc)
-length-put_same key value old low (entry ∷ rest) a some = grind (arith, nat_tests, length-put_same key value old (entry.0 + 1) rest, not_below key (entry.0 + 1) rest, some_is_not old)
+length-put_same key value old low (entry ∷ rest) a some = grind (arith, nat_tests, length-put_same key value old (entry.0 + 1) rest, not_below key (entry.0 + 1) rest, none-some old)
 
 length-taken : {X : Type 0} (key : ℕ) (old : X) (entries : List (ℕ × X)) → found key entries ≡ Some old → length (taken key entries) + 1 ≡ length entries
 length-taken key old [] some = absurd (cc)
