@@ -8,7 +8,7 @@ use alw_image::{Image, Params};
 use alw_model::Counts;
 use alw_num::NoMemory;
 use alw_solo::{Ended, TrapAt};
-use alw_text::Text;
+use alw_text::{Spell, Text};
 
 /// The seven lines that a summary has too.
 #[tactic(auto, unfolding(crate::specs::Reports::summary_text))]
