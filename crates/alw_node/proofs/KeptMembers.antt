@@ -29,7 +29,8 @@ use Rattle.alw_model.specs.Messages.{is_fit}
 use Rattle.alw_msg.specs.Events.{node_of}
 use Rattle.alw_model.specs.NodeStates.{NodeState, node_start, home_at, may_reach, may, is_enabled_at, stamp_of}
 use Rattle.alw_model.specs.NodeSteps.{access, instr_by, instr, at_home, deliver_by, handle_by, handle_front, event_at, clocked, node_step}
-use Rattle.alw_node.specs.Shares.{is_line_of, is_body_of, is_start_of, share_of}
+use Rattle.alw_image.specs.Nodes.{is_line_of, is_body_of, is_start_of}
+use Rattle.alw_node.specs.Shares.{share_of}
 
 -- ---- the loops
 
