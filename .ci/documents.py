@@ -9,6 +9,7 @@ What is tested:
   that 'Left open' speaks of want of memory where a public function may answer nothing but that.
 - README.md, docs/ and each crate's README: each name in `code` that looks like one of the repository's is declared in it,
   and each path is there. CHANGES.md may name what is gone.
+- the manual page, the completions, the launcher's help and README.md have the command words of alw_config, and no other options.
 - each edit still fits: its old text stands once in its file.
 - docs/ARCHITECTURE.md has each crate of crates.txt, and no other.
 
@@ -373,6 +374,37 @@ def check_fit(findings, edit, crate):
         texts[name] = texts[name].replace(old, new) if old else texts[name]
 
 
+LAUNCHER = {'--help', '--version', '--unproved'}
+QUOTED = re.compile(r'"(-?-?[a-z]+)"')
+
+
+def command_words():
+    """The words that alw_config's table of commands and options has: all that stands in quotes in its definitions and code."""
+    crate = ROOT / 'crates' / 'alw_config'
+    files = [*crate.glob('specs/**/*.antt'), *(file for file in crate.glob('src/**/*.rt') if 'tests' not in file.stem)]
+    return {word for file in files for word in QUOTED.findall(file.read_text())}
+
+
+def word_texts():
+    """The texts that say the command words, each with its file."""
+    launcher = (ROOT / 'alewife').read_text()
+    yield ROOT / 'alewife', launcher.partition("<<'HELP'")[2].partition('\nHELP\n')[0]
+    yield ROOT / 'README.md', (ROOT / 'README.md').read_text()
+    for file in (ROOT / 'docs' / 'alewife.1', *sorted((ROOT / 'docs' / 'completions').iterdir())):
+        yield file, file.read_text().replace('\\-', '-') if file.is_file() else ''
+
+
+def check_words(findings):
+    """Each text has each of the words, and no option that is neither in the table nor the launcher's."""
+    wanted = command_words() | LAUNCHER
+    for file, text in word_texts():
+        said = set(re.findall(r'(?<![\w-])(?:--)?[a-z]+(?![\w-])', text))
+        for word in sorted(wanted - said):
+            findings.say(file, 0, f"doesn't say the word {word}")
+        for word in sorted(word for word in said - wanted if word.startswith('--')):
+            findings.say(file, 0, f'has the option {word}, which no command takes')
+
+
 def check_architecture(findings, repository):
     """crates.txt, the folders of crates/ and the table of docs/ARCHITECTURE.md have the same crates."""
     listed = re.findall(r'^(\w+)(?: \w+=?\w*)*:', (ROOT / 'crates.txt').read_text(), re.M)
@@ -405,6 +437,7 @@ def main():
     for file, folder in documents(repository):
         check_names(findings, file, repository, folder)
     check_architecture(findings, repository)
+    check_words(findings)
     if findings.count:
         print(f'documents: {findings.count} findings')
     return 1 if findings.count else 0
