@@ -30,7 +30,7 @@ MAP_TABLE = ['promise', 'function, clause', 'crate', 'edit that is refused']
 OUTSIDE = set('''
     Read Write Model Value Vec String Option Some None Result Ok Err LinkedList Global push_reserved extend_from_slice
     from_be_bytes strip_prefix split_at to_le_bytes Reverse
-    main src/ specs/ proofs/ specs proofs must-fail/ asm yes no where pub renice
+    main src/ specs/ proofs/ specs proofs must-fail/ asm yes no where pub mod renice
     FinMap auto refl grind omega simp cc rw ap elim sym subst search using unfolding unfoldable abbrev plant rt
     nat_tests arith slice_index_or common_steps IsPermutation eqb-true eqb option_copied filter take vec_capacity
     Consumes IsAtEnd Keeps Appends IfOk
@@ -348,8 +348,10 @@ def check_names(findings, file, repository, folder):
 
 
 def is_there(path, folder):
-    """Whether a path is there, from the top, from crates/ or from the document's own folder; .antt may be left out."""
-    bases = (ROOT, ROOT / 'crates', folder, folder / 'specs')
+    """Whether a path is there, from the top, from crates/ or from the crate of a README, else from any crate; .antt may be left out."""
+    crates = ROOT / 'crates'
+    own = [folder, folder / 'specs'] if folder.parent == crates else [*crates.iterdir()]
+    bases = (ROOT, crates, *own)
     return path + '/' in OUTSIDE or any(list(base.glob(path + end)) for base in bases for end in ('', '.antt'))
 
 
