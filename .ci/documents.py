@@ -28,12 +28,9 @@ MAP_TABLE = ['promise', 'function, clause', 'crate', 'edit that is refused']
 
 # Words in `code` that the repository doesn't declare: of Rust and its library, of the toolchain, and of the shell.
 OUTSIDE = set('''
-    Read Write Model Value Vec String Option Some None Result Ok Err LinkedList Global push_reserved extend_from_slice
-    from_be_bytes strip_prefix split_at to_le_bytes Reverse
-    main src/ specs/ proofs/ specs proofs must-fail/ asm yes no where pub mod renice
-    FinMap auto refl grind omega simp cc rw ap elim sym subst search using unfolding unfoldable abbrev plant rt
-    nat_tests arith slice_index_or common_steps IsPermutation eqb-true eqb option_copied filter take vec_capacity
-    Consumes IsAtEnd Keeps Appends IfOk
+    Model Option Some None Result Ok Err Vec String extend_from_slice from_be_bytes strip_prefix split_at where pub mod
+    Appends Consumes IsAtEnd Keeps IsPermutation FinMap take filter eqb-true arith nat_tests yes no
+    auto using unfolding unfoldable abbrev refl sym subst ap rw simp cc elim search omega grind rt plant renice asm
 '''.split())
 
 
@@ -59,9 +56,8 @@ class Function:
     clauses: list = field(default_factory=list)
 
 
-FUNCTION = re.compile(r'^\s*(pub )?(?:pub\(crate\) )?(?:const |unsafe )*fn (\w+)')
-OWNER = re.compile(r'^(?:pub |pub\(crate\) )?(?:impl(?:<[^{]*?>)? (?:\w+(?:<.*?>)? for )?|trait )(\w+)')
-PUBLIC_OWNER = re.compile(r'^(?:pub trait|impl(?:<[^{]*?>)? \w+(?:<.*?>)? for )')
+FUNCTION = re.compile(r'^ *(pub )?(?:pub\(crate\) )?(?:const |unsafe )*fn (\w+)')
+BLOCK = re.compile(r'^(pub )?(?:pub\(crate\) )?(?:(trait)|impl(?:<[^{]*?>)?(?: \w+(?:<.*?>)? (for))?) (\w+)')
 CLAUSE = re.compile(r'^\s*(ensures|requires)\b *(\w*) *\{', re.M)
 
 
@@ -75,29 +71,30 @@ def braced(text, start):
     return text[start + 1:]
 
 
-def functions_of(file):
-    """The functions of a .rt file, each with its clauses, as rt fmt lays them out."""
-    text = re.sub(r'//.*', '', file.read_text())
-    found, owner, in_public = [], None, False
-    lines = text.splitlines(keepends=True)
-    at = 0
-    for line in lines:
-        if line[0] not in ' \n' and OWNER.match(line):
-            owner, in_public = OWNER.match(line)[1], bool(PUBLIC_OWNER.match(line))
-        elif line[0] not in ' \n':
-            owner, in_public = None, False
-        match = FUNCTION.match(line) or FUNCTION.match(line.replace('pub fn', 'fn', 1) if owner else line)
-        if match:
-            path = f'{owner}::{match[2]}' if owner and line.startswith(' ') else match[2]
-            found.append((at, Function(match[2], path, 'pub fn' in line or in_public, '', file)))
+def heads_of(text):
+    """Where the functions of a .rt file begin, as rt fmt lays it out: the place, the type whose method it is, its name, whether others see it."""
+    at, owner, shows = 0, '', False
+    for line in text.splitlines(keepends=True):
+        block, function = BLOCK.match(line), FUNCTION.match(line)
+        if block:
+            owner, shows = block[4] + '::', bool(block[3] or block[1] and block[2])
+        elif line[0] not in ' \n}':
+            owner, shows = '', False
+        if function:
+            yield at, owner, function[2], bool(function[1]) or shows
         at += len(line)
-    for (start, function), (end, _) in zip(found, found[1:] + [(len(text), None)]):
+
+
+def functions_of(file):
+    """The functions of a .rt file, each with its clauses."""
+    text = re.sub(r'//.*', '', file.read_text())
+    heads, functions = list(heads_of(text)), []
+    for (start, owner, name, is_public), end in zip(heads, [head[0] for head in heads[1:]] + [len(text)]):
         own = text[start:end]
-        first = CLAUSE.search(own)
-        head = own[:first.start()] if first else own[:own.find('{')]
-        function.signature = head
-        function.clauses = [Clause(c[1], c[2], braced(own, c.end() - 1)) for c in CLAUSE.finditer(own)]
-    return [function for _, function in found]
+        clauses = [Clause(c[1], c[2], braced(own, c.end() - 1)) for c in CLAUSE.finditer(own)]
+        signature = CLAUSE.split(own)[0] if clauses else own.partition('{')[0]
+        functions.append(Function(name, owner + name, is_public, signature, file, clauses))
+    return functions
 
 
 RUST_NAME = re.compile(r'\b(?:fn|struct|enum|trait|const|static|type|mod) (\w+)')
@@ -132,7 +129,7 @@ def read_crate(folder):
     for file in sorted(folder.glob('src/**/*.rt')):
         bare = re.sub(r'//.*', '', file.read_text())
         crate.functions += functions_of(file)
-        crate.types |= {match[1]: match[2] or match[3] or '' for match in TYPE.finditer(bare)}
+        crate.types.update({match[1]: match[2] or match[3] or '' for match in TYPE.finditer(bare)})
         crate.names |= set(RUST_NAME.findall(bare)) | set(MEMBER.findall(bare)) | {file.stem}
         if file.name in ('lib.rt', 'main.rt'):
             crate.exports |= {name for item in EXPORT.findall(bare) for name in re.findall(r'\w+', item)}
@@ -153,12 +150,19 @@ def read_crates():
     return {folder.name: read_crate(folder) for folder in sorted((ROOT / 'crates').iterdir()) if (folder / 'src').is_dir()}
 
 
-def memory_calls(crate):
-    """The crate's calls whose answer can be want of memory: NoMemory, an enum with such a variant, or what has one of these in it."""
-    found, more = set(), {'NoMemory'}
+def with_parts(types, parts):
+    """The types that have one of these parts, or one that has, and so on."""
+    found, more = set(), set(parts)
     while not more <= found:
         found |= more
-        more = {name for name, parts in crate.types.items() if found & set(re.findall(r'\w+', parts))}
+        more = {name for name, text in types.items() if found & set(re.findall(r'\w+', text))}
+    return found
+
+
+def memory_calls(crate, repository):
+    """The crate's calls whose answer can be want of memory: NoMemory, an enum with such a variant, or what has one of these in it."""
+    refusals = {name for each in repository.values() for name, text in each.types.items() if re.search(r'\bNoMemory\b', text)}
+    found = with_parts(crate.types, refusals | {'NoMemory'})
     return [f.path for f in crate.calls() if found & set(re.findall(r'\w+', f.signature.rpartition('->')[2]))]
 
 
@@ -300,9 +304,9 @@ def check_form(findings, file, text, crate):
         findings.say(file, 1, f'the first line is not # {crate.name}')
 
 
-def check_left_open(findings, file, text, crate):
+def check_left_open(findings, file, text, crate, repository):
     """Where want of memory alone meets a clause of the crate, 'Left open' says so."""
-    calls = memory_calls(crate)
+    calls = memory_calls(crate, repository)
     left = section_of(text, 'Left open') or ''
     if calls and not re.search('want of memory|NoMemory', left):
         findings.say(file, 0, f"'Left open' doesn't say that {', '.join(calls)} may answer want of memory at any time")
@@ -316,7 +320,7 @@ def check_crate(findings, crate, repository):
         return
     text = file.read_text()
     check_form(findings, file, text, crate)
-    check_left_open(findings, file, text, crate)
+    check_left_open(findings, file, text, crate, repository)
     named = set()
     tables = [rows for head, rows in tables_of(text) if head == CRATE_TABLE]
     if len(tables) != 1:
@@ -352,7 +356,7 @@ def is_there(path, folder):
     crates = ROOT / 'crates'
     own = [folder, folder / 'specs'] if folder.parent == crates else [*crates.iterdir()]
     bases = (ROOT, crates, *own)
-    return path + '/' in OUTSIDE or any(list(base.glob(path + end)) for base in bases for end in ('', '.antt'))
+    return any(list(base.glob(path + end)) for base in bases for end in ('', '.antt'))
 
 
 def is_name(span):
