@@ -10,6 +10,8 @@ pub mod Flat
 pub mod Lines
 pub mod Runs
 pub mod Counts
+pub mod Ends
+pub mod Headline
 pub mod LineInvariant
 pub mod MachineInvariant
 pub mod Checks

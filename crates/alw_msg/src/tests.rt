@@ -1,4 +1,4 @@
-use crate::{Event, Kind, Sends};
+use crate::{Event, Kind, Sends, stretches};
 use alw_num::{Line, LineNo, NodeNo};
 use std::test::Fail;
 
@@ -40,5 +40,19 @@ fn a_delivery_is_of_its_receiver(rt: HostRuntime) -> Result<(), Fail> {
         to: NodeNo(1),
     };
     assert_eq!(rt; event.node(), NodeNo(1));
+    Ok(())
+}
+
+#[test]
+fn turns_in_stretches(rt: HostRuntime) -> Result<(), Fail> {
+    let alloc = rt.alloc();
+    let runs = stretches(alloc, &[0, 0, 1, 1, 1, 0, 0, 0])?;
+    assert_eq!(rt; runs.members(), [(0, 2), (1, 3), (0, 3)].as_slice());
+    let merged = stretches(alloc, &[0, 1, 0, 1, 1, 0, 0, 0])?;
+    assert_eq!(rt;
+        merged.members(),
+        [(0, 1), (1, 1), (0, 1), (1, 2), (0, 3)].as_slice()
+    );
+    assert!(rt; stretches(alloc, &[])?.is_empty());
     Ok(())
 }
