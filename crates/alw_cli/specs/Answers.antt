@@ -1,11 +1,15 @@
 -- What the program answers: each answer with its cause, and what is read and written with it.
-use Rattle.std.specs.Prelude.{◌≡◌, ◌≢◌, ℕ, ◌<◌, ◌≤◌, Option, None, List, [], ◌∷◌, ◌⊎◌, length, Some, Ok, Err}
+use Rattle.std.specs.Prelude.{◌≡◌, ◌≢◌, ℕ, ◌<◌, ◌≤◌, Option, None, List, [], ◌⊎◌, length, Some, Ok, Err}
 use Rattle.std.specs.Io.KnownBytes.{Appends, Consumes, IsAtEnd, Keeps}
 use Rattle.alw_io.specs.Outside.{Rose, AppendsPart}
 use Rattle.alw_msg.specs.declared.events.Entry.{Entry}
 use Rattle.alw_image.specs.Faults.{image_in, image_fault}
-use Rattle.alw_image.specs.Images.{spelling}
-use Rattle.alw_image.specs.Parameters.{Parameters}
+use Rattle.alw_image.specs.Images.{IsImage, spelling}
+use Rattle.alw_image.specs.Numbers.{HasWords}
+use Rattle.alw_image.specs.Parameters.{Parameters, AreParameters}
+use Rattle.alw_model.specs.declared.ends.Ended.{Ended}
+use Rattle.alw_model.specs.declared.ends.Ended.TheVariants as ended
+use Rattle.alw_model.specs.Headline.{IsCoherentRun, IsScheduled}
 use Rattle.sparc_asm.specs.declared.faults.AsmErr.{AsmErr}
 use Rattle.sparc_asm.specs.declared.faults.AsmErr.TheVariants as asm
 use Rattle.sparc_assemble.specs.declared.assembling.Assembled.{Assembled}
@@ -14,9 +18,7 @@ use Rattle.alw_config.specs.declared.commands.AsmForm.{AsmForm}
 use Rattle.alw_config.specs.declared.commands.Command.{Command}
 use Rattle.alw_config.specs.declared.commands.Command.TheVariants as commands
 use Rattle.alw_config.specs.Places.{IsCommand, IsRefusedAt}
-use Rattle.alw_solo.specs.declared.runs.Ended.{Ended}
-use Rattle.alw_solo.specs.declared.runs.Ended.TheVariants as ended
-use Rattle.alw_solo.specs.Solo.{not_solo, IsRun}
+use Rattle.alw_solo.specs.Solo.{not_solo}
 use Rattle.alw_report.specs.Reports.{report_of}
 use Rattle.alw_cli.specs.Texts.{assembled_text, err_line}
 use Rattle.alw_cli.specs.declared.answers.Cause.{Cause}
@@ -42,10 +44,11 @@ ReadsAll before after bytes = Consumes before.known after.known bytes × IsAtEnd
 abbrev pub Stays : End → End → Type 0
 Stays before after = Keeps before.known after.known
 
--- some bytes were taken, or more than an input may have
+-- some bytes were taken, no more than an input may have; or more than that
 pub record TookSome (before after : End) : Type 0 where
   pub taken : List ℕ
   pub read : Consumes before.known after.known taken
+  pub few : length taken ≤ MOST_INPUT
 
 pub record TookTooMany (before after : End) : Type 0 where
   pub taken : List ℕ
@@ -61,17 +64,20 @@ GainedPart before after text = AppendsPart before.known after.known text × Rose
 
 -- ---- asm
 
--- the source was assembled, and its text written
+-- the source was assembled, to an image, and its text written
 pub record Assembles (form : AsmForm) (source : List ℕ) (journal : List Entry) (written : List ℕ → Type 0) : Type 0 where
   pub whole : Assembled
   pub right : assembled source ≡ Ok whole
+  pub image : IsImage whole.image
+  pub words : HasWords whole.image
   pub text : written (assembled_text form whole)
   pub no_journal : journal ≡ []
 
 abbrev pub AsmAnswer : AsmForm → List ℕ → End → End → Cause → ℕ → List Entry → Type 0
 AsmAnswer form source out out' cause.Fine status journal = (status ≡ 0) × Assembles form source journal (Gained out out')
 AsmAnswer form source out out' cause.WriteFault status journal = (status ≡ 7) × Assembles form source journal (GainedPart out out')
-AsmAnswer form source out out' (cause.Input (reason.Asm fault)) status journal = (status ≡ 3) × (fault ≢ asm.NoMemory) × (assembled source ≡ Err fault) × (journal ≡ []) × Stays out out'
+AsmAnswer form source out out' (cause.Input (reason.Asm fault)) status journal =
+    (status ≡ 3) × (fault ≢ asm.NoMemory) × (assembled source ≡ Err fault) × (journal ≡ []) × Stays out out'
 AsmAnswer form source out out' cause.NoMemory status journal = (status ≡ 8) × (journal ≡ []) × Stays out out'
 AsmAnswer form source out out' _ status journal = ⊥
 
@@ -81,9 +87,12 @@ AsmAnswer form source out out' _ status journal = ⊥
 pub record Runs (params : Parameters) (bytes : List ℕ) (journal : List Entry) (ended : Ended) (written : List ℕ → Type 0) : Type 0 where
   pub accepted : image_fault bytes ≡ None
   pub spelled : bytes ≡ spelling (image_in bytes)
+  pub image : IsImage (image_in bytes)
+  pub parameters : AreParameters params
   pub solo : not_solo (image_in bytes) ≡ None
   -- the headline
-  pub run : IsRun (image_in bytes) params journal ended
+  pub run : IsCoherentRun (image_in bytes) params journal ended
+  pub scheduled : IsScheduled (image_in bytes) params journal
   pub report : written (report_of (image_in bytes) params journal ended)
 
 -- the same, and how it ended
@@ -96,8 +105,10 @@ RunAnswer params bytes out out' cause.Fine status journal = (status ≡ 0) × Ru
 RunAnswer params bytes out out' (cause.Trapped at) status journal = (status ≡ 4) × Runs params bytes journal (ended.Trapped at) (Gained out out')
 RunAnswer params bytes out out' (cause.Limit event) status journal = (status ≡ 5) × Runs params bytes journal (ended.Limit event) (Gained out out')
 RunAnswer params bytes out out' cause.WriteFault status journal = (status ≡ 7) × RunsSomehow params bytes journal (GainedPart out out')
-RunAnswer params bytes out out' (cause.Input (reason.Image fault)) status journal = (status ≡ 3) × (image_fault bytes ≡ Some fault) × (journal ≡ []) × Stays out out'
-RunAnswer params bytes out out' (cause.Input (reason.NotBuilt at)) status journal = (status ≡ 3) × (image_fault bytes ≡ None) × (not_solo (image_in bytes) ≡ Some at) × (journal ≡ []) × Stays out out'
+RunAnswer params bytes out out' (cause.Input (reason.Image fault)) status journal =
+    (status ≡ 3) × (image_fault bytes ≡ Some fault) × (journal ≡ []) × Stays out out'
+RunAnswer params bytes out out' (cause.Input (reason.NotBuilt at)) status journal =
+    (status ≡ 3) × (image_fault bytes ≡ None) × (not_solo (image_in bytes) ≡ Some at) × (journal ≡ []) × Stays out out'
 RunAnswer params bytes out out' cause.NoMemory status journal = (status ≡ 8) × (journal ≡ []) × Stays out out'
 RunAnswer params bytes out out' _ status journal = ⊥
 
@@ -124,9 +135,12 @@ pub record IsAsked (words : List (List ℕ)) : Type 0 where
 
 -- the words, the source and the sink before and after, and what was answered: cause, status and journal
 abbrev pub Answers : List (List ℕ) → End → End → End → End → Cause → ℕ → List Entry → Type 0
-Answers words input input' out out' (cause.Words e) status journal = (status ≡ 2) × IsRefusedAt words e.at × (journal ≡ []) × Stays input input' × Stays out out'
-Answers words input input' out out' (cause.Input reason.TooLong) status journal = (status ≡ 3) × IsAsked words × (journal ≡ []) × TookTooMany input input' × Stays out out'
-Answers words input input' out out' cause.ReadFault status journal = (status ≡ 6) × IsAsked words × (journal ≡ []) × TookSome input input' × Rose input.faults input'.faults × Stays out out'
+Answers words input input' out out' (cause.Words e) status journal =
+    (status ≡ 2) × IsRefusedAt words e.at × (journal ≡ []) × Stays input input' × Stays out out'
+Answers words input input' out out' (cause.Input reason.TooLong) status journal =
+    (status ≡ 3) × IsAsked words × (journal ≡ []) × TookTooMany input input' × Stays out out'
+Answers words input input' out out' cause.ReadFault status journal =
+    (status ≡ 6) × IsAsked words × (journal ≡ []) × TookSome input input' × Rose input.faults input'.faults × Stays out out'
 Answers words input input' out out' cause.NoMemory status journal = (status ≡ 8) × IsAsked words × (journal ≡ []) × TookSome input input' × Stays out out'
 Answers words input input' out out' cause status journal = Performed words input input' out out' cause status journal
 
@@ -155,5 +169,6 @@ IsCarriedOut (commands.Run how pointers sets limit evict form) status = (status 
 -- where the words are a command, the whole input is one that it accepts, and nothing outside fails, it is carried out, or memory was refused
 abbrev pub IsComplete : List (List ℕ) → End → End → End → End → ℕ → Type 0
 IsComplete words input input' out out' status =
-    (command : Command) → (bytes : List ℕ) → IsCommand words command → input.known ≡ Some bytes → length bytes ≤ MOST_INPUT → IsAccepted command bytes → HadNoFault input input' → HadNoFault out out' →
+    (command : Command) → (bytes : List ℕ) → IsCommand words command → input.known ≡ Some bytes → length bytes ≤ MOST_INPUT →
+    IsAccepted command bytes → HadNoFault input input' → HadNoFault out out' →
     IsCarriedOut command status ⊎ (status ≡ 8)

@@ -1,7 +1,7 @@
 -- The status and the cause of a run's end.
 use Rattle.std.specs.Prelude.{ℕ}
-use Rattle.alw_solo.specs.declared.runs.Ended.{Ended}
-use Rattle.alw_solo.specs.declared.runs.Ended.TheVariants.{Halted, Trapped, Limit}
+use Rattle.alw_model.specs.declared.ends.Ended.{Ended}
+use Rattle.alw_model.specs.declared.ends.Ended.TheVariants.{Halted, Trapped, Limit}
 use Rattle.alw_cli.specs.declared.answers.Cause.{Cause}
 use Rattle.alw_cli.specs.declared.answers.Cause.TheVariants as cause
 

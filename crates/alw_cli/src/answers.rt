@@ -2,8 +2,8 @@ ghost use Rattle.std.specs.Prelude.{◌≡◌, []};
 
 use alw_config::WordErr;
 use alw_image::ImageErr;
+use alw_model::TrapAt;
 use alw_msg::{Event, Journal};
-use alw_solo::TrapAt;
 use sparc_asm::AsmErr;
 use std::alloc::Global;
 

@@ -1,21 +1,21 @@
 ghost use Rattle.std.specs.Prelude.{◌≡◌, ◌≤◌, ◌++◌, length, OnOk, IfOk};
 ghost use Rattle.alw_cli.specs.Texts.{listing_line, listing_from};
 
-use alw_num::{Bytes, NoMemory};
-use alw_text::Text;
+use alw_num::NoMemory;
+use alw_text::{Spell, Text};
 use std::alloc::Global;
 
 /// The listing of code words with their source lines.
-pub fn listing(alloc: Global, words: &[u32], lines: &[u32]) -> Result<Bytes, NoMemory>
+pub fn listing(alloc: Global, words: &[u32], lines: &[u32]) -> Result<Text, NoMemory>
     requires few { length words.now ≤ 65536 }
     requires same { length lines.now ≡ length words.now }
-    ensures { IfOk result (λ bytes. bytes ≡ listing_from 0 words.now lines.now) }
+    ensures { IfOk result (λ text. text ≡ listing_from 0 words.now lines.now) }
 {
     let mut text = Text::empty(alloc);
     for i in 0..words.len() {
         put_line(&mut text, 4 * i as u32, words[i], lines[i])?;
     }
-    Ok(Bytes::from(text.bytes().to_vec(alloc)?))
+    Ok(text)
 }
 
 // A code word: its address, the word and its source line.

@@ -1,17 +1,19 @@
 ghost use Rattle.std.specs.Prelude.{◌≡◌, ◌≤◌, length};
+ghost use Rattle.alw_image.specs.Parameters.{AreParameters};
 ghost use Rattle.alw_cli.specs.Answers.{RunAnswer, end_of};
 ghost use Rattle.alw_cli.specs.Endings.{status_of, cause_of};
 
 use crate::answers::{Cause, Done, InputErr, MOST_INPUT};
 use alw_image::{Image, ImageErr, Params, read_image};
 use alw_io::{Sink, write_whole};
-use alw_report::report;
-use alw_solo::{Ended, not_solo, run_solo};
+use alw_model::Ended;
+use alw_solo::{Run, not_solo, report_run, run_solo};
 use std::alloc::Global;
 
 /// Runs the image that bytes spell, and writes its report.
 pub fn run_bytes<K: Sink>(alloc: Global, params: &Params, bytes: &[u8], out: &mut K) -> Done
-    requires { length bytes.now ≤ MOST_INPUT }
+    requires few { length bytes.now ≤ MOST_INPUT }
+    requires allowed { AreParameters params.now }
     ensures answer { RunAnswer params.now bytes.now (end_of (K.held out.old) (K.faults out.old)) (end_of (K.held out.new) (K.faults out.new)) result.cause result.status result.journal }
     ensures out_count { K.faults out.old ≤ K.faults out.new }
     ensures merged { result.merged ≡ 0 }
@@ -27,23 +29,28 @@ pub fn run_bytes<K: Sink>(alloc: Global, params: &Params, bytes: &[u8], out: &mu
     let Ok(run) = run_solo(alloc, &image, params) else {
         return Done::without(alloc, 8, Cause::NoMemory);
     };
-    let Ok(text) = report(alloc, &image, params, &run) else {
+    let Run {
+        journal,
+        prints,
+        ended,
+    } = run;
+    let Ok(text) = report_run(alloc, &image, params, &journal, prints, ended) else {
         return Done::without(alloc, 8, Cause::NoMemory);
     };
     let (status, cause) = match write_whole(out, text.bytes()) {
-        Ok(()) => ended(run.ended),
+        Ok(()) => ended_by(ended),
         Err(_) => (7, Cause::WriteFault),
     };
     Done {
         status,
         cause,
-        journal: run.journal,
+        journal,
         merged: 0,
     }
 }
 
 // The status and the cause of a run's end.
-fn ended(ended: Ended) -> (u8, Cause)
+fn ended_by(ended: Ended) -> (u8, Cause)
     ensures { result ≡ (status_of ended, cause_of ended) }
 {
     match ended {

@@ -24,7 +24,8 @@ use Rattle.alw_model.specs.Contexts.{slot_at, running}
 use Rattle.alw_model.specs.Messages.{is_fit}
 use Rattle.alw_msg.specs.Events.{node_of}
 use Rattle.alw_model.specs.NodeStates.{NodeState, home_at, may, may_reach, may_reach_cache, may_deliver}
-use Rattle.alw_model.specs.NodeSteps.{written, slots_after, access, instr_by, instr, at_home, at_cache, deliver_by, deliver, handle_by, handle_front, event_at, clocked}
+use Rattle.alw_model.specs.ProcessorSteps.{written, slots_after}
+use Rattle.alw_model.specs.NodeSteps.{access, instr_by, instr, at_home, at_cache, deliver_by, deliver, handle_by, handle_front, event_at, clocked}
 use Rattle.alw_model.proofs.Journals.{and_parts}
 use Rattle.alw_coherence.proofs.FlatSlots.{Chosen, runs_ready}
 use Rattle.alw_coherence.proofs.ContextFacts.{ContextsStand, NodeContexts}
@@ -106,7 +107,8 @@ module _ (parts : Parts) (parameters : Parameters) (n stamp : ℕ) (node : NodeS
     not_granted : (line : ℕ) (mode : Mode) → copy_at parameters.sets node.cache l ≡ None → line ≡ l → is_some (granted_copy parameters.sets node.cache line mode) ≡ true → ⊥
     not_granted line mode none same is = false≢true (sym (ap (λ (o : Option Copy). is_some (kept_if (λ (c : Copy). grants c.mode mode) o)) (ap (copy_at parameters.sets node.cache) same ∙ none)) ∙ is)
 
-    arrival_contexts : (said : ToCache) → AwaitedBy parameters.sets node l said → may_reach_cache parameters node l said ≡ true → NodeContexts parts parameters (clocked stamp (at_cache parts parameters n stamp node l said)).node
+    arrival_contexts : (said : ToCache) → AwaitedBy parameters.sets node l said → may_reach_cache parameters.sets node.slots node.cache l said ≡ true
+        → NodeContexts parts parameters (clocked stamp (at_cache parts parameters n stamp node l said)).node
     arrival_contexts (RDATA body) awaited free = comes_contexts (brought Read body)
         (λ i line h mode is. fill_keeps parameters.sets node.cache node.slots i line h mode is (record { line = l; mode = Read; body = body }) free (λ same. absurd (not_granted line mode awaited.absent same is)))
         (value_at node.transactions l) refl (λ t e. brought_granted Read t.mode body (ap (grants Read) (awaited.reads t e)))
@@ -131,11 +133,12 @@ module _ (parts : Parts) (parameters : Parameters) (n stamp : ℕ) (node : NodeS
   delivery_contexts from None awaited may_be = absurd (false≢true may_be)
   delivery_contexts from (Some msg) awaited may_be = message_contexts msg (content msg) awaited (and_parts (is_fit parts from n msg) _ may_be).1
 
-  packet_contexts : (packet : Msg) (waiting : List Msg) (c : Content) → NodeContexts parts parameters (clocked stamp (handle_by parts n stamp (record node { packets = waiting }) packet c)).node
+  packet_contexts : (packet : Msg) (waiting : List Msg) (c : Content)
+      → NodeContexts parts parameters (clocked stamp (handle_by parts parameters n stamp (record node { packets = waiting }) packet c)).node
   packet_contexts packet waiting (ForMemory said) = stands
   packet_contexts packet waiting (ForCache said) = stands
 
-  queue_contexts : (q : List Msg) → NodeContexts parts parameters (clocked stamp (handle_front parts n stamp node q)).node
+  queue_contexts : (q : List Msg) → NodeContexts parts parameters (clocked stamp (handle_front parts parameters n stamp node q)).node
   queue_contexts [] = stands
   queue_contexts (packet ∷ waiting) = packet_contexts packet waiting (content packet)
 

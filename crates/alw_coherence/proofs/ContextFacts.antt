@@ -1,6 +1,7 @@
 -- What stands of a node's contexts and transactions while a machine runs: who waits, who opened what, and who holds a line.
-use Rattle.std.proofs.Common.{◌≡◌, ◌≢◌, ℕ, zero, suc, ◌<◌, ◌==◌, ◌||◌, Bool, true, false, Some, List, [], ◌∷◌, length, refl, sym, ap, ◌∙◌}
+use Rattle.std.proofs.Common.{◌≡◌, ◌≢◌, ℕ, zero, suc, ◌<◌, ◌==◌, ◌||◌, true, false, Some, List, [], ◌∷◌, length, refl, sym, ap, ◌∙◌}
 use Rattle.std.specs.Prelude.{is_some}
+use Rattle.std.proofs.Math.Bool.{or-true}
 use Rattle.std.proofs.lemmas.Bool.{eq-eqb, ne_eqb, eqb-true}
 use Rattle.alw_num.specs.declared.states.Mode.{Mode}
 use Rattle.sparc_table.specs.Turns.{need_of}
@@ -88,12 +89,8 @@ hold_status line zero (slot ∷ rest) (suc i) = refl
 hold_status line (suc opener) (slot ∷ rest) zero = refl
 hold_status line (suc opener) (slot ∷ rest) (suc i) = hold_status line opener rest i
 
-either_true : (b : Bool) → (b || true) ≡ true
-either_true true = refl
-either_true false = refl
-
 -- the line that a slot holds is held
 pub hold_held : (slots : List Slot) (i line : ℕ) → (slot_at slots i).hold ≡ Some line → is_held slots line ≡ true
 hold_held [] i line e = absurd (cc)
 hold_held (slot ∷ rest) zero line e = ap (λ o. passes (λ held. held == line) o || is_held rest line) e ∙ ap (λ b. b || is_held rest line) (eq-eqb line line refl)
-hold_held (slot ∷ rest) (suc i) line e = ap (λ b. passes (λ held. held == line) slot.hold || b) (hold_held rest i line e) ∙ either_true (passes (λ held. held == line) slot.hold)
+hold_held (slot ∷ rest) (suc i) line e = ap (λ b. passes (λ held. held == line) slot.hold || b) (hold_held rest i line e) ∙ or-true (passes (λ held. held == line) slot.hold)

@@ -19,7 +19,7 @@ use Rattle.alw_image.specs.Parameters.{Parameters}
 use Rattle.alw_model.specs.Caches.{Cache, Transaction, Transactions, granted_copy}
 use Rattle.alw_msg.specs.Statuses.{is_ready, waits_on}
 use Rattle.alw_model.specs.Contexts.{Slot, slot_at, no_slot, woken, wake, ran, give_hold}
-use Rattle.alw_model.specs.NodeSteps.{status_after, opened}
+use Rattle.alw_model.specs.ProcessorSteps.{status_after, opened}
 use Rattle.alw_model.specs.MachineInvariant.{trapped_rightly}
 use Rattle.alw_lift.proofs.Links.{read_set}
 use Rattle.alw_coherence.proofs.FlatSlots.{Chosen}

@@ -22,7 +22,8 @@ use Rattle.alw_msg.specs.Statuses.{is_ready, is_halted, waits_on}
 use Rattle.alw_model.specs.Contexts.{Slot, slot_at, no_slot, woken, wake, running, all_halted}
 use Rattle.alw_msg.specs.Events.{node_of}
 use Rattle.alw_model.specs.NodeStates.{NodeState, stamp_of, home_at}
-use Rattle.alw_model.specs.NodeSteps.{access, instr_by, instr, at_home, deliver_by, deliver, handle_by, handle_front, event_at, clocked, slots_after}
+use Rattle.alw_model.specs.ProcessorSteps.{slots_after}
+use Rattle.alw_model.specs.NodeSteps.{access, instr_by, instr, at_home, deliver_by, deliver, handle_by, handle_front, event_at, clocked}
 use Rattle.alw_model.specs.Machine.{MachineState, no_node, node_at, taken_by, is_enabled, step, stepped_by, has_halted}
 use Rattle.alw_model.proofs.Journals.{and_parts, and_is}
 use Rattle.alw_lift.specs.Standing.{IsStanding}
@@ -119,11 +120,12 @@ module _ (parts : Parts) (parameters : Parameters) (n stamp : ℕ) (node : NodeS
   delivery_stays None = refl
   delivery_stays (Some msg) = message_stays msg (content msg)
 
-  packet_stays : (packet : Msg) (waiting : List Msg) (c : Content) → Stays (clocked stamp (handle_by parts n stamp (record node { packets = waiting }) packet c)).node.slots
+  packet_stays : (packet : Msg) (waiting : List Msg) (c : Content)
+      → Stays (clocked stamp (handle_by parts parameters n stamp (record node { packets = waiting }) packet c)).node.slots
   packet_stays packet waiting (ForMemory said) = refl
   packet_stays packet waiting (ForCache said) = refl
 
-  queue_stays : (q : List Msg) → Stays (clocked stamp (handle_front parts n stamp node q)).node.slots
+  queue_stays : (q : List Msg) → Stays (clocked stamp (handle_front parts parameters n stamp node q)).node.slots
   queue_stays [] = refl
   queue_stays (packet ∷ waiting) = packet_stays packet waiting (content packet)
 

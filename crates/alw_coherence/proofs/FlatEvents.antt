@@ -126,11 +126,12 @@ module _ (parts : Parts) (parameters : Parameters) (s : MachineState) (values : 
   delivery_seen None = calm parts s values have n fits _ _ refl (λ k m. refl)
   delivery_seen (Some msg) = message_seen msg (content msg)
 
-  packet_seen : (packet : Msg) (waiting : List Msg) (c : Content) → SeenAs (handle_by parts n stamp (record node { packets = waiting }) packet c) (λ k. in_packet k packet c)
+  packet_seen : (packet : Msg) (waiting : List Msg) (c : Content)
+      → SeenAs (handle_by parts parameters n stamp (record node { packets = waiting }) packet c) (λ k. in_packet k packet c)
   packet_seen packet waiting (ForMemory said) = calm parts s values have n fits _ _ refl (λ k m. still_about (values k) k packet.line.0 (Acts packet.src.0) (λ y. refl))
   packet_seen packet waiting (ForCache said) = calm parts s values have n fits _ _ refl (λ k m. refl)
 
-  queue_seen : (q : List Msg) → SeenAs (handle_front parts n stamp node q) (λ k. in_queue k q)
+  queue_seen : (q : List Msg) → SeenAs (handle_front parts parameters n stamp node q) (λ k. in_queue k q)
   queue_seen [] = calm parts s values have n fits _ _ refl (λ k m. refl)
   queue_seen (packet ∷ waiting) = packet_seen packet waiting (content packet)
 

@@ -11,7 +11,7 @@ use Rattle.alw_msg.specs.declared.contexts.Status.TheVariants.{Ready, Waiting, H
 use Rattle.alw_model.specs.Caches.{Transaction}
 use Rattle.alw_msg.specs.Statuses.{is_ready, waits_on}
 use Rattle.alw_model.specs.Contexts.{Slot, slot_at, no_slot, woken, wake, running}
-use Rattle.alw_model.specs.NodeSteps.{status_after, slots_after}
+use Rattle.alw_model.specs.ProcessorSteps.{status_after, slots_after}
 use Rattle.alw_model.specs.Runs.{flat_status, flat_context}
 
 -- a slot that becomes one with the same context leaves the contexts as they are

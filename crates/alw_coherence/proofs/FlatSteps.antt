@@ -18,7 +18,7 @@ use Rattle.alw_msg.specs.declared.contexts.Status.TheVariants.{Waiting}
 use Rattle.alw_msg.specs.Statuses.{is_ready}
 use Rattle.alw_model.specs.Contexts.{slot_at, ran}
 use Rattle.alw_model.specs.NodeStates.{NodeState}
-use Rattle.alw_model.specs.NodeSteps.{status_after}
+use Rattle.alw_model.specs.ProcessorSteps.{status_after}
 use Rattle.alw_model.specs.Machine.{MachineState, node_at}
 use Rattle.alw_model.specs.Flat.{Context, Flat, context_at, line_at, stored_in, turned, flat_turn_by, flat_turn, print_of}
 use Rattle.alw_model.specs.Runs.{flat_context, flat_status}

@@ -129,13 +129,15 @@ module _ (parts : Parts) (parameters : Parameters) (s : MachineState) (standing 
     delivery_does from None taken may_be = absurd (false≢true may_be)
     delivery_does from (Some msg) taken may_be = let p = and_parts (is_fit parts from n msg) _ may_be in message_does msg taken from (content msg) refl (fit_is parts from n msg p.0) p.1
 
-    packet_does : (packet : Msg) (waiting : List Msg) → moment.before.packets ≡ packet ∷ waiting → IsPacket parts n packet → (c : Content) → content packet ≡ c → DoesAs moment n (clocked stamp (handle_by parts n stamp (record (node_at s n) { packets = waiting }) packet c))
+    packet_does : (packet : Msg) (waiting : List Msg) → moment.before.packets ≡ packet ∷ waiting → IsPacket parts n packet → (c : Content)
+        → content packet ≡ c → DoesAs moment n (clocked stamp (handle_by parts parameters n stamp (record (node_at s n) { packets = waiting }) packet c))
     packet_does packet waiting queue packed (ForMemory said) is =
         home_acts packet.line.0 packet.src.0 said _ (handle (home_at parts (node_at s n) packet.line.0) packet.src.0 said) packed.line packed.home refl (handler_acts (home_at parts (node_at s n) packet.line.0) packet.src.0 said)
         ∙ (sym (acted_there home_before k packet said) ∙ sym (ap (λ (q : List Msg). acted_on home_before (flat_map (acted_message k) (take 1 q))) queue ∙ one_acted home_before k packet (ForMemory said) is))
     packet_does packet waiting queue packed (ForCache said) is = absurd (false≢true (sym (ap is_to_memory is) ∙ packed.to_memory))
 
-    queue_does : (q : List Msg) → (node_at s n).packets ≡ q → moment.before ≡ node_at s n → IsTrue (is_nonempty q) → DoesAs moment n (clocked stamp (handle_front parts n stamp (node_at s n) q))
+    queue_does : (q : List Msg) → (node_at s n).packets ≡ q → moment.before ≡ node_at s n → IsTrue (is_nonempty q)
+        → DoesAs moment n (clocked stamp (handle_front parts parameters n stamp (node_at s n) q))
     queue_does [] e before some = absurd (false≢true some)
     queue_does (packet ∷ waiting) e before some = packet_does packet waiting (ap (λ (u : NodeState). u.packets) before ∙ e) (subst (AllByRecursion (IsPacket parts n)) e (standing.each n here).packets).0 (content packet) refl
 

@@ -21,7 +21,8 @@ use Rattle.alw_model.specs.Machine.{MachineState, machine_start, no_node, node_a
 use Rattle.alw_model.specs.Runs.{moments}
 use Rattle.alw_model.specs.Counts.{counts_of, count_holds}
 use Rattle.alw_lift.proofs.Steps.{enabled_is}
-use Rattle.alw_coherence.specs.Endings.{has_ended, is_evict, may_go_on, AtEach}
+use Rattle.alw_msg.specs.Events.{is_evict}
+use Rattle.alw_coherence.specs.Endings.{has_ended, may_go_on, AtEach}
 use Rattle.alw_coherence.specs.Machines.{OnEveryMachine}
 use Rattle.alw_coherence.proofs.Runs.{node_at_start}
 use Rattle.alw_coherence.proofs.ContextRuns.{HasContexts}

@@ -10,7 +10,7 @@ use Rattle.alw_num.proofs.MapLaws.{value-with, value-without}
 use Rattle.alw_num.proofs.Weigh.{is_node}
 use Rattle.alw_model.specs.Caches.{Copy, Cache, set_of, grants, copy_at, granted_copy, replaced, invalidate}
 use Rattle.alw_model.specs.Contexts.{Slot, slot_at, is_held}
-use Rattle.alw_model.specs.NodeSteps.{written}
+use Rattle.alw_model.specs.ProcessorSteps.{written}
 use Rattle.alw_lift.proofs.Instructions.{kept_is}
 use Rattle.alw_coherence.proofs.ContextFacts.{hold_held}
 

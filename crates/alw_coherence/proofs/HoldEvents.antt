@@ -22,7 +22,8 @@ use Rattle.alw_model.specs.Caches.{Copy, Transaction, granted_copy}
 use Rattle.alw_msg.specs.Statuses.{is_ready, waits_on}
 use Rattle.alw_model.specs.Contexts.{Slot, slot_at, no_slot, running, woken, wake}
 use Rattle.alw_model.specs.NodeStates.{NodeState, home_at}
-use Rattle.alw_model.specs.NodeSteps.{Stepped, clocked, slots_after, access, instr_by, instr, at_home, at_cache, deliver_by, deliver, handle_by, handle_front, event_at}
+use Rattle.alw_model.specs.ProcessorSteps.{slots_after}
+use Rattle.alw_model.specs.NodeSteps.{Stepped, clocked, access, instr_by, instr, at_home, at_cache, deliver_by, deliver, handle_by, handle_front, event_at}
 use Rattle.alw_model.specs.Counts.{uses_hold, is_data}
 use Rattle.alw_model.specs.MachineInvariant.{next_mode}
 use Rattle.alw_coherence.specs.Holds.{uses_by}
@@ -148,11 +149,12 @@ module _ (parts : Parts) (parameters : Parameters) (n stamp : ℕ) (node : NodeS
   delivery_goes None meets = record { count = refl; uses = tt }
   delivery_goes (Some msg) meets = message_goes msg (content msg) meets
 
-  packet_goes : (packet : Msg) (waiting : List Msg) (c : Content) → HoldsGo parts node 0 (clocked stamp (handle_by parts n stamp (record node { packets = waiting }) packet c))
+  packet_goes : (packet : Msg) (waiting : List Msg) (c : Content)
+      → HoldsGo parts node 0 (clocked stamp (handle_by parts parameters n stamp (record node { packets = waiting }) packet c))
   packet_goes packet waiting (ForMemory said) = record { count = refl; uses = tt }
   packet_goes packet waiting (ForCache said) = record { count = refl; uses = tt }
 
-  queue_goes : (q : List Msg) → HoldsGo parts node 0 (clocked stamp (handle_front parts n stamp node q))
+  queue_goes : (q : List Msg) → HoldsGo parts node 0 (clocked stamp (handle_front parts parameters n stamp node q))
   queue_goes [] = record { count = refl; uses = tt }
   queue_goes (packet ∷ waiting) = packet_goes packet waiting (content packet)
 
@@ -164,6 +166,7 @@ module _ (parts : Parts) (parameters : Parameters) (n stamp : ℕ) (node : NodeS
 
   pub event_goes : (event : Event) (head : Option Msg) → TakesRightly event head → HoldsGo parts node (data_in head) (clocked stamp (event_at parts parameters n stamp node event head))
   event_goes (Instr at) head none = subst (λ k. HoldsGo parts node k (clocked stamp (instr parts parameters n stamp node (running node.slots node.current)))) (sym (ap data_in none)) (instr_goes (running node.slots node.current) refl)
-  event_goes (Handle at) head none = subst (λ k. HoldsGo parts node k (clocked stamp (handle_front parts n stamp node node.packets))) (sym (ap data_in none)) (queue_goes node.packets)
+  event_goes (Handle at) head none = subst (λ k. HoldsGo parts node k (clocked stamp (handle_front parts parameters n stamp node node.packets)))
+      (sym (ap data_in none)) (queue_goes node.packets)
   event_goes (Deliver from to) head meets = delivery_goes head meets
   event_goes (Evict at set) head none = subst (λ k. HoldsGo parts node k (clocked stamp (event_at parts parameters n stamp node (Evict at set) head))) (sym (ap data_in none)) (record { count = refl; uses = tt })

@@ -6,11 +6,11 @@ use Rattle.alw_msg.specs.declared.events.Event.{Event}
 use Rattle.alw_image.specs.declared.parts.Parts.{Parts}
 use Rattle.alw_image.specs.Images.{node_count, IsImage}
 use Rattle.alw_image.specs.Parameters.{Parameters, AreParameters}
-use Rattle.alw_msg.specs.Events.{node_of}
+use Rattle.alw_msg.specs.Events.{node_of, is_evict}
 use Rattle.alw_model.specs.NodeStates.{NodeState}
 use Rattle.alw_model.specs.Machine.{MachineState, machine_start, no_node, node_at, taken_by, is_enabled, has_halted, step, stepped_by, IsNext, AreLegal, IsLegal}
 use Rattle.alw_lift.proofs.Steps.{enabled_is}
-use Rattle.alw_coherence.specs.Endings.{is_evict, AtEach, EvictsInTime}
+use Rattle.alw_coherence.specs.Endings.{AtEach, EvictsInTime}
 use Rattle.alw_coherence.proofs.Ended.{halted_stays}
 use Rattle.alw_coherence.proofs.Timing.{above_clock, within_clocks}
 use Rattle.alw_coherence.proofs.Sums.{weigh_set, weigh_most}

@@ -36,3 +36,4 @@ pub mod HoldEvents
 pub mod HoldCounts
 pub mod Lengths
 pub mod HaltFacts
+pub mod CoherentRuns

@@ -1,6 +1,7 @@
 -- The induction over a journal for the whole machine invariant, and its fields as tests.
 use Rattle.std.proofs.Common.{◌≡◌, ℕ, ◌-◌, ◌^◌, ◌<◌, ◌≤◌, ◌==◌, nat_lt, nat_le, ◌||◌, Bool, true, false, List, [], ◌∷◌, IsTrue, refl, sym, subst, ap, arith}
 use Rattle.std.specs.List.{AllByRecursion, list_all}
+use Rattle.std.proofs.Math.Bool.{or-true}
 use Rattle.std.proofs.lemmas.Bool.{eq-eqb, lt-ltb, le-leb}
 use Rattle.alw_msg.specs.declared.messages.Msg.{Msg}
 use Rattle.alw_msg.specs.declared.events.Entry.{Entry}
@@ -90,11 +91,7 @@ module _ (parts : Parts) (image : IsImage parts) (parameters : Parameters) (are 
     clocks_are n here = go (has_halted s) refl
       where
         go : (b : Bool) → has_halted s ≡ b → IsTrue (nat_le (node_at s n).clock parameters.limit || b)
-        go true e = either (nat_le (node_at s n).clock parameters.limit)
-          where
-            either : (c : Bool) → (c || true) ≡ true
-            either true = refl
-            either false = refl
+        go true e = or-true (nat_le (node_at s n).clock parameters.limit)
         go false e = ap (λ c. c || false) (le-leb (node_at s n).clock parameters.limit (kept.times.clocks e n here))
 
     pub invariant_is : MachineInvariant parts parameters s

@@ -2,6 +2,7 @@
 use Rattle.std.proofs.Common.{◌≡◌, ◌≢◌, ℕ, zero, suc, ◌+◌, ◌-◌, ◌^◌, ◌%◌, ◌<◌, ◌≤◌, ◌==◌, nat_lt, ◌||◌, Bool, true, false, cond, Some, List, ◌∷◌, length, map, find, refl, sym, ap, ◌∙◌, arith}
 use Rattle.std.specs.Prelude.{is_some}
 use Rattle.std.specs.List.{list_any, flat_map, range_with_len}
+use Rattle.std.proofs.Math.Bool.{or-true}
 use Rattle.std.proofs.lemmas.Bool.{eq-eqb, lt-ltb, false≢true}
 use Rattle.std.proofs.lemmas.List.{get_or_past}
 use Rattle.std.proofs.lemmas.List.Folds.{list_any-append}
@@ -24,21 +25,17 @@ use Rattle.alw_coherence.specs.Endings.{may_go_on}
 
 -- ---- lists
 
-either_true : (b : Bool) → (b || true) ≡ true
-either_true true = refl
-either_true false = refl
-
 any_flat : (test : Event → Bool) (f : ℕ → List Event) (low count n : ℕ) → low ≤ n → n < low + count → list_any test (f n) ≡ true → list_any test (flat_map f (range_with_len low count)) ≡ true
 any_flat test f low zero n l m is = absurd (omega arith)
 any_flat test f low (suc count) n l m is = list_any-append test (f low) (flat_map f (range_with_len (low + 1) count)) ∙ is_node _ n low
     (λ same. ap (λ b. b || list_any test (flat_map f (range_with_len (low + 1) count))) (ap (λ k. list_any test (f k)) (sym same) ∙ is))
-    (λ other. ap (λ b. list_any test (f low) || b) (any_flat test f (low + 1) count n (omega arith) (omega arith) is) ∙ either_true (list_any test (f low)))
+    (λ other. ap (λ b. list_any test (f low) || b) (any_flat test f (low + 1) count n (omega arith) (omega arith) is) ∙ or-true (list_any test (f low)))
 
 any_map : (test : Event → Bool) (f : ℕ → Event) (low count n : ℕ) → low ≤ n → n < low + count → test (f n) ≡ true → list_any test (map f (range_with_len low count)) ≡ true
 any_map test f low zero n l m is = absurd (omega arith)
 any_map test f low (suc count) n l m is = is_node _ n low
     (λ same. ap (λ b. b || list_any test (map f (range_with_len (low + 1) count))) (ap (λ k. test (f k)) (sym same) ∙ is))
-    (λ other. ap (λ b. test (f low) || b) (any_map test f (low + 1) count n (omega arith) (omega arith) is) ∙ either_true (test (f low)))
+    (λ other. ap (λ b. test (f low) || b) (any_map test f (low + 1) count n (omega arith) (omega arith) is) ∙ or-true (test (f low)))
 
 -- ---- main events
 
@@ -54,11 +51,11 @@ module _ (parts : Parts) (test : Event → Bool) (n : ℕ) (here : n < node_coun
   instr_among is = by_node (ap (λ b. b || (test (Handle (record { 0 = n })) || list_any test (map (λ from. Deliver (record { 0 = from }) (record { 0 = n })) (range_with_len 0 (node_count parts))))) is)
 
   pub handle_among : test (Handle (record { 0 = n })) ≡ true → list_any test (main_events parts) ≡ true
-  handle_among is = by_node (ap (λ b. test (Instr (record { 0 = n })) || (b || list_any test (map (λ from. Deliver (record { 0 = from }) (record { 0 = n })) (range_with_len 0 (node_count parts))))) is ∙ either_true (test (Instr (record { 0 = n }))))
+  handle_among is = by_node (ap (λ b. test (Instr (record { 0 = n })) || (b || list_any test (map (λ from. Deliver (record { 0 = from }) (record { 0 = n })) (range_with_len 0 (node_count parts))))) is ∙ or-true (test (Instr (record { 0 = n }))))
 
   pub deliver_among : (from : ℕ) → from < node_count parts → test (Deliver (record { 0 = from }) (record { 0 = n })) ≡ true → list_any test (main_events parts) ≡ true
   deliver_among from f is = by_node (ap (λ b. test (Instr (record { 0 = n })) || (test (Handle (record { 0 = n })) || b)) (any_map test (λ from. Deliver (record { 0 = from }) (record { 0 = n })) 0 (node_count parts) from (omega arith) (omega arith) is)
-      ∙ (ap (λ b. test (Instr (record { 0 = n })) || b) (either_true (test (Handle (record { 0 = n })))) ∙ either_true (test (Instr (record { 0 = n })))))
+      ∙ (ap (λ b. test (Instr (record { 0 = n })) || b) (or-true (test (Handle (record { 0 = n })))) ∙ or-true (test (Instr (record { 0 = n })))))
 
 -- ---- a Ready slot runs
 

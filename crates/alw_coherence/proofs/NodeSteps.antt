@@ -25,7 +25,8 @@ use Rattle.alw_model.specs.Messages.{home_node, is_fit}
 use Rattle.alw_msg.specs.Events.{node_of}
 use Rattle.alw_msg.specs.Lists.{is_nonempty}
 use Rattle.alw_model.specs.NodeStates.{NodeState, home_at, may, may_reach, may_deliver}
-use Rattle.alw_model.specs.NodeSteps.{written, take_turn, access, instr_by, instr, at_home, deliver_by, deliver, handle_by, handle_front, event_at, clocked}
+use Rattle.alw_model.specs.ProcessorSteps.{written}
+use Rattle.alw_model.specs.NodeSteps.{take_turn, access, instr_by, instr, at_home, deliver_by, deliver, handle_by, handle_front, event_at, clocked}
 use Rattle.alw_model.proofs.Journals.{and_parts}
 use Rattle.alw_lift.specs.Standing.{IsPacket, NodeStands}
 use Rattle.alw_lift.proofs.Instructions.{kept_is}
@@ -35,7 +36,10 @@ use Rattle.alw_coherence.proofs.NodeKeeps.{cache_with, cache_without, cache_reac
 module _ (parts : Parts) (parameters : Parameters) (some : 1 ≤ parameters.pointers) (n stamp : ℕ) (node : NodeState) (here : n < node_count parts) (stands : NodeStands parts parameters n node) where
   -- ---- an instruction
 
-  turn_stands : (slot l : ℕ) (mode : Mode) (copy : Copy) (regs : Regs) (outcome : Outcome) (body : Line) → granted_copy parameters.sets node.cache l mode ≡ Some copy → NodeStands parts parameters n (clocked stamp (take_turn node slot (written parameters.sets node.cache copy mode body) regs outcome)).node
+  turn_stands : (slot l : ℕ) (mode : Mode) (copy : Copy) (regs : Regs) (outcome : Outcome) (body : Line)
+      → granted_copy parameters.sets node.cache l mode ≡ Some copy
+      → NodeStands parts parameters n
+      (clocked stamp (take_turn parts parameters n node slot (written parameters.sets node.cache copy mode body) regs outcome)).node
   turn_stands slot l Read copy regs outcome body e = cache_changes parts parameters n node stands _ refl refl stands.caches
   turn_stands slot l Write copy regs outcome body e =
       let a = kept_is (λ (c : Copy). grants c.mode Write) (copy_at parameters.sets node.cache l) copy e in
@@ -72,11 +76,13 @@ module _ (parts : Parts) (parameters : Parameters) (some : 1 ≤ parameters.poin
 
   -- ---- the handler
 
-  packet_stands : (packet : Msg) (waiting : List Msg) → node.packets ≡ packet ∷ waiting → IsPacket parts n packet → (c : Content) → content packet ≡ c → NodeStands parts parameters n (clocked stamp (handle_by parts n stamp (record node { packets = waiting }) packet c)).node
+  packet_stands : (packet : Msg) (waiting : List Msg) → node.packets ≡ packet ∷ waiting → IsPacket parts n packet → (c : Content) → content packet ≡ c
+      → NodeStands parts parameters n (clocked stamp (handle_by parts parameters n stamp (record node { packets = waiting }) packet c)).node
   packet_stands packet waiting queue packed (ForMemory said) is = handler_stands parts parameters n node stands packet waiting said _ some queue is refl refl refl
   packet_stands packet waiting queue packed (ForCache said) is = absurd (false≢true (sym (ap is_to_memory is) ∙ packed.to_memory))
 
-  queue_stands : (q : List Msg) → node.packets ≡ q → IsTrue (is_nonempty q) → NodeStands parts parameters n (clocked stamp (handle_front parts n stamp node q)).node
+  queue_stands : (q : List Msg) → node.packets ≡ q → IsTrue (is_nonempty q)
+      → NodeStands parts parameters n (clocked stamp (handle_front parts parameters n stamp node q)).node
   queue_stands [] e some_packet = absurd (false≢true some_packet)
   queue_stands (packet ∷ waiting) e some_packet = packet_stands packet waiting e (subst (AllByRecursion (IsPacket parts n)) e stands.packets).0 (content packet) refl
 

@@ -93,7 +93,8 @@ module _ (parts : Parts) (image : IsImage parts) (parameters : Parameters) (are 
   replaced_goes n here (Some copy) is = held_goes n copy.line here is
 
   -- what keeps a message from a cache is a hold
-  blocked_goes : (n l : ℕ) → n < node_count parts → (said : ToCache) → may_reach_cache parameters (node_at s n) l said ≡ false → Goes
+  blocked_goes : (n l : ℕ) → n < node_count parts → (said : ToCache) → may_reach_cache parameters.sets (node_at s n).slots (node_at s n).cache l said ≡ false
+      → Goes
   blocked_goes n l here INV e = held_goes n l here (not_false (is_held (node_at s n).slots l) e)
   blocked_goes n l here BUSY e = absurd (false≢true (sym e))
   blocked_goes n l here (RDATA body) e = replaced_goes n here (replaced parameters.sets (node_at s n).cache l) (not_false _ e)
@@ -119,13 +120,14 @@ module _ (parts : Parts) (image : IsImage parts) (parameters : Parameters) (are 
       memory_goes said is true busy = packet_goes n msg.line.0 here m.exists (eqb-true (home_node parts msg.line.0) n (sym (ap (λ c. is_at_home c (home_node parts msg.line.0) from n) is) ∙ m.home)) busy
       memory_goes said is false free = goes (ap (may_reach parts parameters (node_at s n) msg.line.0) is ∙ ap not free)
 
-      cache_goes : (said : ToCache) → content msg ≡ ForCache said → (b : Bool) → may_reach_cache parameters (node_at s n) msg.line.0 said ≡ b → Goes
+      cache_goes : (said : ToCache) → content msg ≡ ForCache said → (b : Bool)
+          → may_reach_cache parameters.sets (node_at s n).slots (node_at s n).cache msg.line.0 said ≡ b → Goes
       cache_goes said is true free = goes (ap (may_reach parts parameters (node_at s n) msg.line.0) is ∙ free)
       cache_goes said is false blocked = blocked_goes n msg.line.0 here said blocked
 
       by_content : (c : Content) → content msg ≡ c → Goes
       by_content (ForMemory said) is = memory_goes said is (is_in_progress (home_at parts (node_at s n) msg.line.0).meta) refl
-      by_content (ForCache said) is = cache_goes said is (may_reach_cache parameters (node_at s n) msg.line.0 said) refl
+      by_content (ForCache said) is = cache_goes said is (may_reach_cache parameters.sets (node_at s n).slots (node_at s n).cache msg.line.0 said) refl
 
   link_goes : (from n : ℕ) → from < node_count parts → n < node_count parts → is_nonempty (link_at parts s from n) ≡ true → Goes
   link_goes from n f here some = let h = some_front (link_at parts s from n) some in head_goes from n f here h.0 h.1

@@ -25,7 +25,8 @@ use Rattle.alw_model.specs.Contexts.{slot_at, running}
 use Rattle.alw_model.specs.Messages.{home_node, to_homes, to_caches, is_at_home, is_fit}
 use Rattle.alw_msg.specs.Events.{node_of}
 use Rattle.alw_model.specs.NodeStates.{NodeState, home_at, may, may_reach, may_deliver}
-use Rattle.alw_model.specs.NodeSteps.{opened, access, instr_by, instr, at_home, deliver_by, deliver, handle_by, handle_front, event_at, clocked}
+use Rattle.alw_model.specs.ProcessorSteps.{opened}
+use Rattle.alw_model.specs.NodeSteps.{access, instr_by, instr, at_home, deliver_by, deliver, handle_by, handle_front, event_at, clocked}
 use Rattle.alw_model.proofs.Journals.{and_parts}
 use Rattle.alw_line.proofs.Homes.{DestsBelow}
 use Rattle.alw_limitless.proofs.Actions.{hardware_acts}
@@ -159,12 +160,13 @@ module _ (parts : Parts) (parameters : Parameters) (n stamp : ℕ) (node : NodeS
   delivery_sent from f None may_be = absurd (false≢true may_be)
   delivery_sent from f (Some msg) may_be = let p = and_parts (is_fit parts from n msg) _ may_be in message_sent from f msg (content msg) refl (fit_is parts from n msg p.0) p.1
 
-  packet_sent : (packet : Msg) (waiting : List Msg) → IsPacket parts n packet → (c : Content) → content packet ≡ c → Sent (clocked stamp (handle_by parts n stamp (record node { packets = waiting }) packet c)).sends
+  packet_sent : (packet : Msg) (waiting : List Msg) → IsPacket parts n packet → (c : Content) → content packet ≡ c
+      → Sent (clocked stamp (handle_by parts parameters n stamp (record node { packets = waiting }) packet c)).sends
   packet_sent packet waiting packed (ForMemory said) is =
       told_stand parts n stamp packet.line.0 packed.line packed.home _ (act_below (node_count parts) (full_map_of (home_at parts node packet.line.0)) packet.src.0 packed.source (points packet.line.0 packed.line packed.home) said)
   packet_sent packet waiting packed (ForCache said) is = absurd (false≢true (sym (ap is_to_memory is) ∙ packed.to_memory))
 
-  queue_sent : (q : List Msg) → node.packets ≡ q → Sent (clocked stamp (handle_front parts n stamp node q)).sends
+  queue_sent : (q : List Msg) → node.packets ≡ q → Sent (clocked stamp (handle_front parts parameters n stamp node q)).sends
   queue_sent [] e = tt
   queue_sent (packet ∷ waiting) e = packet_sent packet waiting (subst (AllByRecursion (IsPacket parts n)) e stands.packets).0 (content packet) refl
 

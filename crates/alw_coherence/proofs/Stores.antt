@@ -1,6 +1,7 @@
 -- Of the machine invariant: pointers are nodes, cached lines exist and stand in their sets, and the machine has its nodes and links.
-use Rattle.std.proofs.Common.{◌≡◌, ℕ, ◌+◌, ◌*◌, ◌<◌, ◌≤◌, ◌==◌, nat_lt, ◌&&◌, ◌||◌, Bool, true, false, T, Some, List, [], ◌∷◌, length, IsTrue, refl, ap, ◌∙◌, arith}
+use Rattle.std.proofs.Common.{◌≡◌, ℕ, ◌+◌, ◌*◌, ◌<◌, ◌≤◌, ◌==◌, nat_lt, ◌&&◌, ◌||◌, Bool, true, T, Some, List, [], ◌∷◌, length, IsTrue, refl, ap, ◌∙◌, arith}
 use Rattle.std.specs.List.{AllByRecursion, list_all}
+use Rattle.std.proofs.Math.Bool.{or-true}
 use Rattle.std.proofs.lemmas.Bool.{eq-eqb, lt-ltb, le-leb}
 use Rattle.std.proofs.lemmas.Bool.Decides.{nat_tests}
 use Rattle.alw_num.specs.NodeSets.{Nodes, has_node, members, count_nodes}
@@ -61,12 +62,8 @@ module _ (parts : Parts) (parameters : Parameters) where
         let joined = (sound.lines line exists).members in
         let few = ((sound.standing.each (home_node parts line) (home_below parts line exists)).entries line exists refl).few in
         and_is _ _ (members_below (node_count parts) d.hardware (λ k has. joined k (has-join d.hardware d.software k ∙ ap (λ b. b || has_node d.software k) has)))
-        (and_is _ _ (members_below (node_count parts) d.software (λ k has. joined k (has-join d.hardware d.software k ∙ (ap (λ b. has_node d.hardware k || b) has ∙ either (has_node d.hardware k)))))
+        (and_is _ _ (members_below (node_count parts) d.software (λ k has. joined k (has-join d.hardware d.software k ∙ (ap (λ b. has_node d.hardware k || b) has ∙ or-true (has_node d.hardware k)))))
         (le-leb (count_nodes d.hardware) parameters.pointers few))
-      where
-        either : (b : Bool) → (b || true) ≡ true
-        either true = refl
-        either false = refl
 
     pub caches_stand : (n : ℕ) → n < node_count parts → IsTrue (list_all (caches_rightly parts parameters) (node_at s n).cache.entries)
     caches_stand n here = cache_rightly (node_at s n).cache (sound.standing.each n here).caches

@@ -89,11 +89,12 @@ module _ (parts : Parts) (parameters : Parameters) (n stamp : ℕ) (node : NodeS
   delivery_packets None below = old
   delivery_packets (Some msg) below = message_packets msg (below msg refl) (content msg)
 
-  packet_packets : (packet : Msg) (waiting : List Msg) (c : Content) → Stamped stamp waiting → Stamped stamp (clocked stamp (handle_by parts n stamp (record node { packets = waiting }) packet c)).node.packets
+  packet_packets : (packet : Msg) (waiting : List Msg) (c : Content) → Stamped stamp waiting
+      → Stamped stamp (clocked stamp (handle_by parts parameters n stamp (record node { packets = waiting }) packet c)).node.packets
   packet_packets packet waiting (ForMemory said) rest = rest
   packet_packets packet waiting (ForCache said) rest = rest
 
-  queue_packets : (q : List Msg) → node.packets ≡ q → Stamped stamp (clocked stamp (handle_front parts n stamp node q)).node.packets
+  queue_packets : (q : List Msg) → node.packets ≡ q → Stamped stamp (clocked stamp (handle_front parts parameters n stamp node q)).node.packets
   queue_packets [] e = old
   queue_packets (packet ∷ waiting) e = packet_packets packet waiting (content packet) (subst (Stamped stamp) e old).1
 

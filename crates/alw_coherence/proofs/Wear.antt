@@ -1,12 +1,13 @@
 -- Once every context has halted each event leaves less to do: it takes a message or a packet, or a cached line.
-use Rattle.std.proofs.Common.{◌≡◌, ℕ, ◌+◌, ◌*◌, ◌<◌, ◌≤◌, ◌==◌, nat_lt, max, fold, Bool, true, false, cond, Option, Some, None, List, [], ◌∷◌, ◌++◌, length, map, get_or, set, IsTrue, refl, sym, subst, ap, ◌∙◌, arith}
+use Rattle.std.proofs.Common.{◌≡◌, ℕ, ◌+◌, ◌*◌, ◌<◌, ◌≤◌, nat_lt, max, fold, Bool, true, false, Option, Some, None, List, [], ◌∷◌, ◌++◌, length, map, get_or, set, IsTrue, refl, sym, subst, ap, ◌∙◌, arith}
 use Rattle.std.specs.List.{AllByRecursion}
 use Rattle.std.specs.Prelude.{is_some}
 use Rattle.std.proofs.lemmas.Bool.{ltb-true, false≢true}
 use Rattle.std.proofs.lemmas.List.{length-append, length-map, set_past}
 use Rattle.std.proofs.lemmas.Nat.{mul-add-lt}
 use Rattle.alw_num.specs.Weights.{weigh}
-use Rattle.alw_num.specs.Maps.{Map, found, taken, value_at, without_value, passes}
+use Rattle.alw_num.specs.Maps.{value_at, passes}
+use Rattle.alw_num.proofs.MapLengths.{length-without}
 use Rattle.alw_num.proofs.Weigh.{cases_lt_then}
 use Rattle.alw_num.specs.declared.addresses.NodeNo.{NodeNo}
 use Rattle.alw_num.specs.declared.states.Mode.{Mode}
@@ -33,7 +34,7 @@ use Rattle.alw_model.proofs.Journals.{and_parts}
 use Rattle.alw_lift.specs.Standing.{IsPacket}
 use Rattle.alw_lift.proofs.Taken.{split_front}
 use Rattle.alw_lift.proofs.Steps.{Fit, fit_is, enabled_is}
-use Rattle.alw_coherence.specs.Endings.{is_evict}
+use Rattle.alw_msg.specs.Events.{is_evict}
 use Rattle.alw_coherence.proofs.FlatSlots.{runs_ready}
 use Rattle.alw_coherence.proofs.ContextRuns.{HasContexts}
 use Rattle.alw_coherence.proofs.Ended.{halted_at}
@@ -60,19 +61,7 @@ pub record Wears (s next : MachineState) (event : Event) : Type 0 where
   pub less : 3 * cached_of next + 2 * messages_of next + packets_of next + 1 ≤ 3 * cached_of s + 2 * messages_of s + packets_of s
   pub fewer : is_evict event ≡ false → 2 * messages_of next + packets_of next + 1 ≤ 2 * messages_of s + packets_of s
 
--- ---- maps and links
-
-length-taken : {X : Type 0} (key : ℕ) (value : X) (entries : List (ℕ × X)) → found key entries ≡ Some value → length (taken key entries) + 1 ≡ length entries
-length-taken key value [] e = absurd (cc)
-length-taken key value (entry ∷ rest) e = go (key == entry.0) e (length-taken key value rest)
-  where
-    go : (b : Bool) → cond b (Some entry.1) (found key rest) ≡ Some value → (found key rest ≡ Some value → length (taken key rest) + 1 ≡ length rest) → length (cond b rest (entry ∷ taken key rest)) + 1 ≡ length (entry ∷ rest)
-    go true e more = omega arith
-    go false e more = omega (arith, more e)
-
-length-without : {X : Type 0} (m : Map X) (key : ℕ) (value : X) → value_at m key ≡ Some value → length (without_value m key).entries + 1 ≡ length m.entries
-unfolding value_at without_value
-length-without m key value e = length-taken key value m.entries e
+-- ---- links
 
 -- a message more on a link
 one_more : (links : List (List Msg)) (place : ℕ) (msg : Msg) → weigh length (set links place (get_or links place [] ++ msg ∷ [])) ≤ weigh length links + 1
@@ -156,13 +145,16 @@ module _ (parts : Parts) (parameters : Parameters) (s : MachineState) (has : Has
         record { less = omega arith; fewer = λ isnt. omega arith }
 
     handled_wears : (at : NodeNo) → at.0 < node_count parts → (packet : Msg) (waiting : List Msg) → (node_at s at.0).packets ≡ packet ∷ waiting → IsPacket parts at.0 packet → (c : Content) → content packet ≡ c → (stamp : ℕ)
-        → Wears s (after_step parts s (Handle at) (clocked stamp (handle_by parts at.0 stamp (record (node_at s at.0) { packets = waiting }) packet c))) (Handle at)
+        → Wears s (after_step parts s (Handle at)
+        (clocked stamp (handle_by parts parameters at.0 stamp (record (node_at s at.0) { packets = waiting }) packet c))) (Handle at)
     handled_wears at here packet waiting queue packed (ForMemory said) is stamp =
-        packet_wears at here packet waiting queue (clocked stamp (handle_by parts at.0 stamp (record (node_at s at.0) { packets = waiting }) packet (ForMemory said))) refl refl
+        packet_wears at here packet waiting queue
+        (clocked stamp (handle_by parts parameters at.0 stamp (record (node_at s at.0) { packets = waiting }) packet (ForMemory said))) refl refl
         (ap (to_caches at.0 stamp packet.line.0) (repm_silent (full_map_of (home_at parts (node_at s at.0) packet.line.0)) packet.src.0 said (packet_repm parts parameters s has halted at.0 packet waiting said queue packed is)))
     handled_wears at here packet waiting queue packed (ForCache said) is stamp = absurd (false≢true (sym (ap is_to_memory is) ∙ packed.to_memory))
 
-    queue_wears : (at : NodeNo) → at.0 < node_count parts → (q : List Msg) → (node_at s at.0).packets ≡ q → is_nonempty q ≡ true → (stamp : ℕ) → Wears s (after_step parts s (Handle at) (clocked stamp (handle_front parts at.0 stamp (node_at s at.0) q))) (Handle at)
+    queue_wears : (at : NodeNo) → at.0 < node_count parts → (q : List Msg) → (node_at s at.0).packets ≡ q → is_nonempty q ≡ true → (stamp : ℕ)
+        → Wears s (after_step parts s (Handle at) (clocked stamp (handle_front parts parameters at.0 stamp (node_at s at.0) q))) (Handle at)
     queue_wears at here [] e some stamp = absurd (false≢true some)
     queue_wears at here (packet ∷ waiting) e some stamp = handled_wears at here packet waiting e (subst (AllByRecursion (IsPacket parts at.0)) e (has.sound.standing.each at.0 here).packets).0 (content packet) refl stamp
 

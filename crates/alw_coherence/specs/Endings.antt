@@ -4,8 +4,7 @@ use Rattle.std.specs.List.{list_any}
 use Rattle.alw_msg.specs.declared.contexts.Status.{Status}
 use Rattle.alw_msg.specs.declared.contexts.Status.TheVariants.{Halted, Trapped}
 use Rattle.alw_msg.specs.declared.events.Entry.{Entry}
-use Rattle.alw_msg.specs.declared.events.Event.{Event}
-use Rattle.alw_msg.specs.declared.events.Event.TheVariants.{Evict}
+use Rattle.alw_msg.specs.Events.{is_evict}
 use Rattle.alw_image.specs.declared.parts.Parts.{Parts}
 use Rattle.alw_image.specs.Parameters.{Parameters}
 use Rattle.alw_model.specs.Machine.{MachineState, machine_start, has_halted, step, is_enabled, main_events}
@@ -15,11 +14,6 @@ abbrev pub has_ended : Status → Bool
 has_ended Halted = true
 has_ended (Trapped pc tt) = true
 has_ended _ = false
-
--- the event is an eviction
-abbrev pub is_evict : Event → Bool
-is_evict (Evict at set) = true
-is_evict _ = false
 
 -- a main event is enabled, the limit aside
 abbrev pub may_go_on : Parts → Parameters → MachineState → Bool

@@ -4,6 +4,7 @@
 
 mod flat_laws;
 mod full_map_laws;
+mod headline;
 mod line_laws;
 mod machine_laws;
 mod run_laws;
@@ -11,6 +12,7 @@ mod standing_machine;
 
 pub use flat_laws::{memory_is_flat, same_turns_same_memory};
 pub use full_map_laws::{homes_are_full_maps, same_messages_same_home};
+pub use headline::ended_journals_are_coherent;
 pub use line_laws::{
     answers_are_owed, copies_are_current, no_unlisted_combination, replies_meet_transactions,
     writers_are_alone,

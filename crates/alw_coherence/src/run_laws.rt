@@ -13,7 +13,8 @@ ghost use Rattle.alw_model.specs.NodeStates.{NodeState};
 ghost use Rattle.alw_model.specs.Machine.{machine_start, node_at, step, has_halted, is_settled, is_enabled, end_of, Limit, IsNext};
 ghost use Rattle.alw_model.specs.Runs.{moments};
 ghost use Rattle.alw_model.specs.Counts.{counts_of, count_holds};
-ghost use Rattle.alw_coherence.specs.Endings.{has_ended, is_evict, may_go_on, EvictsInTime};
+ghost use Rattle.alw_msg.specs.Events.{is_evict};
+ghost use Rattle.alw_coherence.specs.Endings.{has_ended, may_go_on, EvictsInTime};
 ghost use Rattle.alw_coherence.specs.Holds.{UsesHold};
 ghost use Rattle.alw_coherence.specs.Machines.{OnEveryMachine};
 

@@ -19,7 +19,7 @@ use Rattle.alw_msg.specs.declared.contexts.Status.{Status}
 use Rattle.alw_image.specs.declared.parts.Parts.{Parts}
 use Rattle.alw_image.specs.Images.{line_count, zero_line}
 use Rattle.alw_msg.specs.Statuses.{is_ready}
-use Rattle.alw_model.specs.NodeSteps.{status_after}
+use Rattle.alw_model.specs.ProcessorSteps.{status_after}
 use Rattle.alw_model.specs.Flat as model
 use Rattle.alw_model.specs.Flat.{Flat, flat_turn, flat_turn_by, context_at, stored_in}
 use Rattle.alw_flat.specs.declared.machines.Context.{Context}

@@ -5,7 +5,7 @@ ghost use Rattle.alw_num.specs.declared.states.Mode.{Mode};
 ghost use Rattle.alw_image.specs.Images.{context_count};
 ghost use Rattle.alw_msg.specs.Statuses.{is_ready};
 ghost use Rattle.alw_model.specs.Contexts.{status_start};
-ghost use Rattle.alw_model.specs.NodeSteps.{status_after};
+ghost use Rattle.alw_model.specs.ProcessorSteps.{status_after};
 ghost use Rattle.alw_model.specs.Flat.{flat_start, flat_turn, context_start, context_at};
 ghost use Rattle.alw_flat.specs.Machines.{for_turns, word_of, IsSharedWord};
 ghost use Rattle.alw_flat.specs.Contexts.{contexts_of};

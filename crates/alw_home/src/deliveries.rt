@@ -3,9 +3,9 @@ ghost use Rattle.alw_num.specs.NodeSets.{Nodes, no_nodes, count_nodes};
 ghost use Rattle.alw_msg.specs.Kinds.{to_memory};
 ghost use Rattle.alw_model.specs.LimitLess.{is_trapped, overflows};
 ghost use Rattle.alw_msg.specs.Contents.{content};
-ghost use Rattle.dir_full.specs.Reactions.{with_sends, HasRoom};
+ghost use Rattle.dir_full.specs.Reactions.{HasRoom};
 ghost use Rattle.alw_home.specs.Entries.{directory_of};
-ghost use Rattle.alw_home.specs.Deliveries.{is_overflow, is_trap, answer_of, after_delivery};
+ghost use Rattle.alw_home.specs.Deliveries.{is_overflow, is_trap, Delivers};
 
 use crate::reactions::react;
 use alw_model::Keeping;
@@ -31,10 +31,8 @@ pub fn deliver(entry: &mut HomeEntry, pointers: u8, msg: &Msg, sent: &mut Sends)
     requires most { pointers ≤ MOST_POINTERS }
     requires few { count_nodes entry.old.pointers ≤ pointers }
     requires room { HasRoom entry.old.pointers msg.now.src.0 sent.old }
-    ensures answer { result ≡ answer_of pointers (directory_of entry.old no_nodes false) msg.now.src.0 (content msg.now) }
-    ensures entry { (software : Nodes) → (always : Bool) →
-        directory_of entry.new software always ≡ (after_delivery result (directory_of entry.old software always) msg.now.src.0 (content msg.now)).0 }
-    ensures sends { sent.new ≡ with_sends sent.old msg.now.line.0 (after_delivery result (directory_of entry.old no_nodes false) msg.now.src.0 (content msg.now)).1 }
+    ensures { (software : Nodes) → (always : Bool) →
+        Delivers pointers (directory_of entry.old software always) (directory_of entry.new software always) sent.old sent.new result msg.now }
 {
     if entry.meta == Meta::Progress {
         return Acted::Blocked;
@@ -73,7 +71,7 @@ fn traps(entry: &HomeEntry, most: u8, msg: &Msg) -> bool
 // A read finds no pointer left.
 fn overflows(entry: &HomeEntry, most: u8, msg: &Msg) -> bool
     requires { msg.now.src.0 < MOST_NODES }
-    ensures { result ≡ is_overflow most (directory_of entry.now no_nodes false) msg.now.src.0 (content msg.now) }
+    ensures { result ≡ is_overflow most entry.now.pointers msg.now.src.0 entry.now.state (content msg.now) }
 {
     entry.state == State::RO
         && msg.kind == Kind::RREQ

@@ -1,8 +1,8 @@
 -- Parts without a fault are an image's, and an image's parts have none.
-use Rattle.std.proofs.Common.{◌≡◌, ◌≢◌, ℕ, ◌+◌, ◌*◌, ◌%◌, ◌<◌, ◌≤◌, Bool, true, false, not, ◌&&◌, ◌==◌, Option, Some, None, List, [], ◌∷◌, length, map, refl, sym, ap, subst, ◌∙◌, IsTrue, is_some, arith}
+use Rattle.std.proofs.Common.{◌≡◌, ℕ, ◌+◌, ◌*◌, ◌<◌, ◌≤◌, Bool, true, false, not, ◌&&◌, Option, Some, None, List, length, map, refl, sym, ap, subst, ◌∙◌, IsTrue, is_some, arith}
 use Rattle.std.proofs.lemmas.Bool.Decides.{nat_tests}
-use Rattle.std.proofs.lemmas.List.{length-map}
-use Rattle.std.specs.List.{AllByRecursion}
+use Rattle.std.proofs.lemmas.Bool.{and_parts, and_from}
+use Rattle.std.proofs.lemmas.List.{length-map, map-id}
 use Rattle.std.specs.List.Sorted.{IsStrictlyIncreasing}
 use Rattle.alw_num.specs.declared.addresses.Line.{Line}
 use Rattle.alw_num.specs.declared.addresses.LineNo.{LineNo}
@@ -15,14 +15,6 @@ use Rattle.alw_image.specs.Sizes.{HasSizes, has_sizes, has_sides, has_counts}
 use Rattle.alw_image.proofs.HeaderFields.{within-both, product}
 use Rattle.alw_image.proofs.Orders.{all_fit, ascends, no_fault, few, all_map, all_weaker, both_none}
 
-pub and_both : (a b : Bool) → IsTrue (a && b) → IsTrue a × IsTrue b
-and_both true b both = (refl, both)
-and_both false b both = absurd (let e : false ≡ true = both in cc)
-
-pub both_and : (a b : Bool) → IsTrue a → IsTrue b → IsTrue (a && b)
-both_and true b first second = second
-both_and false b first second = absurd (let e : false ≡ true = first in cc)
-
 pub within : (least most n : ℕ) → least ≤ n → n ≤ most → IsTrue (is_within least most n)
 within least most n low high = grind (arith, nat_tests)
 
@@ -30,13 +22,13 @@ within least most n low high = grind (arith, nat_tests)
 
 pub sizes_of : (p : Parts) → IsTrue (has_sizes p) → HasSizes p
 sizes_of p fit =
-    let s = and_both (has_sides p) (has_counts p) fit in
-    let s1 = and_both (is_within 1 16 p.width) (is_within 1 16 p.height && (is_within 1 4 p.contexts && is_within 1 4096 p.per_node)) s.0 in
-    let s2 = and_both (is_within 1 16 p.height) (is_within 1 4 p.contexts && is_within 1 4096 p.per_node) s1.1 in
-    let s3 = and_both (is_within 1 4 p.contexts) (is_within 1 4096 p.per_node) s2.1 in
-    let c1 = and_both (is_within 1 65536 (length p.code)) (is_within 0 (line_count p) (length p.bodies) && (is_within 1 (context_count p) (length p.starts) && is_within 0 (line_count p) (length p.always))) s.1 in
-    let c2 = and_both (is_within 0 (line_count p) (length p.bodies)) (is_within 1 (context_count p) (length p.starts) && is_within 0 (line_count p) (length p.always)) c1.1 in
-    let c3 = and_both (is_within 1 (context_count p) (length p.starts)) (is_within 0 (line_count p) (length p.always)) c2.1 in
+    let s = and_parts (has_sides p) (has_counts p) fit in
+    let s1 = and_parts (is_within 1 16 p.width) (is_within 1 16 p.height && (is_within 1 4 p.contexts && is_within 1 4096 p.per_node)) s.0 in
+    let s2 = and_parts (is_within 1 16 p.height) (is_within 1 4 p.contexts && is_within 1 4096 p.per_node) s1.1 in
+    let s3 = and_parts (is_within 1 4 p.contexts) (is_within 1 4096 p.per_node) s2.1 in
+    let c1 = and_parts (is_within 1 65536 (length p.code)) (is_within 0 (line_count p) (length p.bodies) && (is_within 1 (context_count p) (length p.starts) && is_within 0 (line_count p) (length p.always))) s.1 in
+    let c2 = and_parts (is_within 0 (line_count p) (length p.bodies)) (is_within 1 (context_count p) (length p.starts) && is_within 0 (line_count p) (length p.always)) c1.1 in
+    let c3 = and_parts (is_within 1 (context_count p) (length p.starts)) (is_within 0 (line_count p) (length p.always)) c2.1 in
     record {
       width = within-both 1 16 p.width s1.0;
       height = within-both 1 16 p.height s2.0;
@@ -50,11 +42,11 @@ sizes_of p fit =
 
 pub has_sizes_of : (p : Parts) → HasSizes p → IsTrue (has_sizes p)
 has_sizes_of p s =
-    let sides = both_and (is_within 1 16 p.width) _ (within 1 16 p.width s.width.0 s.width.1) (both_and (is_within 1 16 p.height) _ (within 1 16 p.height s.height.0 s.height.1)
-    (both_and (is_within 1 4 p.contexts) (is_within 1 4096 p.per_node) (within 1 4 p.contexts s.contexts.0 s.contexts.1) (within 1 4096 p.per_node s.per_node.0 s.per_node.1))) in
-    let counts = both_and (is_within 1 65536 (length p.code)) _ (within 1 65536 (length p.code) s.code.0 s.code.1) (both_and (is_within 0 (line_count p) (length p.bodies)) _ (within 0 (line_count p) (length p.bodies) (omega arith) s.bodies)
-    (both_and (is_within 1 (context_count p) (length p.starts)) (is_within 0 (line_count p) (length p.always)) (within 1 (context_count p) (length p.starts) s.starts.0 s.starts.1) (within 0 (line_count p) (length p.always) (omega arith) s.always))) in
-    both_and (has_sides p) (has_counts p) sides counts
+    let sides = and_from (is_within 1 16 p.width) _ (within 1 16 p.width s.width.0 s.width.1) (and_from (is_within 1 16 p.height) _ (within 1 16 p.height s.height.0 s.height.1)
+    (and_from (is_within 1 4 p.contexts) (is_within 1 4096 p.per_node) (within 1 4 p.contexts s.contexts.0 s.contexts.1) (within 1 4096 p.per_node s.per_node.0 s.per_node.1))) in
+    let counts = and_from (is_within 1 65536 (length p.code)) _ (within 1 65536 (length p.code) s.code.0 s.code.1) (and_from (is_within 0 (line_count p) (length p.bodies)) _ (within 0 (line_count p) (length p.bodies) (omega arith) s.bodies)
+    (and_from (is_within 1 (context_count p) (length p.starts)) (is_within 0 (line_count p) (length p.always)) (within 1 (context_count p) (length p.starts) s.starts.0 s.starts.1) (within 0 (line_count p) (length p.always) (omega arith) s.always))) in
+    and_from (has_sides p) (has_counts p) sides counts
 
 -- ---- members
 
@@ -70,14 +62,14 @@ zero-is body zeros =
     of_parts a b c d is_a is_b is_c is_d = cc
 
 data-line : (p : Parts) (entry : LineNo × Line) → IsTrue (fits_body (line_count p) entry) → IsDataLine p entry
-data-line p entry fits = (grind (arith, nat_tests), λ zeros. by_zero (is_zero entry.1) (ap is_zero zeros) (and_both _ (not (is_zero entry.1)) fits).1)
+data-line p entry fits = (grind (arith, nat_tests), λ zeros. by_zero (is_zero entry.1) (ap is_zero zeros) (and_parts _ (not (is_zero entry.1)) fits).1)
   where
     by_zero : (z : Bool) → z ≡ true → IsTrue (not z) → ⊥
     by_zero true is fits = (let e : false ≡ true = fits in cc)
     by_zero false is fits = cc
 
 data-fits : (p : Parts) (entry : LineNo × Line) → IsDataLine p entry → IsTrue (fits_body (line_count p) entry)
-data-fits p entry is = both_and _ (not (is_zero entry.1)) (grind (arith, nat_tests, is.0)) (by_zero (is_zero entry.1) (λ zeros. is.1 (zero-is entry.1 zeros)))
+data-fits p entry is = and_from _ (not (is_zero entry.1)) (grind (arith, nat_tests, is.0)) (by_zero (is_zero entry.1) (λ zeros. is.1 (zero-is entry.1 zeros)))
   where
     by_zero : (z : Bool) → (IsTrue z → ⊥) → IsTrue (not z)
     by_zero true not_zero = absurd (not_zero refl)
@@ -116,12 +108,8 @@ is_image p b s a sizes none =
       always_ascend = same_keys p.always (ascends (fits_line (line_count p)) line_key 4 a p.always second.1);
     }
   where
-    map-same : (xs : List ℕ) → map line_key xs ≡ xs
-    map-same [] = refl
-    map-same (x ∷ rest) = ap (λ ys. x ∷ ys) (map-same rest)
-
     same_keys : (xs : List ℕ) → IsStrictlyIncreasing (map line_key xs) → IsStrictlyIncreasing xs
-    same_keys xs up = subst IsStrictlyIncreasing (map-same xs) up
+    same_keys xs up = subst IsStrictlyIncreasing (map-id xs) up
 
 -- an image's parts have sizes within their ranges
 pub image_sizes : (p : Parts) → IsImage p → HasSizes p
@@ -150,16 +138,12 @@ pub image_tables : (p : Parts) (b s a : ℕ) → IsImage p → tables_fault p b 
 image_tables p b s a i =
     let bodies = no_fault (fits_body (line_count p)) body_key 20 b p.bodies (all_weaker _ _ p.bodies (data-fits p) i.bodies) i.bodies_ascend in
     let starts = no_fault (fits_start (node_count p) p.contexts (length p.code)) (context_started p) 8 s p.starts (all_weaker _ _ p.starts (start-fits p) i.starts) i.starts_ascend in
-    let always = no_fault (fits_line (line_count p)) line_key 4 a p.always (all_weaker _ _ p.always (line-fits (line_count p)) i.always) (subst IsStrictlyIncreasing (sym (map-same p.always)) i.always_ascend) in
+    let always = no_fault (fits_line (line_count p)) line_key 4 a p.always (all_weaker _ _ p.always (line-fits (line_count p)) i.always) (subst IsStrictlyIncreasing (sym (map-id p.always)) i.always_ascend) in
     none_both _ _ bodies (none_both _ _ starts always)
   where
     none_both : (x y : Option ImageErr) → x ≡ None → y ≡ None → first_fault x y ≡ None
     none_both None y first second = second
     none_both (Some e) y first second = absurd (let w : Some e ≡ None = first in cc)
-
-    map-same : (xs : List ℕ) → map line_key xs ≡ xs
-    map-same [] = refl
-    map-same (x ∷ rest) = ap (λ ys. x ∷ ys) (map-same rest)
 
 -- where the sizes fit, the parts are an image's exactly where no member is out of range or out of order
 pub tested : (p : Parts) (fault : Option ImageErr) (none : Bool) → IsTrue (has_sizes p) → fault ≡ tables_fault p 0 0 0 → is_some fault ≡ not none → (IsTrue none → IsImage p) × (IsImage p → IsTrue none)

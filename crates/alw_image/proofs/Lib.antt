@@ -7,3 +7,4 @@ pub mod Readings
 pub mod Pieces
 pub mod Spelled
 pub mod Searches
+pub mod Cuts

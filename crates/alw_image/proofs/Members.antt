@@ -1,11 +1,10 @@
 -- What one member of a table is read off, and how it is spelled.
-use Rattle.std.proofs.Common.{◌≡◌, ℕ, ◌+◌, ◌*◌, ◌/◌, ◌%◌, ◌^◌, ◌<◌, ◌≤◌, List, [], ◌∷◌, ◌++◌, length, take, drop, refl, sym, ap, ◌∙◌, zero, suc, arith}
+use Rattle.std.proofs.Common.{◌≡◌, ℕ, ◌+◌, ◌*◌, ◌/◌, ◌%◌, ◌^◌, ◌<◌, List, ◌∷◌, ◌++◌, length, take, drop, sym, ap, ◌∙◌, zero, suc, arith}
 use Rattle.std.proofs.lemmas.Bool.Decides.{nat_tests}
 use Rattle.std.specs.Int.{w16, w32, to_be_bytes}
 use Rattle.alw_num.specs.declared.addresses.Line.{Line}
 use Rattle.alw_num.specs.declared.addresses.LineNo.{LineNo}
 use Rattle.alw_num.specs.declared.addresses.NodeNo.{NodeNo}
-use Rattle.alw_num.specs.Lanes.{half_at, word_at}
 use Rattle.alw_image.specs.Images.{data_line, start_bytes}
 use Rattle.alw_image.specs.Faults.{word_of, body_of_bytes, start_of_bytes, slot_of}
 use Rattle.alw_image.specs.TableReads.{IsMember, IsAny, IsSlot}

@@ -1,22 +1,21 @@
 -- Bytes without a fault are the spelling of the parts that are read off them.
-use Rattle.std.proofs.Common.{◌≡◌, ℕ, ◌+◌, ◌-◌, ◌*◌, ◌<◌, ◌≤◌, Bool, true, false, ◌&&◌, ◌==◌, nat_le, if◌then◌else◌, Option, Some, None, List, [], ◌∷◌, ◌++◌, length, take, drop, refl, sym, ap, subst, ◌∙◌, IsTrue, arith, append_assoc, codes}
+use Rattle.std.proofs.Common.{◌≡◌, ℕ, ◌+◌, ◌-◌, ◌*◌, ◌≤◌, ◌&&◌, nat_le, if◌then◌else◌, Option, None, List, [], ◌∷◌, ◌++◌, length, drop, refl, sym, ap, subst, ◌∙◌, IsTrue, arith, append_assoc, codes}
 use Rattle.std.proofs.lemmas.List.{append-nil, drop-drop, take-append-drop, drop_all}
 use Rattle.std.proofs.lemmas.Bool.Decides.{nat_tests}
 use Rattle.std.specs.Int.{w16, w32, to_be_bytes}
 use Rattle.std.specs.List.{flat_map, AllByRecursion}
-use Rattle.alw_num.specs.declared.addresses.NodeNo.{NodeNo}
 use Rattle.alw_num.specs.Lanes.{half_at}
 use Rattle.alw_image.specs.declared.headers.Header.{Header}
 use Rattle.alw_image.specs.declared.parts.Parts.{Parts}
 use Rattle.alw_image.specs.declared.faults.ImageErr.{ImageErr}
-use Rattle.alw_image.specs.Images.{IsImage, IsStart, node_count, line_count, context_count, words, data_line, start_bytes, version_of, header, spelling}
-use Rattle.alw_image.specs.Faults.{is_within, most_side, least_height, range_fault, bodies_at, starts_at, always_at, end_of, header_of, piece, parts_in, tables_fault, table_of, word_of, body_of_bytes, start_of_bytes, header_fault, body_fault, image_fault}
-use Rattle.alw_image.specs.Sizes.{HasSizes, has_sizes}
+use Rattle.alw_image.specs.Images.{IsImage, IsStart, line_count, context_count, words, data_line, start_bytes, version_of, header, spelling}
+use Rattle.alw_image.specs.Faults.{is_within, most_side, least_height, range_fault, bodies_at, starts_at, always_at, image_end, header_of, piece, parts_in, tables_fault, header_fault, body_fault, image_fault}
+use Rattle.alw_image.specs.Sizes.{has_sizes}
 use Rattle.alw_image.specs.Spellings.{header_bytes}
-use Rattle.alw_image.specs.TableReads.{IsWhole, IsAny, IsSlot, AreRead}
+use Rattle.alw_image.specs.TableReads.{IsAny, IsSlot, AreRead}
 use Rattle.alw_image.proofs.HeaderFields.{AreWithin, are_within, within-both}
 use Rattle.alw_image.proofs.Orders.{all_weaker}
-use Rattle.alw_image.proofs.Checked.{has_sizes_of, sizes_of, is_image}
+use Rattle.alw_image.proofs.Checked.{has_sizes_of}
 
 -- the parts are those that the bytes spell
 pub parts_are : (h : Header) (bytes : List ℕ) (p : Parts) → AreRead h bytes p → parts_in h bytes ≡ p
@@ -101,7 +100,7 @@ cut from to bytes order = sym (take-append-drop (to - from) (drop from bytes)) �
 slots-are : (p : Parts) → p.contexts ≤ 4 → AllByRecursion (IsStart p) p.starts → AllByRecursion IsSlot p.starts
 slots-are p few all = all_weaker (IsStart p) IsSlot p.starts (λ start is. let slot = is.1 in omega arith) all
 
-pub spelled_so : (h : Header) (bytes : List ℕ) (p : Parts) → h ≡ header_of bytes → IsTrue (is_within 1 2 (half_at bytes 4)) → bytes ≡ header_bytes h ++ drop 28 bytes → range_fault h ≡ None → length bytes ≡ end_of h → AreRead h bytes p → IsImage p → bytes ≡ spelling p
+pub spelled_so : (h : Header) (bytes : List ℕ) (p : Parts) → h ≡ header_of bytes → IsTrue (is_within 1 2 (half_at bytes 4)) → bytes ≡ header_bytes h ++ drop 28 bytes → range_fault h ≡ None → length bytes ≡ image_end h → AreRead h bytes p → IsImage p → bytes ≡ spelling p
 unfolding spelling
 spelled_so h bytes p is version front fits whole r image =
     let w = are_within h fits in
@@ -113,7 +112,7 @@ spelled_so h bytes p is version front fits whole r image =
     let bodies = r.bodies.spelled (any-all p.bodies) in
     let starts = r.starts.spelled (slots-are p few image.starts) in
     let always = r.always.spelled (any-all p.always) ∙ words-are p.always in
-    let last : drop (always_at h) bytes ≡ words p.always = cut (always_at h) (end_of h) bytes (omega arith) ∙ ap (λ rest. piece (always_at h) (end_of h) bytes ++ rest) (drop_all (end_of h) bytes (omega arith)) ∙ append-nil _ ∙ always in
+    let last : drop (always_at h) bytes ≡ words p.always = cut (always_at h) (image_end h) bytes (omega arith) ∙ ap (λ rest. piece (always_at h) (image_end h) bytes ++ rest) (drop_all (image_end h) bytes (omega arith)) ∙ append-nil _ ∙ always in
     let third : drop (starts_at h) bytes ≡ flat_map start_bytes p.starts ++ words p.always = cut (starts_at h) (always_at h) bytes (omega arith) ∙ ap (λ front. front ++ drop (always_at h) bytes) starts ∙ ap (λ rest. flat_map start_bytes p.starts ++ rest) last in
     let second : drop (bodies_at h) bytes ≡ flat_map data_line p.bodies ++ (flat_map start_bytes p.starts ++ words p.always) = cut (bodies_at h) (starts_at h) bytes (omega arith) ∙ ap (λ front. front ++ drop (starts_at h) bytes) bodies ∙ ap (λ rest. flat_map data_line p.bodies ++ rest) third in
     let first : drop 28 bytes ≡ words p.code ++ (flat_map data_line p.bodies ++ (flat_map start_bytes p.starts ++ words p.always)) = cut 28 (bodies_at h) bytes (omega arith) ∙ ap (λ front. front ++ drop (bodies_at h) bytes) code ∙ ap (λ rest. words p.code ++ rest) second in

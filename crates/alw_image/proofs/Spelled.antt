@@ -1,5 +1,5 @@
 -- An image's spelling has no fault, and its parts are read off it.
-use Rattle.std.proofs.Common.{◌≡◌, ℕ, ◌+◌, ◌-◌, ◌*◌, ◌/◌, ◌%◌, ◌<◌, ◌≤◌, ◌^◌, Bool, true, false, not, ◌&&◌, ◌==◌, nat_le, nat_lt, if◌then◌else◌, Option, Some, None, List, [], ◌∷◌, ◌++◌, length, take, drop, refl, sym, ap, subst, ◌∙◌, IsTrue, arith, append_assoc, length-append, codes}
+use Rattle.std.proofs.Common.{◌≡◌, ℕ, ◌+◌, ◌*◌, ◌<◌, ◌≤◌, ◌^◌, Bool, true, false, not, ◌&&◌, ◌==◌, nat_le, nat_lt, if◌then◌else◌, Option, Some, None, List, [], ◌∷◌, ◌++◌, length, refl, sym, ap, subst, ◌∙◌, IsTrue, arith, append_assoc, length-append, codes}
 use Rattle.std.proofs.lemmas.List.{append-nil}
 use Rattle.std.proofs.lemmas.Bool.Decides.{nat_tests}
 use Rattle.std.specs.Int.{w16, w32, to_be_bytes}
@@ -11,9 +11,9 @@ use Rattle.alw_num.specs.Lanes.{half_at}
 use Rattle.alw_image.specs.declared.headers.Header.{Header}
 use Rattle.alw_image.specs.declared.parts.Parts.{Parts}
 use Rattle.alw_image.specs.declared.faults.ImageErr.{ImageErr}
-use Rattle.alw_image.specs.declared.faults.ImageErr.TheVariants.{Magic, Version, Short, Trailing, Range}
+use Rattle.alw_image.specs.declared.faults.ImageErr.TheVariants.{Magic, Version, Short, Trailing}
 use Rattle.alw_image.specs.Images.{IsImage, IsDataLine, IsStart, node_count, line_count, context_count, words, data_line, start_bytes, version_of, header, spelling}
-use Rattle.alw_image.specs.Faults.{is_within, is_front, most_side, least_height, fields, first_unfit, range_fault, bodies_at, starts_at, always_at, end_of, header_of, piece, ranged, parts_in, tables_fault, table_of, word_of, body_of_bytes, start_of_bytes, header_fault, body_fault, image_fault}
+use Rattle.alw_image.specs.Faults.{is_within, is_magic, most_side, fields, first_unfit, range_fault, bodies_at, starts_at, always_at, image_end, header_of, piece, ranged, parts_in, tables_fault, table_of, word_of, body_of_bytes, start_of_bytes, header_fault, body_fault, image_fault}
 use Rattle.alw_image.specs.Sizes.{HasSizes}
 use Rattle.alw_image.specs.Numbers.{IsWord, HasFourWords, HasWords}
 use Rattle.alw_image.specs.TableReads.{IsAny, IsSlot}
@@ -105,7 +105,7 @@ bodies-long bodies = length-table data_line 20 bodies (λ entry. refl)
 starts-long : (starts : List (NodeNo × ℕ × ℕ)) → length (flat_map start_bytes starts) ≡ 8 * length starts
 starts-long starts = length-table start_bytes 8 starts (λ start. refl)
 
-pub spelling-long : (p : Parts) → length (spelling p) ≡ end_of (head_of p)
+pub spelling-long : (p : Parts) → length (spelling p) ≡ image_end (head_of p)
 unfolding spelling
 spelling-long p =
     let code = words p.code in
@@ -133,7 +133,7 @@ record HasPieces (p : Parts) (bytes : List ℕ) : Type 0 where
   code : piece 28 (bodies_at (head_of p)) bytes ≡ words p.code
   bodies : piece (bodies_at (head_of p)) (starts_at (head_of p)) bytes ≡ flat_map data_line p.bodies
   starts : piece (starts_at (head_of p)) (always_at (head_of p)) bytes ≡ flat_map start_bytes p.starts
-  always : piece (always_at (head_of p)) (end_of (head_of p)) bytes ≡ words p.always
+  always : piece (always_at (head_of p)) (image_end (head_of p)) bytes ≡ words p.always
 
 pieces_of : (p : Parts) → HasPieces p (spelling p)
 unfolding spelling
@@ -159,7 +159,7 @@ pieces_of p =
       code = piece_at head code (bodies ++ (starts ++ always)) whole 28 (bodies_at (head_of p)) refl refl (ap (λ n. 28 + n) n_code);
       bodies = piece_at (head ++ code) bodies (starts ++ always) whole (bodies_at (head_of p)) (starts_at (head_of p)) at_bodies after_code (ap (λ n. bodies_at (head_of p) + n) n_bodies);
       starts = piece_at ((head ++ code) ++ bodies) starts always whole (starts_at (head_of p)) (always_at (head_of p)) at_starts after_bodies (ap (λ n. starts_at (head_of p) + n) n_starts);
-      always = piece_at (((head ++ code) ++ bodies) ++ starts) always [] whole (always_at (head_of p)) (end_of (head_of p)) at_end after_starts (ap (λ n. always_at (head_of p) + n) n_always);
+      always = piece_at (((head ++ code) ++ bodies) ++ starts) always [] whole (always_at (head_of p)) (image_end (head_of p)) at_end after_starts (ap (λ n. always_at (head_of p) + n) n_always);
     }
 
 -- ---- the parts
@@ -208,17 +208,17 @@ header-of_spelling p i =
 
 -- ---- no fault
 
-header_passes : (n : ℕ) (h : Header) (rest : Option ImageErr) → range_fault h ≡ None → n ≡ end_of h → rest ≡ None → header_fault n h rest ≡ None
-header_passes n h rest fits whole none = passes (range_fault h) n (end_of h) rest fits whole none
+header_passes : (n : ℕ) (h : Header) (rest : Option ImageErr) → range_fault h ≡ None → n ≡ image_end h → rest ≡ None → header_fault n h rest ≡ None
+header_passes n h rest fits whole none = passes (range_fault h) n (image_end h) rest fits whole none
   where
     passes : (unfit : Option ℕ) (n end : ℕ) (rest : Option ImageErr) → unfit ≡ None → n ≡ end → rest ≡ None → ranged unfit (if nat_lt n end then Some (Short n) else (if nat_lt end n then Some (Trailing end) else rest)) ≡ None
     passes None n end rest fits whole none = grind (arith, nat_tests)
     passes (Some at) n end rest fits whole none = absurd (let e : Some at ≡ None = fits in cc)
 
-front_passes : (front : Bool) (n v : ℕ) (rest : Option ImageErr) → front ≡ true → 28 ≤ n → IsTrue (is_within 1 2 v) → rest ≡ None →
+opening_passes : (front : Bool) (n v : ℕ) (rest : Option ImageErr) → front ≡ true → 28 ≤ n → IsTrue (is_within 1 2 v) → rest ≡ None →
     (if not front then Some (Magic 0) else (if nat_lt n 6 then Some (Short n) else (if not (is_within 1 2 v) then Some (Version 4) else (if nat_lt n 28 then Some (Short n) else rest)))) ≡ None
-front_passes true n v rest front long version none = grind (arith, nat_tests)
-front_passes false n v rest front long version none = absurd (let e : false ≡ true = front in cc)
+opening_passes true n v rest front long version none = grind (arith, nat_tests)
+opening_passes false n v rest front long version none = absurd (let e : false ≡ true = front in cc)
 
 pub body-passes : (p : Parts) → IsImage p → HasWords p → body_fault (spelling p) ≡ None
 body-passes p i fits =
@@ -227,9 +227,9 @@ body-passes p i fits =
     ∙ ap (λ (q : Parts). header_fault (length (spelling p)) (head_of p) (tables_fault q (bodies_at (head_of p)) (starts_at (head_of p)) (always_at (head_of p)))) (parts_back p i fits)
     ∙ header_passes (length (spelling p)) (head_of p) _ (in_range p (image_sizes p i)) (spelling-long p) (image_tables p (bodies_at (head_of p)) (starts_at (head_of p)) (always_at (head_of p)) i)
 
-front-is : (p : Parts) → is_front (spelling p) ≡ true
+magic-is : (p : Parts) → is_magic (spelling p) ≡ true
 unfolding spelling
-front-is p = refl
+magic-is p = refl
 
 pub has_no_fault : (p : Parts) → IsImage p → HasWords p → image_fault (spelling p) ≡ None
 unfolding image_fault
@@ -237,7 +237,7 @@ has_no_fault p i fits =
     let s = image_sizes p i in
     let v = version_fits p.width p.height s.width.0 s.width.1 s.height.0 s.height.1 (version_of p) refl in
     let version : version_of p ≡ half_at (spelling p) 4 = sym (ap (λ (h : Header). h.version) (header-of_spelling p i)) in
-    front_passes (is_front (spelling p)) (length (spelling p)) (half_at (spelling p) 4) (body_fault (spelling p)) (front-is p) (let long = spelling-long p in omega arith) (subst (λ (n : ℕ). IsTrue (is_within 1 2 n)) version v.1.1.0) (body-passes p i fits)
+    opening_passes (is_magic (spelling p)) (length (spelling p)) (half_at (spelling p) 4) (body_fault (spelling p)) (magic-is p) (let long = spelling-long p in omega arith) (subst (λ (n : ℕ). IsTrue (is_within 1 2 n)) version v.1.1.0) (body-passes p i fits)
 
 -- images with the same spelling are the same
 pub same_image : (p q : Parts) → IsImage p → HasWords p → IsImage q → HasWords q → spelling p ≡ spelling q → p ≡ q

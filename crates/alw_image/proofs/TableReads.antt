@@ -1,8 +1,7 @@
 -- A table read member by member: how it grows, and that its bytes are its members' spellings.
-use Rattle.std.proofs.Common.{◌≡◌, ℕ, zero, suc, ◌+◌, ◌*◌, ◌<◌, ◌≤◌, List, [], ◌∷◌, ◌++◌, length, take, drop, refl, sym, ap, ◌∙◌, append_assoc, length-append, arith}
+use Rattle.std.proofs.Common.{◌≡◌, ℕ, zero, suc, ◌+◌, ◌*◌, ◌<◌, ◌≤◌, List, [], ◌∷◌, ◌++◌, length, drop, refl, sym, ap, ◌∙◌, append_assoc, length-append, arith}
 use Rattle.std.proofs.Math.Nat.{mul-suc}
-use Rattle.std.proofs.lemmas.Grind.{flat_map-append}
-use Rattle.std.proofs.lemmas.List.{append-nil}
+use Rattle.std.proofs.lemmas.List.{append-nil, nil_from_length}
 use Rattle.std.specs.List.{flat_map, AllByRecursion}
 use Rattle.alw_image.specs.Faults.{table_of}
 use Rattle.alw_image.specs.TableReads.{IsMember, IsWhole}
@@ -51,15 +50,11 @@ has_left read spell Good size count bytes so_far rest r some = has_left_by size 
     has_left_by size count read rest zero some number bytes_left = absurd (omega (arith, (let none : size * 0 ≡ 0 = omega arith in bytes_left ∙ none)))
     has_left_by size count read rest (suc left) some number bytes_left = omega arith
 
-empty_of : (xs : List ℕ) → length xs ≡ 0 → xs ≡ []
-empty_of [] none = refl
-empty_of (x ∷ xs) none = absurd (omega arith)
-
 ends_by : {X : Type 0} (read : List ℕ → X) (spell : X → List ℕ) (Good : X → Type 0) (size count : ℕ) (bytes : List ℕ) (so_far : List X) (rest : List ℕ) (left : ℕ) →
     length so_far + left ≡ count → length rest ≡ size * left → table_of read size count bytes ≡ so_far ++ table_of read size left rest → (AllByRecursion Good so_far → bytes ≡ flat_map spell so_far ++ rest) →
     length rest < size → IsWhole read spell Good size count bytes so_far
 ends_by read spell Good size count bytes so_far rest zero number bytes_left reading spelled few =
-    let none : rest ≡ [] = empty_of rest (let none : size * 0 ≡ 0 = omega arith in bytes_left ∙ none) in
+    let none : rest ≡ [] = nil_from_length rest (let none : size * 0 ≡ 0 = omega arith in bytes_left ∙ none) in
     record { reading = reading ∙ append-nil so_far; spelled = λ good. spelled good ∙ ap (λ ys. flat_map spell so_far ++ ys) none ∙ append-nil (flat_map spell so_far); number = omega arith }
 ends_by read spell Good size count bytes so_far rest (suc left) number bytes_left reading spelled few = absurd (omega (arith, bytes_left ∙ mul-suc size left))
 

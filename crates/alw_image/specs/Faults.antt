@@ -1,5 +1,5 @@
 -- What is wrong with bytes that spell no image: the checks in their order, of which the first that fails decides.
-use Rattle.std.specs.Prelude.{ℕ, zero, suc, ◌+◌, ◌-◌, ◌*◌, ◌%◌, ◌==◌, ◌&&◌, Bool, true, false, not, nat_le, nat_lt, if◌then◌else◌, eqb, Option, None, Some, List, [], ◌∷◌, length, take, drop, slice_index, codes, T}
+use Rattle.std.specs.Prelude.{ℕ, zero, suc, ◌+◌, ◌-◌, ◌*◌, ◌%◌, ◌==◌, ◌&&◌, Bool, true, not, nat_le, nat_lt, if◌then◌else◌, eqb, Option, None, Some, List, [], ◌∷◌, length, take, drop, slice_index, codes}
 use Rattle.std.specs.List.{starts_with}
 use Rattle.alw_num.specs.declared.addresses.Line.{Line}
 use Rattle.alw_num.specs.declared.addresses.LineNo.{LineNo}
@@ -9,7 +9,7 @@ use Rattle.alw_image.specs.declared.parts.Parts.{Parts}
 use Rattle.alw_image.specs.declared.headers.Header.{Header}
 use Rattle.alw_image.specs.declared.faults.ImageErr.{ImageErr}
 use Rattle.alw_image.specs.declared.faults.ImageErr.TheVariants.{Magic, Version, Short, Trailing, Range, Order}
-use Rattle.alw_image.specs.Images.{node_count, line_count, context_count, context_started}
+use Rattle.alw_image.specs.Images.{node_count, line_count, context_started}
 
 -- ---- the header
 
@@ -73,12 +73,12 @@ starts_at h = bodies_at h + 20 * h.bodies
 abbrev pub always_at : Header → ℕ
 always_at h = starts_at h + 8 * h.starts
 
-abbrev pub end_of : Header → ℕ
-end_of h = always_at h + 4 * h.always
+abbrev pub image_end : Header → ℕ
+image_end h = always_at h + 4 * h.always
 
 -- the first bytes are those of `ALEW`, as far as they go
-abbrev pub is_front : List ℕ → Bool
-is_front bytes = starts_with eqb (codes "ALEW") (take 4 bytes)
+abbrev pub is_magic : List ℕ → Bool
+is_magic bytes = starts_with eqb (codes "ALEW") (take 4 bytes)
 
 abbrev pub ranged : Option ℕ → Option ImageErr → Option ImageErr
 ranged None rest = rest
@@ -87,8 +87,8 @@ ranged (Some at) rest = Some (Range at)
 -- a header of so many bytes, `rest` is what is wrong behind it
 abbrev pub header_fault : ℕ → Header → Option ImageErr → Option ImageErr
 header_fault n h rest = ranged (range_fault h) (
-    if nat_lt n (end_of h) then Some (Short n) else (
-    if nat_lt (end_of h) n then Some (Trailing (end_of h)) else rest))
+    if nat_lt n (image_end h) then Some (Short n) else (
+    if nat_lt (image_end h) n then Some (Trailing (image_end h)) else rest))
 
 -- ---- what stands behind the header
 
@@ -127,7 +127,7 @@ parts_in h bytes = record {
   code = table_of word_of 4 h.code (piece 28 (bodies_at h) bytes);
   bodies = table_of body_of_bytes 20 h.bodies (piece (bodies_at h) (starts_at h) bytes);
   starts = table_of start_of_bytes 8 h.starts (piece (starts_at h) (always_at h) bytes);
-  always = table_of word_of 4 h.always (piece (always_at h) (end_of h) bytes);
+  always = table_of word_of 4 h.always (piece (always_at h) (image_end h) bytes);
 }
 
 -- the same, whatever stands in the header
@@ -192,7 +192,7 @@ body_fault bytes =
 unfoldable pub image_fault : List ℕ → Option ImageErr
 image_fault bytes =
     let n = length bytes in
-    if not (is_front bytes) then Some (Magic 0) else (
+    if not (is_magic bytes) then Some (Magic 0) else (
     if nat_lt n 6 then Some (Short n) else (
     if not (is_within 1 2 (half_at bytes 4)) then Some (Version 4) else (
     if nat_lt n 28 then Some (Short n) else

@@ -5,3 +5,4 @@ pub mod Spellings
 pub mod TableReads
 pub mod Sizes
 pub mod Numbers
+pub mod Nodes

@@ -1,5 +1,5 @@
 -- The sizes of an image's parts: each within its range, and no more members than the machine has lines and contexts.
-use Rattle.std.specs.Prelude.{ℕ, ◌≤◌, ◌&&◌, Bool, length}
+use Rattle.std.specs.Prelude.{◌≤◌, ◌&&◌, Bool, length}
 use Rattle.alw_image.specs.declared.headers.Header.{Header}
 use Rattle.alw_image.specs.declared.parts.Parts.{Parts}
 use Rattle.alw_image.specs.Images.{line_count, context_count}

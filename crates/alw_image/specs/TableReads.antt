@@ -6,7 +6,7 @@ use Rattle.std.specs.Int.{w32, to_be_bytes}
 use Rattle.alw_image.specs.declared.headers.Header.{Header}
 use Rattle.alw_image.specs.declared.parts.Parts.{Parts}
 use Rattle.alw_image.specs.Images.{data_line, start_bytes}
-use Rattle.alw_image.specs.Faults.{table_of, piece, word_of, body_of_bytes, start_of_bytes, bodies_at, starts_at, always_at, end_of}
+use Rattle.alw_image.specs.Faults.{table_of, piece, word_of, body_of_bytes, start_of_bytes, bodies_at, starts_at, always_at, image_end}
 
 -- what one step reads: a member off the first bytes, which are its spelling where the member is good, and what follows them
 pub record IsMember {X : Type 0} (read : List ℕ → X) (spell : X → List ℕ) (Good : X → Type 0) (size : ℕ) (bytes : List ℕ) (x : X) (after : List ℕ) : Type 0 where
@@ -38,4 +38,4 @@ pub record AreRead (h : Header) (bytes : List ℕ) (p : Parts) : Type 0 where
   pub code : IsWhole word_of (to_be_bytes w32) IsAny 4 h.code (piece 28 (bodies_at h) bytes) p.code
   pub bodies : IsWhole body_of_bytes data_line IsAny 20 h.bodies (piece (bodies_at h) (starts_at h) bytes) p.bodies
   pub starts : IsWhole start_of_bytes start_bytes IsSlot 8 h.starts (piece (starts_at h) (always_at h) bytes) p.starts
-  pub always : IsWhole word_of (to_be_bytes w32) IsAny 4 h.always (piece (always_at h) (end_of h) bytes) p.always
+  pub always : IsWhole word_of (to_be_bytes w32) IsAny 4 h.always (piece (always_at h) (image_end h) bytes) p.always

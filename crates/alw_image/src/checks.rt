@@ -5,14 +5,15 @@ ghost use Rattle.alw_image.specs.Sizes.{HasSizes, has_sizes, has_sides, has_coun
 
 use crate::faults::ImageErr;
 use crate::headers::is_within;
+use crate::images::context_of;
 use crate::parts::Parts;
 use alw_num::{Line, LineNo, NodeNo};
 
-// How many nodes, contexts of each and code words a start is held against.
+// How many nodes, contexts of each and code words a start is tested against.
 #[derive(Clone, Copy, Debug, PartialEq, Eq)]
 struct Mesh {
     nodes: u32,
-    contexts: u32,
+    contexts: u8,
     words: u32,
 }
 
@@ -79,7 +80,7 @@ pub fn tables_fault(
     }
     let mesh = Mesh {
         nodes,
-        contexts: u32::from(parts.contexts),
+        contexts: parts.contexts,
         words: parts.code.len(),
     };
     if let Some(fault) = starts_fault(parts.starts.members(), mesh, starts_at) {
@@ -111,7 +112,6 @@ fn bodies_fault(bodies: &[(LineNo, Line)], lines: u32, at: u32) -> Option<ImageE
 // The first start that is out of range or out of order.
 fn starts_fault(starts: &[(NodeNo, u8, u32)], mesh: Mesh, at: u32) -> Option<ImageErr>
     requires nodes { mesh.nodes ≤ 256 }
-    requires contexts { mesh.contexts ≤ 4 }
     requires words { mesh.words ≤ 65536 }
     requires room { at + 8 * length starts.now < 2 ^ 32 }
     ensures { result ≡ table_fault (fits_start mesh.nodes mesh.contexts mesh.words) (λ start. start.0.0 * mesh.contexts + start.1) 8 at None starts.now }
@@ -122,7 +122,7 @@ fn starts_fault(starts: &[(NodeNo, u8, u32)], mesh: Mesh, at: u32) -> Option<Ima
         if !fits_start(start, mesh) {
             return Some(ImageErr::Range { at: here });
         }
-        let context = u32::from(start.0.0) * mesh.contexts + u32::from(start.1);
+        let context = context_of(start, mesh.contexts);
         if !is_above(before, context) {
             return Some(ImageErr::Order { at: here });
         }
@@ -165,7 +165,7 @@ fn fits_start(start: &(NodeNo, u8, u32), mesh: Mesh) -> bool
     ensures { result ≡ fits_start mesh.nodes mesh.contexts mesh.words start.now }
 {
     u32::from(start.0.0) < mesh.nodes
-        && u32::from(start.1) < mesh.contexts
+        && start.1 < mesh.contexts
         && start.2 % 4 == 0
         && start.2 < 4 * mesh.words
 }

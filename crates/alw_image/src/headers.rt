@@ -1,7 +1,7 @@
 ghost use Rattle.std.specs.Prelude.{◌≡◌, ◌<◌, ◌≤◌, ◌≢◌, ◌*◌, ◌+◌, ◌^◌, ◌∷◌, ◌++◌, drop, length, Option, IfSome, IfNone, IsTrue, None, Some, codes};
 ghost use Rattle.std.specs.Int.{w16, w32, to_be_bytes};
 ghost use Rattle.alw_num.specs.Lanes.{half_at};
-ghost use Rattle.alw_image.specs.Faults.{header_of, range_fault, fields, first_unfit, is_within, is_front, header_fault, image_fault, body_fault, bodies_at, starts_at, always_at, end_of, most_side, least_height};
+ghost use Rattle.alw_image.specs.Faults.{header_of, range_fault, fields, first_unfit, is_within, is_magic, header_fault, image_fault, body_fault, bodies_at, starts_at, always_at, image_end, most_side, least_height};
 ghost use Rattle.alw_image.specs.Spellings.{header_bytes};
 ghost use Rattle.alw_image.specs.Sizes.{IsShort};
 ghost use Rattle.alw_image.specs.declared.faults.ImageErr.{ImageErr};
@@ -96,7 +96,7 @@ impl Header {
     // Where the image ends.
     pub fn end(&self) -> u32
         requires { IsShort self.now }
-        ensures { result ≡ end_of self.now }
+        ensures { result ≡ image_end self.now }
     {
         self.always_at() + 4 * self.always
     }
@@ -130,32 +130,31 @@ pub fn is_within(least: u32, most: u32, n: u32) -> bool
 // What is wrong with the bytes up to the version, or with their number up to the counts.
 #[tactic(auto, unfolding(crate::specs::Faults::image_fault))]
 pub fn front_fault(bytes: &[u8]) -> Option<ImageErr>
-    requires { length bytes.now < 2 ^ 32 }
     ensures some { IfSome result (λ fault. image_fault bytes.now ≡ Some fault) }
     ensures none { IfNone result (image_fault bytes.now ≡ body_fault bytes.now) }
-    ensures front { IfNone result (IsTrue (is_front bytes.now)) }
+    ensures magic { IfNone result (IsTrue (is_magic bytes.now)) }
     ensures long { IfNone result (28 ≤ length bytes.now) }
     ensures version { IfNone result (IsTrue (is_within 1 2 (half_at bytes.now 4))) }
 {
-    let count = bytes.len() as u32;
-    if !MAGIC.starts_with(&bytes[..bytes.len().min(4)]) {
+    let count = bytes.len();
+    if !MAGIC.starts_with(&bytes[..count.min(4)]) {
         return Some(ImageErr::Magic { at: 0 });
     }
     if count < 6 {
-        return Some(ImageErr::Short { at: count });
+        return Some(ImageErr::Short { at: count as u32 });
     }
     if !(1..=2).contains(&u16::from_be_bytes([bytes[4], bytes[5]])) {
         return Some(ImageErr::Version { at: 4 });
     }
     if count < 28 {
-        return Some(ImageErr::Short { at: count });
+        return Some(ImageErr::Short { at: count as u32 });
     }
     None
 }
 
 // The numbers in the first 28 bytes, and what follows them.
 pub fn header_at(bytes: &[u8]) -> (Header, &[u8])
-    requires front { IsTrue (is_front bytes.now) }
+    requires magic { IsTrue (is_magic bytes.now) }
     requires long { 28 ≤ length bytes.now }
     ensures spelled { bytes.now ≡ header_bytes result.0 ++ result.1.now }
     ensures header { result.0 ≡ header_of bytes.now }
@@ -167,13 +166,13 @@ pub fn header_at(bytes: &[u8]) -> (Header, &[u8])
     }
 }
 
-// The same. None where `ALEW` doesn't stand at the front or fewer bytes follow it.
+// The same. None where the bytes don't begin with `ALEW` or fewer bytes follow it.
 #[tactic(auto, unfolding(crate::specs::Spellings::header_bytes))]
 fn header_behind(bytes: &[u8]) -> Option<(Header, &[u8])>
     ensures spelled { IfSome result (λ read. bytes.now ≡ header_bytes read.0 ++ read.1.now) }
     ensures header { IfSome result (λ read. read.0 ≡ header_of bytes.now) }
     ensures rest { IfSome result (λ read. read.1.now ≡ drop 28 bytes.now) }
-    ensures none { IfNone result (IsTrue (is_front bytes.now) → length bytes.now < 28) }
+    ensures none { IfNone result (IsTrue (is_magic bytes.now) → length bytes.now < 28) }
 {
     let rest = behind(bytes, &MAGIC)?;
     let (version, rest) = half_at(rest)?;
@@ -203,20 +202,20 @@ fn header_behind(bytes: &[u8]) -> Option<(Header, &[u8])>
 
 // What is wrong with a header, or with the number of bytes of which it is the first.
 #[tactic(auto, using(crate::proofs::HeaderFields::is_short))]
-pub fn size_fault(header: &Header, count: u32) -> Option<ImageErr>
+pub fn size_fault(header: &Header, count: usize) -> Option<ImageErr>
     ensures some { IfSome result (λ fault. (rest : Option ImageErr) → header_fault count header.now rest ≡ Some fault) }
     ensures none { IfNone result ((rest : Option ImageErr) → header_fault count header.now rest ≡ rest) }
     ensures fits { IfNone result (range_fault header.now ≡ None) }
-    ensures whole { IfNone result (count ≡ end_of header.now) }
+    ensures whole { IfNone result (count ≡ image_end header.now) }
     ensures short { IfNone result (IsShort header.now) }
 {
     if let Some(at) = header.range_fault() {
         return Some(ImageErr::Range { at });
     }
     let end = header.end();
-    if count < end {
-        Some(ImageErr::Short { at: count })
-    } else if count > end {
+    if count < end as usize {
+        Some(ImageErr::Short { at: count as u32 })
+    } else if count > end as usize {
         Some(ImageErr::Trailing { at: end })
     } else {
         None

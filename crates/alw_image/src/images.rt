@@ -1,8 +1,10 @@
-ghost use Rattle.std.specs.Prelude.{◌≡◌, ◌<◌, ◌≤◌, ◌*◌, ◌+◌, ◌/◌, ◌%◌, ◌↔◌, length, IfOk, IfSome, IsSome};
+ghost use Rattle.std.specs.Prelude.{◌≡◌, ◌<◌, ◌≤◌, ◌*◌, ◌+◌, ◌/◌, ◌%◌, ◌↔◌, filter, length, IfOk, IfSome, IsSome};
+ghost use Rattle.alw_image.specs.Nodes.{is_body_of, is_line_of, is_start_of};
 
 use crate::checks::is_image;
 use crate::parts::{Code, Parts};
-use alw_num::{Line, LineNo, NoMemory};
+use crate::ranges::between;
+use alw_num::{Line, LineNo, NoMemory, NodeNo};
 use std::marker::Model;
 
 /// An image: parts that are within their ranges and in order. Contracts see the parts.
@@ -60,15 +62,15 @@ impl Image {
         &self.parts
     }
 
-    // The image of parts that are known to be one's.
-    pub fn checked(parts: Parts) -> Image
+    /// The image of parts that are known to be one's.
+    pub(crate) fn checked(parts: Parts) -> Image
         requires { IsImage parts }
         ensures { result ≡ parts }
     {
         Image { parts }
     }
 
-    ghost use Rattle.alw_image.specs.Images.{IsImage, line_count, context_count, body_of, started_at, is_always};
+    ghost use Rattle.alw_image.specs.Images.{IsImage, node_count, line_count, context_count, body_of, started_at, is_always};
 
     /// Columns of the mesh.
     pub fn width(&self) -> u8
@@ -123,15 +125,11 @@ impl Image {
         requires { context < context_count self.now }
         ensures { result ≡ started_at self.now (context / self.now.contexts) (context % self.now.contexts) }
     {
-        let contexts = u32::from(self.parts.contexts);
-        let node = context / contexts;
-        let slot = context % contexts;
+        let contexts = self.parts.contexts;
         let starts = self.parts.starts.members();
-        let listed = starts.iter().find(|start| u32::from(start.0.0) == node
-            && u32::from(start.1) == slot);
-        match listed {
-            Some(start) => Some(start.2),
-            None => None,
+        match starts.binary_search_by_key(&context, |start| context_of(start, contexts)) {
+            Ok(place) => Some(starts[place].2),
+            Err(_) => None,
         }
     }
 
@@ -142,4 +140,49 @@ impl Image {
     {
         self.parts.always.members().binary_search(&line.0).is_ok()
     }
+
+    /// The data lines of which a node is the home, in order.
+    pub fn bodies_of(&self, node: NodeNo) -> &[(LineNo, Line)]
+        requires { node.0 < node_count self.now }
+        ensures { result.now ≡ filter (is_body_of self.now.per_node node.0) self.now.bodies }
+    {
+        let (first, past) = self.lines_of(node);
+        between(self.parts.bodies.members(), first, past)
+    }
+
+    /// The starts of a node's contexts, in order.
+    pub fn starts_of(&self, node: NodeNo) -> &[(NodeNo, u8, u32)]
+        requires { node.0 < node_count self.now }
+        ensures { result.now ≡ filter (is_start_of node.0) self.now.starts }
+    {
+        let number = u32::from(node.0);
+        between(self.parts.starts.members(), number, number + 1)
+    }
+
+    /// The Trap-Always lines of which a node is the home, in order.
+    pub fn always_of(&self, node: NodeNo) -> &[u32]
+        requires { node.0 < node_count self.now }
+        ensures { result.now ≡ filter (is_line_of self.now.per_node node.0) self.now.always }
+    {
+        let (first, past) = self.lines_of(node);
+        between(self.parts.always.members(), first, past)
+    }
+
+    // The number of a node's first home line, and the number past its last.
+    fn lines_of(&self, node: NodeNo) -> (u32, u32)
+        requires { node.0 < node_count self.now }
+        ensures { result ≡ (node.0 * self.now.per_node, node.0 * self.now.per_node + self.now.per_node) }
+    {
+        let per_node = u32::from(self.parts.per_node);
+        let first = u32::from(node.0) * per_node;
+        (first, first + per_node)
+    }
+}
+
+/// The number of the context that a start is of.
+pub(crate) fn context_of(start: &(NodeNo, u8, u32), contexts: u8) -> u32
+    ensures { result ≡ start.now.0.0 * contexts + start.now.1 }
+{
+    let (node, slot, _address) = *start;
+    u32::from(node.0) * u32::from(contexts) + u32::from(slot)
 }

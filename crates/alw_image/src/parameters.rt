@@ -3,8 +3,17 @@ ghost use Rattle.alw_image.specs.Parameters.{Parameters, AreParameters};
 
 use std::marker::Model;
 
-/// The parameters of a run: hardware pointers of an entry (1 to 8), sets of a cache (a power of
-/// two, 4 to 4096), the greatest stamp of an event (1 to 1,048,576), and how often of 256 a
+/// The most hardware pointers that an entry can have.
+pub const MOST_POINTERS: u8 = 8;
+
+/// How many sets a cache can have: a power of two from 4 to 4096.
+pub const SET_COUNTS: [u32; 11] = [4, 8, 16, 32, 64, 128, 256, 512, 1024, 2048, 4096];
+
+/// The most that the greatest stamp of an event can be set to.
+pub const MOST_LIMIT: u32 = 1_048_576;
+
+/// The parameters of a run: hardware pointers of an entry (1 to `MOST_POINTERS`), sets of a cache
+/// (one of `SET_COUNTS`), the greatest stamp of an event (1 to `MOST_LIMIT`), and how often of 256 a
 /// schedule tries an eviction (0 to 255).
 #[derive(Clone, Copy, Debug, PartialEq, Eq)]
 pub struct Params {
@@ -32,19 +41,26 @@ impl Params {
         ensures allowed { IsSome result ↔ AreParameters (record { pointers = pointers; sets = sets; limit = limit; evict = evict }) }
         ensures value { IfSome result (λ p. p ≡ record { pointers = pointers; sets = sets; limit = limit; evict = evict }) }
     {
-        let is_set_count = matches!(
-            sets,
-            4 | 8 | 16 | 32 | 64 | 128 | 256 | 512 | 1024 | 2048 | 4096
-        );
-        if (1..=8).contains(&pointers) && is_set_count && (1..=1_048_576).contains(&limit) {
-            Some(Params {
-                pointers,
-                sets,
-                limit,
-                evict,
-            })
+        if (1..=MOST_POINTERS).contains(&pointers)
+            && SET_COUNTS.contains(&sets)
+            && (1..=MOST_LIMIT).contains(&limit)
+        {
+            Some(Params::of(pointers, sets, limit, evict))
         } else {
             None
+        }
+    }
+
+    /// The parameters of these values, each of which is within its range.
+    pub fn of(pointers: u8, sets: u32, limit: u32, evict: u8) -> Params
+        requires { AreParameters (record { pointers = pointers; sets = sets; limit = limit; evict = evict }) }
+        ensures { result ≡ record { pointers = pointers; sets = sets; limit = limit; evict = evict } }
+    {
+        Params {
+            pointers,
+            sets,
+            limit,
+            evict,
         }
     }
 

@@ -1,11 +1,11 @@
 ghost use Rattle.std.specs.Prelude.{◌≡◌, ◌≢◌, ◌<◌, ◌^◌, ◌++◌, ◌∷◌, List, ℕ, length, IfSome, IfNone, MatchOption};
 ghost use Rattle.std.specs.Int.{w16, w32, to_be_bytes};
 
-// What follows these bytes at the front. None exactly where they don't stand there.
-pub fn behind<'a>(bytes: &'a [u8], front: &[u8]) -> Option<&'a [u8]>
-    ensures { MatchOption result ((rest : List ℕ) → bytes.now ≢ front.now ++ rest) (λ rest. bytes.now ≡ front.now ++ rest.now) }
+// What follows this prefix of the bytes. None exactly where they don't begin with it.
+pub fn behind<'a>(bytes: &'a [u8], prefix: &[u8]) -> Option<&'a [u8]>
+    ensures { MatchOption result ((rest : List ℕ) → bytes.now ≢ prefix.now ++ rest) (λ rest. bytes.now ≡ prefix.now ++ rest.now) }
 {
-    bytes.strip_prefix(front)
+    bytes.strip_prefix(prefix)
 }
 
 // The big-endian number in the first two bytes, and what follows them. None exactly where there
@@ -18,8 +18,8 @@ pub fn half_at(bytes: &[u8]) -> Option<(u16, &[u8])>
     if bytes.len() < 2 {
         return None;
     }
-    let (front, rest) = bytes.split_at(2);
-    Some((u16::from_be_bytes([front[0], front[1]]), rest))
+    let (first, rest) = bytes.split_at(2);
+    Some((u16::from_be_bytes([first[0], first[1]]), rest))
 }
 
 // The big-endian number in the first four bytes, and what follows them. None exactly where there
@@ -32,9 +32,9 @@ pub fn word_at(bytes: &[u8]) -> Option<(u32, &[u8])>
     if bytes.len() < 4 {
         return None;
     }
-    let (front, rest) = bytes.split_at(4);
+    let (first, rest) = bytes.split_at(4);
     Some((
-        u32::from_be_bytes([front[0], front[1], front[2], front[3]]),
+        u32::from_be_bytes([first[0], first[1], first[2], first[3]]),
         rest,
     ))
 }

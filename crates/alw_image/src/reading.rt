@@ -1,7 +1,7 @@
-ghost use Rattle.std.specs.Prelude.{◌≡◌, ◌≢◌, ◌<◌, ◌^◌, length, None, Some, IfOk, IfErr, IsTrue};
+ghost use Rattle.std.specs.Prelude.{◌≡◌, ◌≢◌, length, None, Some, IfOk, IfErr, IsTrue};
 ghost use Rattle.alw_image.specs.declared.faults.ImageErr.TheVariants as faults;
 ghost use Rattle.alw_image.specs.Images.{spelling};
-ghost use Rattle.alw_image.specs.Faults.{range_fault, end_of, header_of, image_in, image_fault};
+ghost use Rattle.alw_image.specs.Faults.{range_fault, image_end, header_of, image_in, image_fault};
 ghost use Rattle.alw_image.specs.Sizes.{IsShort};
 ghost use Rattle.alw_image.specs.TableReads.{AreRead};
 
@@ -14,11 +14,9 @@ use crate::tables::{read_bodies, read_starts, read_words};
 use alw_num::NoMemory;
 use std::alloc::Global;
 
-/// The image that bytes spell, which number fewer than 2^32. It fails by the first of the checks
-/// that the bytes don't pass (see [`ImageErr`]), or for want of memory; what it takes is in
-/// proportion to the bytes.
+/// The image that bytes spell. It fails by the first of the checks that the bytes don't pass (see
+/// [`ImageErr`]), or for want of memory; what it takes is in proportion to the bytes.
 pub fn read_image(alloc: Global, bytes: &[u8]) -> Result<Image, ImageErr>
-    requires { length bytes.now < 2 ^ 32 }
     ensures found { IfOk result (λ image. bytes.now ≡ spelling image) }
     ensures parts { IfOk result (λ image. image ≡ image_in bytes.now) }
     ensures accepted { IfOk result (λ image. image_fault bytes.now ≡ None) }
@@ -28,7 +26,7 @@ pub fn read_image(alloc: Global, bytes: &[u8]) -> Result<Image, ImageErr>
         return Err(fault);
     }
     let header = header_at(bytes).0;
-    if let Some(fault) = size_fault(&header, bytes.len() as u32) {
+    if let Some(fault) = size_fault(&header, bytes.len()) {
         return Err(fault);
     }
     let parts = read_parts(alloc, &header, bytes)?;
@@ -46,7 +44,7 @@ pub fn read_image(alloc: Global, bytes: &[u8]) -> Result<Image, ImageErr>
 // The parts that bytes spell, in range and in order or not.
 fn read_parts(alloc: Global, header: &Header, bytes: &[u8]) -> Result<Parts, NoMemory>
     requires short { IsShort header.now }
-    requires whole { length bytes.now ≡ end_of header.now }
+    requires whole { length bytes.now ≡ image_end header.now }
     ensures { IfOk result (λ parts. AreRead header.now bytes.now parts) }
 {
     let code = &bytes[28..header.bodies_at() as usize];

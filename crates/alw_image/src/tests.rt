@@ -1,5 +1,3 @@
-ghost use Rattle.std.specs.Prelude.{◌<◌, ◌^◌, length};
-
 use crate::*;
 use alw_num::{Line, LineNo, NoMemory, NodeNo};
 use std::alloc::Global;
@@ -100,9 +98,7 @@ fn parameter_cases() -> [(u8, u32, u32); 7] {
 }
 
 // What is wrong with bytes.
-fn fault(alloc: Global, bytes: &[u8]) -> Option<ImageErr>
-    requires { length bytes.now < 2 ^ 32 }
-{
+fn fault(alloc: Global, bytes: &[u8]) -> Option<ImageErr> {
     read_image(alloc, bytes).err()
 }
 
@@ -145,7 +141,7 @@ fn one_byte_more(rt: HostRuntime) -> Result<(), Fail> {
     Ok(())
 }
 
-// The checks of the front come before the one of the length.
+// The checks of the first bytes come before the one of the length.
 #[test]
 fn wrong_fronts(rt: HostRuntime) {
     let mut other = smallest_bytes();
@@ -208,6 +204,42 @@ fn tables(rt: HostRuntime) -> Result<(), Fail> {
     assert_eq!(rt; image.body(LineNo(0)).a, 5);
     assert_eq!(rt; image.start(0), Some(0));
     assert_eq!(rt; image.start(1), Some(0));
+    Ok(())
+}
+
+// Two nodes of two lines each: data lines 1 and 2, starts of both, and Trap-Always lines 0 and 3.
+fn two_nodes(alloc: Global) -> Result<Parts, NoMemory> {
+    let mut parts = mesh(alloc, 2, 1)?;
+    parts.per_node = 2;
+    let mut starts = Starts::empty(alloc);
+    starts.push((NodeNo(0), 0, 0))?;
+    starts.push((NodeNo(1), 0, 0))?;
+    parts.starts = starts;
+    let some = Line { d: 7, ..Line::ZERO };
+    let mut bodies = Bodies::empty(alloc);
+    bodies.push((LineNo(1), some))?;
+    bodies.push((LineNo(2), some))?;
+    parts.bodies = bodies;
+    let mut always = LineList::empty(alloc);
+    always.push(0)?;
+    always.push(3)?;
+    parts.always = always;
+    Ok(parts)
+}
+
+#[test]
+fn parts_of_a_node(rt: HostRuntime) -> Result<(), Fail> {
+    let Some(image) = Image::from_parts(two_nodes(rt.alloc())?) else {
+        return Err(Fail::new("no image"));
+    };
+    assert!(rt; image.width() == 2 && image.height() == 1);
+    for (node, body, always) in [(0, 1, 0), (1, 2, 3)] {
+        let node = NodeNo(node);
+        let some = Line { d: 7, ..Line::ZERO };
+        assert_eq!(rt; image.bodies_of(node), [(LineNo(body), some)].as_slice());
+        assert_eq!(rt; image.starts_of(node), [(node, 0, 0)].as_slice());
+        assert_eq!(rt; image.always_of(node), [always].as_slice());
+    }
     Ok(())
 }
 

@@ -245,7 +245,7 @@ module _ (parts : Parts) (parameters : Parameters) (s : MachineState) (standing 
   after = handle its_entry source_node said
 
   abbrev handled_node : NodeState
-  handled_node = (clocked stamp (handle_by parts n stamp (record (node_at s n) { packets = waiting }) packet (ForMemory said))).node
+  handled_node = (clocked stamp (handle_by parts parameters n stamp (record (node_at s n) { packets = waiting }) packet (ForMemory said))).node
 
   abbrev was_up : ℕ → List ToMemory
   was_up j = ups k (sent_by j (node_at s at).packets) ++ ups k (link_at parts s j at)

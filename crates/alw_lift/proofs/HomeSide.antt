@@ -1,5 +1,5 @@
 -- An event at a line's home that leaves its caches and transactions as they are: for a line, the entry changes, one node's front message is taken, and messages are sent.
-use Rattle.std.proofs.Common.{◌≡◌, ◌≢◌, ℕ, ◌*◌, ◌<◌, ◌≤◌, ◌==◌, nat_lt, Bool, true, false, cond, List, [], ◌∷◌, ◌++◌, length, get_or, refl, sym, ap, ◌∙◌, append-nil, arith}
+use Rattle.std.proofs.Common.{◌≡◌, ◌≢◌, ℕ, ◌*◌, ◌<◌, ◌==◌, nat_lt, Bool, true, false, cond, List, [], ◌∷◌, ◌++◌, length, get_or, refl, sym, ap, ◌∙◌, append-nil}
 use Rattle.std.proofs.lemmas.Bool.{eqb-false, eq-eqb, ne_eqb, lt-ltb, ltb-false}
 use Rattle.alw_num.proofs.Weigh.{at_nodes, is_node}
 use Rattle.alw_msg.specs.declared.messages.Msg.{Msg}
@@ -16,16 +16,11 @@ use Rattle.alw_model.specs.NodeStates.{NodeState, home_at}
 use Rattle.alw_model.specs.Machine.{MachineState, node_at, link_at, link_place}
 use Rattle.alw_model.specs.Lines.{LineState, absent, ups, downs, sent_by, line_node, line_of}
 use Rattle.alw_line.specs.Protocol.{receives, taken_from, sent_to, acted}
-use Rattle.alw_line.proofs.Homes.{DestsBelow}
+use Rattle.alw_line.proofs.Homes.{DestsBelow, sent_beyond}
 use Rattle.alw_lift.specs.Links.{msgs_to, GoBelow}
 use Rattle.alw_lift.proofs.Contents.{ups-append, downs-append, ups_sent, downs_sent}
 use Rattle.alw_lift.proofs.Views.{seen_copy, seen_transaction, below_same, next_machine, next_node, next_line, next_line_is}
 use Rattle.alw_lift.proofs.CacheSide.{kept_part}
-
--- what goes to nodes below a number is nothing to the others
-pub sent_beyond : (n j : ℕ) (sends : Sends) → DestsBelow n sends → n ≤ j → sent_to j sends ≡ []
-sent_beyond n j [] below l = refl
-sent_beyond n j (send ∷ rest) (here, below) l = rw (ne_eqb j send.0 (λ e. absurd (omega arith))) (sent_beyond n j rest below l)
 
 pub dests_go : (n node stamp line : ℕ) (sends : Sends) → DestsBelow n sends → GoBelow n (to_caches node stamp line sends)
 dests_go n node stamp line [] below = tt

@@ -21,7 +21,8 @@ use Rattle.alw_model.specs.declared.steps.Did.TheVariants.{Missed}
 use Rattle.alw_model.specs.Contexts.{slot_at, ran}
 use Rattle.alw_model.specs.Messages.{home_node, to_homes}
 use Rattle.alw_model.specs.NodeStates.{NodeState}
-use Rattle.alw_model.specs.NodeSteps.{Stepped, written, opened, take_turn, access, instr_by, instr, nothing, clocked}
+use Rattle.alw_model.specs.ProcessorSteps.{written, opened}
+use Rattle.alw_model.specs.NodeSteps.{Stepped, take_turn, access, instr_by, instr, nothing, clocked}
 use Rattle.alw_model.specs.Machine.{MachineState, node_at, link_at}
 use Rattle.alw_model.specs.Lines.{LineNode, downs, line_node, line_of}
 use Rattle.alw_num.proofs.MapLaws.{value-with}
@@ -162,7 +163,8 @@ module _ (parts : Parts) (parameters : Parameters) (s : MachineState) (stands : 
 
     module _ (copy : Copy) (regs : Regs) (outcome : Outcome) (body : Line) where
       abbrev after_store : NodeState
-      after_store = (clocked stamp (take_turn (node_at s n) slot (written parameters.sets (node_at s n).cache copy Write body) regs outcome)).node
+      after_store = (clocked stamp
+          (take_turn parts parameters n (node_at s n) slot (written parameters.sets (node_at s n).cache copy Write body) regs outcome)).node
 
       abbrev next_copy : Copy
       next_copy = record copy { body = body }
@@ -188,9 +190,16 @@ module _ (parts : Parts) (parameters : Parameters) (s : MachineState) (stands : 
           ∙ (ap (λ (o : Option Copy). is_granted Write (seen_copy o)) (granted_is l Write copy e).has ∙ (granted_is l Write copy e).permits))
 
       turn_follows : (mode : Mode) → granted_copy parameters.sets (node_at s n).cache l mode ≡ Some copy
-          → Follows (node_count parts) (line_of parts parameters s k) (in_turn k n l mode body) (line_of parts parameters (left_by (take_turn (node_at s n) slot (written parameters.sets (node_at s n).cache copy mode body) regs outcome)) k)
-      turn_follows Read e = stays _ _ _ (stays_with (clocked stamp (take_turn (node_at s n) slot (node_at s n).cache regs outcome)).node refl refl refl refl)
-      turn_follows Write e = takes_about (node_count parts) (line_of parts parameters s k) (line_of parts parameters (left_by (take_turn (node_at s n) slot (written parameters.sets (node_at s n).cache copy Write body) regs outcome)) k) k l (Stores n body)
+          → Follows (node_count parts) (line_of parts parameters s k) (in_turn k n l mode body)
+          (line_of parts parameters
+          (left_by (take_turn parts parameters n (node_at s n) slot (written parameters.sets (node_at s n).cache copy mode body) regs outcome)) k)
+      turn_follows Read e =
+          stays _ _ _ (stays_with (clocked stamp (take_turn parts parameters n (node_at s n) slot (node_at s n).cache regs outcome)).node refl refl refl refl)
+      turn_follows Write e =
+          takes_about (node_count parts) (line_of parts parameters s k)
+          (line_of parts parameters
+          (left_by (take_turn parts parameters n (node_at s n) slot (written parameters.sets (node_at s n).cache copy Write body) regs outcome)) k) k l
+          (Stores n body)
           (λ same. (
             (here, is_writable same e),
             part_changes parts parameters s n after_store s.links stamp [] k old_down stored_keeps (λ u. line.stored u body) (λ x. record {

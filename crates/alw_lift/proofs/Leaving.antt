@@ -96,11 +96,14 @@ module _ (parts : Parts) (parameters : Parameters) where
 
   -- a line follows an eviction
   pub evict_follows : (s : MachineState) → IsStanding parts parameters s → (n : ℕ) → n < node_count parts → (stamp k : ℕ) → k < line_count parts → (set : ℕ)
-      → Follows (node_count parts) (line_of parts parameters s k) (in_leaving k n (value_at (node_at s n).cache set)) (line_of parts parameters (next_machine parts parameters s n (clocked stamp (evict_from parts n stamp (node_at s n) set)).node s.links (clocked stamp (evict_from parts n stamp (node_at s n) set)).sends k) k)
+      → Follows (node_count parts) (line_of parts parameters s k) (in_leaving k n (value_at (node_at s n).cache set))
+      (line_of parts parameters
+      (next_machine parts parameters s n (clocked stamp (evict_from parts parameters n stamp (node_at s n) set)).node s.links
+      (clocked stamp (evict_from parts parameters n stamp (node_at s n) set)).sends k) k)
   evict_follows s standing n here stamp k exists set =
       let node = node_at s n in
       let o = value_at node.cache set in
-      let v = (clocked stamp (evict_from parts n stamp node set)).node in
+      let v = (clocked stamp (evict_from parts parameters n stamp node set)).node in
       leaving_follows s n v s.links stamp k o (record {
         fits = rw standing.nodes here;
         here = here;

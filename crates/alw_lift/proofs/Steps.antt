@@ -89,12 +89,19 @@ module _ (parts : Parts) (parameters : Parameters) (s : MachineState) (standing 
       message_follows from to f here msg e (content msg) refl (fit_is parts from.0 to.0 msg p.0) p.1
 
   packet_follows : (n stamp : ℕ) → n < node_count parts → (packet : Msg) (waiting : List Msg) → (node_at s n).packets ≡ packet ∷ waiting → IsPacket parts n packet → (c : Content) → content packet ≡ c
-      → Follows (node_count parts) (line_of parts parameters s k) (in_packet k packet c) (line_of parts parameters (next_machine parts parameters s n (clocked stamp (handle_by parts n stamp (record (node_at s n) { packets = waiting }) packet c)).node s.links (clocked stamp (handle_by parts n stamp (record (node_at s n) { packets = waiting }) packet c)).sends k) k)
+      → Follows (node_count parts) (line_of parts parameters s k) (in_packet k packet c)
+      (line_of parts parameters
+      (next_machine parts parameters s n
+      (clocked stamp (handle_by parts parameters n stamp (record (node_at s n) { packets = waiting }) packet c)).node s.links
+      (clocked stamp (handle_by parts parameters n stamp (record (node_at s n) { packets = waiting }) packet c)).sends k) k)
   packet_follows n stamp here packet waiting queue packed (ForMemory said) is = handler_follows parts parameters s standing n here stamp k exists packet waiting queue packed said is (points_of n packet.line.0 packed.line packed.home)
   packet_follows n stamp here packet waiting queue packed (ForCache said) is = absurd (false≢true (sym (ap is_to_memory is) ∙ packed.to_memory))
 
   queue_follows : (n stamp : ℕ) → n < node_count parts → (q : List Msg) → (node_at s n).packets ≡ q → IsTrue (is_nonempty q)
-      → Follows (node_count parts) (line_of parts parameters s k) (in_queue k q) (line_of parts parameters (next_machine parts parameters s n (clocked stamp (handle_front parts n stamp (node_at s n) q)).node s.links (clocked stamp (handle_front parts n stamp (node_at s n) q)).sends k) k)
+      → Follows (node_count parts) (line_of parts parameters s k) (in_queue k q)
+      (line_of parts parameters
+      (next_machine parts parameters s n (clocked stamp (handle_front parts parameters n stamp (node_at s n) q)).node s.links
+      (clocked stamp (handle_front parts parameters n stamp (node_at s n) q)).sends k) k)
   queue_follows n stamp here [] e some = absurd (false≢true some)
   queue_follows n stamp here (packet ∷ waiting) e some = packet_follows n stamp here packet waiting e (subst (AllByRecursion (IsPacket parts n)) e ((standing.each n here).packets)).0 (content packet) refl
 

@@ -79,7 +79,8 @@ pub hardware_acts : (most : ℕ) (d : Directory) (i : ℕ) (m : ToMemory) → Is
 hardware_acts most d i m sound calm free =
     let fits : IsTrue (software_by d.meta (is_shared d.state) (count_nodes d.software == 0) (digit (is_in_progress d.meta))) = sound.software in
     let P : ℕ → Type 0 = λ n. IsTrue (software_by d.meta (is_shared d.state) (count_nodes d.software == 0) n) in
-    let w = untrapped (hardware_of d) d.software i d.meta d.state m (overflows most d i d.state m) refl calm free (subst P (no_progress d.meta free) fits) in
+    let w = untrapped (hardware_of d) d.software i d.meta d.state m (overflows most d.hardware i d.state m) refl calm free
+    (subst P (no_progress d.meta free) fits) in
     record { entry = w.entry; sent = w.sent }
 
 -- P after an action, by how the handler keeps it
@@ -161,5 +162,5 @@ handler_acts d i m =
     let h = full_map_of d in
     let after = act h i m in
     let same : join_nodes (kept d.hardware d.software i (keeping h i h.state m)).0 (kept d.hardware d.software i (keeping h i h.state m)).1
-        ≡ after.0.pointers = kept_pointers d i (keeping h i h.state m) ∙ sym (row-pointers h i h.state m) in
+    ≡ after.0.pointers = kept_pointers d i (keeping h i h.state m) ∙ sym (row-pointers h i h.state m) in
     record { entry = λ k. record { state = after.0.state; pointers = same k; acks = after.0.acks; body = after.0.body }; sent = refl }

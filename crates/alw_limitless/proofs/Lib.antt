@@ -1,3 +1,4 @@
 pub mod Actions
 pub mod Soundness
 pub mod Courses
+pub mod Pointers

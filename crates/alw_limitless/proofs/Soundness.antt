@@ -67,7 +67,9 @@ return_joins i (Some owner) e = go (i == owner) e
     go false e = cc
 
 -- a reader joins P only by a read in Read-Only, which doesn't overflow where it doesn't trap
-has_room : (most : ℕ) (d : Directory) (i : ℕ) (mt : Meta) (st : State) (m : ToMemory) → is_in_progress mt ≡ false → traps_in mt (overflows most d i st m) m ≡ false → keeping (hardware_of d) i st m ≡ Joined → (not (has_node d.hardware i) && (count_nodes d.hardware == most)) ≡ false
+has_room : (most : ℕ) (d : Directory) (i : ℕ) (mt : Meta) (st : State) (m : ToMemory) → is_in_progress mt ≡ false
+    → traps_in mt (overflows most d.hardware i st m) m ≡ false → keeping (hardware_of d) i st m ≡ Joined
+    → (not (has_node d.hardware i) && (count_nodes d.hardware == most)) ≡ false
 has_room most d i Normal RO RREQ free calm joins = calm
 has_room most d i TrapWrite RO RREQ free calm joins = grind arith
 has_room most d i TrapAlways RO RREQ free calm joins = absurd (true≢false calm)
@@ -100,7 +102,8 @@ stays_shared h i TrapWrite WT m overflow empty free calm at before = absurd (tru
 
 pub hardware_sound : (most : ℕ) (d : Directory) (i : ℕ) (m : ToMemory) → 1 ≤ most → IsSound most d → is_trapped most d i m ≡ false → is_in_progress d.meta ≡ false → IsSound most (hardware_act d i m).0
 hardware_sound most d i m some sound calm free = record {
-  software = stays_shared (hardware_of d) i d.meta d.state m (overflows most d i d.state m) (count_nodes d.software == 0) free calm refl sound.software;
+  software = stays_shared (hardware_of d) i d.meta d.state m (overflows most d.hardware i d.state m)
+      (count_nodes d.software == 0) free calm refl sound.software;
   few = rw (row-pointers (hardware_of d) i d.state m) (few_after most (hardware_of d) i (keeping (hardware_of d) i d.state m) some sound.few (has_room most d i d.meta d.state m free calm));
 }
 

@@ -123,7 +123,8 @@ pub invs_below : (n : ℕ) (js : List ℕ) → ((k : ℕ) → 1 ≤ times k js �
 invs_below n [] each = tt
 invs_below n (j ∷ js) each = (each j (omega (arith, digit_same j j refl)), invs_below n js (λ k l. each k (omega arith)))
 
-sent_beyond : (n k : ℕ) (sends : Sends) → DestsBelow n sends → n ≤ k → sent_to k sends ≡ []
+-- nodes past the n are sent nothing
+pub sent_beyond : (n k : ℕ) (sends : Sends) → DestsBelow n sends → n ≤ k → sent_to k sends ≡ []
 sent_beyond n k [] below l = refl
 sent_beyond n k (y ∷ ys) below l = go (k == y.0) refl (sent_beyond n k ys below.1 l)
   where

@@ -8,7 +8,7 @@ use Rattle.alw_num.specs.declared.states.Mode.{Mode}
 use Rattle.alw_num.specs.declared.states.Mode.TheVariants.{Read, Write}
 use Rattle.alw_num.specs.Weights.{digit, weigh, sum_below}
 use Rattle.alw_num.proofs.Weigh.{sum_same}
-use Rattle.alw_msg.specs.Contents.{ToMemory, RREQ, WREQ, REPM, UPDATE, ACKC, ToCache, RDATA, WDATA, INV, BUSY, is_repm, is_update, is_ackc, is_rdata, is_wdata, is_inv, is_data, is_request_or_ackc}
+use Rattle.alw_msg.specs.Contents.{ToMemory, RREQ, WREQ, REPM, UPDATE, ACKC, ToCache, RDATA, WDATA, INV, BUSY, is_repm, is_update, is_ackc, is_rdata, is_wdata, is_inv, brings_line, is_request_or_ackc}
 use Rattle.alw_msg.specs.Lists.{count_of, is_followed, is_clear_behind}
 use Rattle.alw_model.specs.Lines.{LineState, LineNode, copy_carried, up_carried, down_carried, carried, carriers, value_by, line_value}
 use Rattle.alw_model.specs.LineInvariant.{reads, writes, data_holds}
@@ -79,18 +79,18 @@ repm_followed (REPM body ∷ rest) right some = and_from _ _ (any_some is_ackc r
 repm_followed (UPDATE body ∷ rest) right some = repm_followed rest (omega arith) (omega arith)
 repm_followed (ACKC ∷ rest) right some = repm_followed rest (omega arith) (omega arith)
 
-no_data : (down : List ToCache) → count_of is_rdata down ≡ 0 → count_of is_wdata down ≡ 0 → list_any is_data down ≡ false
-no_data [] r w = refl
-no_data (RDATA body ∷ rest) r w = absurd (omega arith)
-no_data (WDATA body ∷ rest) r w = absurd (omega arith)
-no_data (INV ∷ rest) r w = no_data rest (omega arith) (omega arith)
-no_data (BUSY ∷ rest) r w = no_data rest (omega arith) (omega arith)
+no_line : (down : List ToCache) → count_of is_rdata down ≡ 0 → count_of is_wdata down ≡ 0 → list_any brings_line down ≡ false
+no_line [] r w = refl
+no_line (RDATA body ∷ rest) r w = absurd (omega arith)
+no_line (WDATA body ∷ rest) r w = absurd (omega arith)
+no_line (INV ∷ rest) r w = no_line rest (omega arith) (omega arith)
+no_line (BUSY ∷ rest) r w = no_line rest (omega arith) (omega arith)
 
-pub down_clear : (down : List ToCache) → wrong_down down ≡ 0 → is_clear_behind is_inv is_data down ≡ true
+pub down_clear : (down : List ToCache) → wrong_down down ≡ 0 → is_clear_behind is_inv brings_line down ≡ true
 down_clear [] right = refl
 down_clear (RDATA body ∷ rest) right = down_clear rest right
 down_clear (WDATA body ∷ rest) right = down_clear rest right
-down_clear (INV ∷ rest) right = and_from _ _ (not_true _ (no_data rest (omega arith) (omega arith))) (down_clear rest (omega arith))
+down_clear (INV ∷ rest) right = and_from _ _ (not_true _ (no_line rest (omega arith) (omega arith))) (down_clear rest (omega arith))
 down_clear (BUSY ∷ rest) right = down_clear rest right
 
 pub up_clear : (up : List ToMemory) → wrong_up up ≡ 0 → is_clear_behind is_request_or_ackc is_repm up ≡ true

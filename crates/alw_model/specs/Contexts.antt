@@ -4,7 +4,7 @@ use Rattle.std.specs.List.{list_any, list_all, range_with_len}
 use Rattle.sparc_table.specs.Registers.{start_of}
 use Rattle.sparc_table.specs.declared.registers.Regs.{Regs}
 use Rattle.alw_msg.specs.declared.contexts.Status.{Status}
-use Rattle.alw_msg.specs.declared.contexts.Status.TheVariants.{Ready, Waiting, Halted, Trapped}
+use Rattle.alw_msg.specs.declared.contexts.Status.TheVariants.{Ready, Halted}
 use Rattle.alw_msg.specs.Statuses.{is_ready, is_halted, waits_on}
 use Rattle.alw_image.specs.declared.parts.Parts.{Parts}
 use Rattle.alw_image.specs.Images.{context_count}

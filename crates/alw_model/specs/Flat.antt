@@ -18,7 +18,7 @@ use Rattle.alw_image.specs.declared.parts.Parts.{Parts}
 use Rattle.alw_image.specs.Images.{line_count, context_count, body_of, zero_line}
 use Rattle.alw_image.specs.Images as images
 use Rattle.alw_model.specs.Contexts.{regs_start, status_start}
-use Rattle.alw_model.specs.NodeSteps.{status_after}
+use Rattle.alw_model.specs.ProcessorSteps.{status_after}
 
 -- a context: its registers, and whether it is Ready, Halted or Trapped
 pub record Context : Type 0 where

@@ -3,6 +3,9 @@ pub mod LimitLess
 pub mod Caches
 pub mod Contexts
 pub mod Messages
+pub mod Sides
+pub mod ProcessorSteps
+pub mod MemorySteps
 pub mod NodeStates
 pub mod NodeSteps
 pub mod Machine
@@ -10,6 +13,8 @@ pub mod Flat
 pub mod Lines
 pub mod Runs
 pub mod Counts
+pub mod Ends
+pub mod Headline
 pub mod LineInvariant
 pub mod MachineInvariant
 pub mod Checks

@@ -38,9 +38,9 @@ abbrev pub hardware_of : Directory → Home
 hardware_of d = record { state = d.state; pointers = d.hardware; acks = d.acks; body = d.body }
 
 -- a read of node i finds no pointer left, where there are `most`: i isn't in H, and H is full
-abbrev pub overflows : ℕ → Directory → ℕ → State → ToMemory → Bool
-overflows most d i RO RREQ = not (has_node d.hardware i) && (count_nodes d.hardware == most)
-overflows most d i _ _ = false
+abbrev pub overflows : ℕ → Nodes → ℕ → State → ToMemory → Bool
+overflows most hardware i RO RREQ = not (has_node hardware i) && (count_nodes hardware == most)
+overflows most hardware i _ _ = false
 
 -- WREQ, UPDATE and REPM
 abbrev pub is_write : ToMemory → Bool
@@ -57,7 +57,7 @@ traps_in Progress overflow message = false
 
 -- a message of node i traps, where an entry has `most` hardware pointers
 abbrev pub is_trapped : ℕ → Directory → ℕ → ToMemory → Bool
-is_trapped most d i message = traps_in d.meta (overflows most d i d.state message) message
+is_trapped most d i message = traps_in d.meta (overflows most d.hardware i d.state message) message
 
 -- the line is Trans-In-Progress: a message to memory stays at the head of its link
 abbrev pub is_in_progress : Meta → Bool

@@ -10,7 +10,7 @@ use Rattle.alw_num.specs.declared.states.State.{State}
 use Rattle.alw_num.specs.declared.states.State.TheVariants.{RO, RW, RT, WT}
 use Rattle.alw_num.specs.declared.states.Meta.{Meta}
 use Rattle.alw_num.specs.declared.states.Meta.TheVariants.{Normal, Progress, TrapWrite, TrapAlways}
-use Rattle.alw_msg.specs.Contents.{ToCache, RDATA, is_rreq, is_wreq, is_repm, is_update, is_ackc, is_rdata, is_wdata, is_inv, is_busy, is_data, is_request_or_ackc}
+use Rattle.alw_msg.specs.Contents.{ToCache, RDATA, is_rreq, is_wreq, is_repm, is_update, is_ackc, is_rdata, is_wdata, is_inv, is_busy, brings_line, is_request_or_ackc}
 use Rattle.alw_msg.specs.Lists.{count_of, is_followed, is_clear_behind}
 use Rattle.alw_model.specs.FullMap.{sole}
 use Rattle.alw_num.specs.Maps.{passes}
@@ -142,7 +142,7 @@ sharer_fits s i =
 
 -- behind an INV there is no RDATA and no WDATA, and a REPM stands before every RREQ, WREQ and ACKC
 abbrev pub order_fits : LineNode → Bool
-order_fits node = is_clear_behind is_inv is_data node.down && is_clear_behind is_request_or_ackc is_repm node.up
+order_fits node = is_clear_behind is_inv brings_line node.down && is_clear_behind is_request_or_ackc is_repm node.up
 
 -- ---- single
 

@@ -9,7 +9,7 @@ use Rattle.sparc_table.specs.declared.outcomes.Need.{Need}
 use Rattle.sparc_table.specs.declared.outcomes.Need.TheVariants as needs
 use Rattle.alw_msg.specs.declared.messages.Msg.{Msg}
 use Rattle.alw_msg.specs.declared.contexts.Status.{Status}
-use Rattle.alw_msg.specs.declared.contexts.Status.TheVariants.{Waiting, Trapped}
+use Rattle.alw_msg.specs.declared.contexts.Status.TheVariants.{Trapped}
 use Rattle.alw_msg.specs.Contents.{content, is_to_memory}
 use Rattle.alw_msg.specs.Statuses.{waited, is_ready, waits_on}
 use Rattle.alw_image.specs.declared.parts.Parts.{Parts}

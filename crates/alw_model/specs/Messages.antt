@@ -32,9 +32,12 @@ message node stamp line said =
 abbrev pub home_node : Parts → ℕ → ℕ
 home_node parts line = line / parts.per_node
 
--- requests go to the homes of their lines
+-- requests go to the homes of their lines, where each node keeps so many lines
+abbrev pub homeward : ℕ → ℕ → ℕ → Requests → List (ℕ × Msg)
+homeward per_node node stamp requests = map (λ (request : ℕ × ToMemory). (request.0 / per_node, message node stamp request.0 (ForMemory request.1))) requests
+
 abbrev pub to_homes : Parts → ℕ → ℕ → Requests → List (ℕ × Msg)
-to_homes parts node stamp requests = map (λ (request : ℕ × ToMemory). (home_node parts request.0, message node stamp request.0 (ForMemory request.1))) requests
+to_homes parts node stamp requests = homeward parts.per_node node stamp requests
 
 -- what a home sends about a line
 abbrev pub to_caches : ℕ → ℕ → ℕ → Sends → List (ℕ × Msg)

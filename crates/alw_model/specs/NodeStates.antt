@@ -1,5 +1,6 @@
 -- The state of a node: its contexts, its cache and transactions, the entries of its home lines, its packet queue and its clock (Lamport 1978).
-use Rattle.std.specs.Prelude.{ℕ, ◌+◌, ◌-◌, ◌*◌, ◌%◌, ◌^◌, Bool, true, false, not, ◌&&◌, ◌==◌, nat_lt, max, Option, Some, None, is_some, List, [], map, slice_index_or, slice_set}
+use Rattle.std.specs.Prelude.{ℕ, ◌+◌, ◌-◌, ◌*◌, ◌%◌, ◌^◌, Bool, true, not, ◌&&◌, ◌==◌, nat_lt, max, Option, Some, None, is_some, List, [], map}
+use Rattle.std.specs.Prelude.{slice_set}
 use Rattle.std.specs.List.{range_with_len}
 use Rattle.alw_msg.specs.declared.messages.Msg.{Msg}
 use Rattle.alw_msg.specs.declared.events.Event.{Event}
@@ -8,14 +9,16 @@ use Rattle.alw_msg.specs.Contents.{ToCache, INV, BUSY, Content, ForMemory, ForCa
 use Rattle.alw_msg.specs.Events.{node_of}
 use Rattle.alw_msg.specs.Lists.{is_nonempty}
 use Rattle.alw_image.specs.declared.parts.Parts.{Parts}
-use Rattle.alw_image.specs.Images.{node_count, body_of, is_always, zero_line}
+use Rattle.alw_image.specs.Images.{node_count, body_of, is_always}
 use Rattle.alw_image.specs.Parameters.{Parameters}
 use Rattle.alw_num.specs.Maps.{passes, empty_map, value_at}
 use Rattle.alw_model.specs.LimitLess.{Directory, directory_start, is_in_progress}
 use Rattle.alw_model.specs.Caches.{Cache, Transactions, replaced}
 use Rattle.alw_model.specs.Contexts.{Slot, slots_start, running, is_held}
 use Rattle.alw_model.specs.Messages.{is_fit}
+use Rattle.alw_model.specs.Sides.{Processor, Memory, entry_at}
 
+-- a node
 pub record NodeState : Type 0 where
   pub slots : List Slot
   pub current : ℕ
@@ -24,6 +27,24 @@ pub record NodeState : Type 0 where
   pub homes : List Directory
   pub packets : List Msg
   pub clock : ℕ
+
+-- its processor side, and its memory side
+abbrev pub processor_of : Parts → Parameters → ℕ → NodeState → Processor
+processor_of parts parameters number node = record {
+  number = number;
+  width = parts.width;
+  height = parts.height;
+  per_node = parts.per_node;
+  sets = parameters.sets;
+  slots = node.slots;
+  current = node.current;
+  cache = node.cache;
+  transactions = node.transactions;
+}
+
+abbrev pub memory_of : Parts → Parameters → ℕ → NodeState → Memory
+memory_of parts parameters number node =
+    record { number = number; nodes = node_count parts; per_node = parts.per_node; pointers = parameters.pointers; homes = node.homes; packets = node.packets }
 
 -- the entries of a node's home lines at the start
 abbrev pub homes_start : Parts → ℕ → List Directory
@@ -39,7 +60,7 @@ place_of parts line = line % parts.per_node
 
 -- a home's entry of one of its lines
 abbrev pub home_at : Parts → NodeState → ℕ → Directory
-home_at parts node line = slice_index_or node.homes (place_of parts line) (directory_start zero_line false)
+home_at parts node line = entry_at node.homes (place_of parts line)
 
 -- the node with another entry of a home line
 abbrev pub with_home : Parts → NodeState → ℕ → Directory → NodeState
@@ -51,15 +72,15 @@ stamp_of clock None = clock + 1
 stamp_of clock (Some msg) = max clock msg.stamp + 1
 
 -- what keeps a message to a cache on its link: an INV for a held line, and an RDATA or WDATA whose set holds another line that is held
-abbrev pub may_reach_cache : Parameters → NodeState → ℕ → ToCache → Bool
-may_reach_cache parameters node line INV = not (is_held node.slots line)
-may_reach_cache parameters node line BUSY = true
-may_reach_cache parameters node line _ = not (passes (λ copy. is_held node.slots copy.line) (replaced parameters.sets node.cache line))
+abbrev pub may_reach_cache : ℕ → List Slot → Cache → ℕ → ToCache → Bool
+may_reach_cache sets slots cache line INV = not (is_held slots line)
+may_reach_cache sets slots cache line BUSY = true
+may_reach_cache sets slots cache line _ = not (passes (λ copy. is_held slots copy.line) (replaced sets cache line))
 
 -- what keeps a message on its link: one to memory waits while its line is Trans-In-Progress
 abbrev pub may_reach : Parts → Parameters → NodeState → ℕ → Content → Bool
 may_reach parts parameters node line (ForMemory said) = not (is_in_progress (home_at parts node line).meta)
-may_reach parts parameters node line (ForCache said) = may_reach_cache parameters node line said
+may_reach parts parameters node line (ForCache said) = may_reach_cache parameters.sets node.slots node.cache line said
 
 -- the head of the link of two nodes can be delivered: it is fit, and nothing keeps it
 abbrev pub may_deliver : Parts → Parameters → ℕ → ℕ → NodeState → Msg → Bool

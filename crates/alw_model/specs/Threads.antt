@@ -2,7 +2,7 @@
 use Rattle.std.specs.Prelude.{◌≡◌, ℕ, ◌<◌, ◌≤◌, Bool, false, cond, not, ◌&&◌, ◌||◌, ◌==◌, nat_lt, Option, is_some, option_to_list, List, [], ◌∷◌, ◌++◌, map, filter, flat_map, length, slice_index_or, IsTrue, IfSome}
 use Rattle.alw_msg.specs.declared.messages.Msg.{Msg}
 use Rattle.alw_msg.specs.declared.events.Event.{Event}
-use Rattle.alw_msg.specs.declared.events.Event.TheVariants.{Deliver, Evict}
+use Rattle.alw_msg.specs.declared.events.Event.TheVariants.{Deliver}
 use Rattle.alw_msg.specs.declared.events.Entry.{Entry}
 use Rattle.alw_msg.specs.Events.{node_of, is_evict}
 use Rattle.alw_image.specs.declared.parts.Parts.{Parts}

@@ -1,8 +1,10 @@
-ghost use Rattle.std.specs.Prelude.{◌≡◌, ◌↔◌, ◌∷◌, ◌++◌, [], ℕ, List, IsTrue, take};
+ghost use Rattle.std.specs.Prelude.{◌≡◌, ◌↔◌, ◌∷◌, ◌++◌, [], ℕ, List, None, IsTrue, false, take};
 ghost use Rattle.alw_image.specs.declared.parts.Parts.{Parts};
 ghost use Rattle.alw_image.specs.Parameters.{Parameters};
 ghost use Rattle.alw_msg.specs.declared.events.Entry.{Entry};
-ghost use Rattle.alw_model.specs.Machine.{MachineState, state, step, IsNext, IsLegal, is_legal};
+ghost use Rattle.alw_msg.specs.Events.{is_evict};
+ghost use Rattle.alw_model.specs.Machine.{MachineState, state, step, IsNext, IsLegal, is_legal, end_of};
+ghost use Rattle.alw_model.specs.Headline.{IsScheduled};
 ghost use Rattle.alw_model.specs.Runs.{moments, moment_of};
 ghost use Rattle.alw_model.specs.MachineInvariant.{MachineInvariant};
 ghost use Rattle.alw_model.specs.Threads.{Logged, IsLocalRun, StampsRise};
@@ -38,4 +40,14 @@ pub fn one_more_entry()
         IsLegal parts parameters journal → IsNext parts parameters (state parts parameters journal) entry → IsLegal parts parameters (journal ++ entry ∷ []) }
     ensures front { (parts : Parts) → (parameters : Parameters) → (journal : List Entry) → (n : ℕ) →
         IsLegal parts parameters journal → IsLegal parts parameters (take n journal) }
+{}
+
+/// A journal that is made event by event: there is one before the first event, and one with an entry
+/// more where no end holds yet.
+#[tactic(auto, using(crate::proofs::Schedules::scheduled_none, crate::proofs::Schedules::scheduled_more))]
+pub fn one_more_event()
+    ensures none { (parts : Parts) → (parameters : Parameters) → IsScheduled parts parameters [] }
+    ensures more { (parts : Parts) → (parameters : Parameters) → (journal : List Entry) → (entry : Entry) →
+        IsScheduled parts parameters journal → end_of parts parameters (state parts parameters journal) ≡ None →
+        (parameters.evict ≡ 0 → is_evict entry.event ≡ false) → IsScheduled parts parameters (journal ++ entry ∷ []) }
 {}

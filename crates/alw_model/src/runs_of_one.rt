@@ -1,4 +1,4 @@
-ghost use Rattle.std.specs.Prelude.{◌≡◌, ◌∷◌, ◌++◌, [], true, false, Some, None};
+ghost use Rattle.std.specs.Prelude.{◌≡◌, ◌∷◌, ◌++◌, [], true, false, Some, None, find};
 ghost use Rattle.alw_num.specs.declared.states.State.TheVariants.{RO, RW};
 ghost use Rattle.alw_num.specs.declared.states.Meta.TheVariants.{Normal};
 ghost use Rattle.alw_num.specs.declared.states.Mode.TheVariants.{Write};
@@ -7,7 +7,9 @@ ghost use Rattle.sparc_table.specs.declared.outcomes.Outcome.TheVariants as ends
 ghost use Rattle.alw_model.specs.declared.steps.Did.TheVariants.{Turn, Missed, Took};
 ghost use Rattle.alw_num.specs.Maps.{value_at};
 ghost use Rattle.alw_model.specs.Checks.{stays_sound};
-ghost use Rattle.alw_model.specs.Machine.{state, node_at, link_at, is_legal, end_of, Halted, Trapped, Limit};
+ghost use Rattle.alw_msg.specs.declared.events.Event.TheVariants.{Instr};
+ghost use Rattle.alw_model.specs.Machine.{state, node_at, link_at, is_legal, is_enabled, main_events, end_of, Halted, Trapped, Limit};
+ghost use Rattle.alw_model.specs.Ends.{first_trap};
 ghost use Rattle.alw_model.specs.Counts.{counts_of, memory_words, directory_lines};
 ghost use Rattle.alw_model.specs.Runs.{turns_of, prints_of, moments};
 ghost use Rattle.alw_model.specs.Rows.{is_flat, I, defaults, dids, sent};
@@ -104,6 +106,7 @@ pub fn trap_ends()
     ensures sound { stays_sound trap_image defaults trap_journal ≡ true }
     ensures did { dids trap_image defaults trap_journal ≡ Turn 0 ends.Done ∷ Turn 0 (ends.Trap 0x07) ∷ [] }
     ensures ends { end_of trap_image defaults (state trap_image defaults trap_journal) ≡ Some Trapped }
+    ensures trap { first_trap 0 (moments trap_image defaults trap_journal) ≡ Some (record { entry = 1; node = 0; slot = 0; pc = 4; tt = 0x07 }) }
 {}
 
 /// A run that goes on for ever ends at its limit, and a further event isn't legal.
@@ -112,5 +115,6 @@ pub fn limit_ends()
     ensures legal { is_legal loop_image limit_3 loop_journal ≡ true }
     ensures sound { stays_sound loop_image limit_3 loop_journal ≡ true }
     ensures ends { end_of loop_image limit_3 (state loop_image limit_3 loop_journal) ≡ Some Limit }
+    ensures event { find (λ e. is_enabled loop_image limit_3 (state loop_image limit_3 loop_journal) e) (main_events loop_image) ≡ Some (Instr (record { 0 = 0 })) }
     ensures further { is_legal loop_image limit_3 (loop_journal ++ I 4 0 ∷ []) ≡ false }
 {}

@@ -99,15 +99,11 @@ abbrev pub is_reply : ToCache → Bool
 is_reply INV = false
 is_reply _ = true
 
--- the message brings its line
+-- the message brings its line: it is an RDATA or a WDATA
 abbrev pub brings_line : ToCache → Bool
 brings_line (RDATA body) = true
 brings_line (WDATA body) = true
 brings_line _ = false
-
--- the message is an RDATA or a WDATA
-abbrev pub is_data : ToCache → Bool
-is_data message = is_rdata message || is_wdata message
 
 -- the message is a request or an ACKC
 abbrev pub is_request_or_ackc : ToMemory → Bool

@@ -4,3 +4,4 @@ pub mod Events
 pub mod Statuses
 pub mod Lists
 pub mod Sending
+pub mod Stretches

@@ -13,13 +13,17 @@ pub record Sending : Type 0 where
   pub stamp : ℕ
   pub messages : List (ℕ × Msg)
 
+-- the list of sends with these messages
+abbrev pub with_messages : Sending → List (ℕ × Msg) → Sending
+with_messages sending messages = record sending { messages = messages }
+
 -- the bytes that a message of a kind carries: zero where it carries none
-abbrev pub carried : Kind → Line → Line
-carried kind body = cond (has_body kind) body (record { a = 0; b = 0; c = 0; d = 0 })
+abbrev pub carried_body : Kind → Line → Line
+carried_body kind body = cond (has_body kind) body (record { a = 0; b = 0; c = 0; d = 0 })
 
 -- the message of the event's node, with the event's stamp
 abbrev pub event_message : Sending → Kind → LineNo → Line → Msg
-event_message sending kind line body = record { kind = kind; line = line; src = record { 0 = sending.src }; stamp = sending.stamp; body = carried kind body }
+event_message sending kind line body = record { kind = kind; line = line; src = record { 0 = sending.src }; stamp = sending.stamp; body = carried_body kind body }
 
 -- one message more, to a node
 abbrev pub with_message : Sending → ℕ → Kind → LineNo → Line → Sending

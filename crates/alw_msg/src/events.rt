@@ -35,9 +35,6 @@ pub struct Entry {
 /// The events of a run, in order.
 pub type Journal = Sequence<Entry>;
 
-/// The numbers of the contexts that took a turn, in order.
-pub type Turns = Sequence<u32>;
-
 /// Printed words, each with the number of the context that printed it, in order.
 pub type Prints = Sequence<(u32, u32)>;
 

@@ -5,11 +5,13 @@ mod contexts;
 mod events;
 mod messages;
 mod sends;
+mod turns;
 
 pub use contexts::Status;
-pub use events::{Entry, Event, Journal, Prints, Turns, Words};
+pub use events::{Entry, Event, Journal, Prints, Words};
 pub use messages::{Kind, Msg};
 pub use sends::Sends;
+pub use turns::{Stretches, Turns, stretches, stretches_are_longest};
 
 #[cfg(test)]
 mod tests;

@@ -1,4 +1,4 @@
-ghost use Rattle.std.specs.Prelude.{◌≡◌, ◌<◌, ◌≤◌, ◌↔◌, [], length, slice_get, Some, IsTrue, IfOk};
+ghost use Rattle.std.specs.Prelude.{◌≡◌, ◌<◌, ◌≤◌, ◌+◌, ◌↔◌, [], length, slice_get, Some, IsTrue, IfOk};
 ghost use Rattle.alw_msg.specs.Sending.{with_message};
 
 use crate::messages::{Kind, Msg};
@@ -72,11 +72,27 @@ impl Sends {
         };
         self.messages.push_reserved((to.0, msg));
     }
+
     /// The number of messages.
     pub fn len(&self) -> u32
         ensures { result ≡ length self.now.messages }
     {
         self.messages.len() as u32
+    }
+
+    /// The number of messages that there is still room for.
+    pub fn free(&self) -> u32
+        ensures { result + length self.now.messages ≡ self.now.room }
+    {
+        self.nodes - self.messages.len() as u32
+    }
+
+    /// Gives back the memory of the room that no message took.
+    pub fn trim(&mut self)
+        ensures { self.new ≡ record self.old { room = length self.old.messages } }
+    {
+        self.nodes = self.messages.len() as u32;
+        self.messages.shrink_to_fit();
     }
 
     pub fn is_empty(&self) -> bool

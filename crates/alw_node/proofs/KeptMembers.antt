@@ -10,26 +10,22 @@ use Rattle.std.proofs.lemmas.Option.{same_Some, slice_get-get_or}
 use Rattle.alw_num.specs.declared.addresses.Line.{Line}
 use Rattle.alw_num.specs.declared.addresses.LineNo.{LineNo}
 use Rattle.alw_num.specs.declared.addresses.NodeNo.{NodeNo}
-use Rattle.alw_num.specs.declared.states.Mode.{Mode}
 use Rattle.alw_num.specs.Maps.{empty_map}
-use Rattle.sparc_table.specs.Turns.{need_of}
-use Rattle.sparc_table.specs.declared.outcomes.Need.{Need}
-use Rattle.sparc_table.specs.declared.outcomes.Need.TheVariants as needs
 use Rattle.alw_msg.specs.declared.messages.Msg.{Msg}
 use Rattle.alw_msg.specs.declared.events.Event.{Event}
 use Rattle.alw_msg.specs.declared.events.Event.TheVariants.{Instr, Handle, Deliver, Evict}
 use Rattle.alw_image.specs.declared.parts.Parts.{Parts}
-use Rattle.alw_image.specs.Images.{node_count, line_count, body_in, body_of, is_always}
+use Rattle.alw_image.specs.Images.{node_count, body_in, body_of, is_always}
 use Rattle.alw_image.specs.Parameters.{Parameters}
-use Rattle.alw_msg.specs.Contents.{ToMemory, Content, ForMemory, ForCache, content}
-use Rattle.alw_model.specs.LimitLess.{Directory, directory_start, is_trapped}
-use Rattle.alw_model.specs.Caches.{Copy, granted_copy}
-use Rattle.alw_model.specs.Contexts.{Slot, slot_start, slot_at, regs_start, status_start, running}
+use Rattle.alw_msg.specs.Contents.{Content, ForMemory, ForCache, content}
+use Rattle.alw_model.specs.LimitLess.{Directory, directory_start}
+use Rattle.alw_model.specs.Contexts.{Slot, slot_start, regs_start, status_start}
 use Rattle.alw_model.specs.Messages.{is_fit}
 use Rattle.alw_msg.specs.Events.{node_of}
-use Rattle.alw_model.specs.NodeStates.{NodeState, node_start, home_at, may_reach, may, is_enabled_at, stamp_of}
-use Rattle.alw_model.specs.NodeSteps.{access, instr_by, instr, at_home, deliver_by, handle_by, handle_front, event_at, clocked, node_step}
-use Rattle.alw_node.specs.Shares.{is_line_of, is_body_of, is_start_of, share_of}
+use Rattle.alw_model.specs.NodeStates.{NodeState, node_start, may_reach, may, is_enabled_at, stamp_of}
+use Rattle.alw_model.specs.NodeSteps.{deliver_by, event_at, clocked, node_step}
+use Rattle.alw_image.specs.Nodes.{is_line_of, is_body_of, is_start_of}
+use Rattle.alw_node.specs.Shares.{share_of}
 
 -- ---- the loops
 
@@ -134,38 +130,15 @@ may_same parts number parameters node (Deliver from to) (Some msg) = ap (λ (rea
 pub enabled_same : (parts : Parts) (number : ℕ) (parameters : Parameters) (at : ℕ) (node : NodeState) (event : Event) (head : Option Msg) → is_enabled_at (share_of parts number) parameters at node event head ≡ is_enabled_at parts parameters at node event head
 enabled_same parts number parameters at node event head = ap (λ (passes : Bool). node_of event == at && (nat_lt at (node_count parts) && (nat_lt node.clock (2 ^ 32 - 1) && passes))) (may_same parts number parameters node event head)
 
-access_same : (parts : Parts) (number : ℕ) (parameters : Parameters) (at stamp : ℕ) (node : NodeState) (slot line : ℕ) (mode : Mode) (copy : Option Copy) → access (share_of parts number) parameters at stamp node slot line mode copy ≡ access parts parameters at stamp node slot line mode copy
-access_same parts number parameters at stamp node slot line mode None = refl
-access_same parts number parameters at stamp node slot line mode (Some copy) = refl
-
-need_same : (parts : Parts) (number : ℕ) (parameters : Parameters) (at stamp : ℕ) (node : NodeState) (slot : ℕ) (need : Need) → instr_by (share_of parts number) parameters at stamp node slot need ≡ instr_by parts parameters at stamp node slot need
-need_same parts number parameters at stamp node slot (needs.Copy line mode) = access_same parts number parameters at stamp node slot line.0 mode (granted_copy parameters.sets node.cache line.0 mode)
-need_same parts number parameters at stamp node slot needs.Nothing = refl
-need_same parts number parameters at stamp node slot (needs.Trap tt) = refl
-
-instr_same : (parts : Parts) (number : ℕ) (parameters : Parameters) (at stamp : ℕ) (node : NodeState) (runs : Option ℕ) → instr (share_of parts number) parameters at stamp node runs ≡ instr parts parameters at stamp node runs
-instr_same parts number parameters at stamp node None = refl
-instr_same parts number parameters at stamp node (Some slot) = need_same parts number parameters at stamp node slot (need_of parts.code (slot_at node.slots slot).regs (line_count parts))
-
-home_same : (parts : Parts) (number : ℕ) (parameters : Parameters) (at stamp : ℕ) (node : NodeState) (msg : Msg) (said : ToMemory) (traps : Bool) → at_home (share_of parts number) parameters at stamp node msg said traps ≡ at_home parts parameters at stamp node msg said traps
-home_same parts number parameters at stamp node msg said true = refl
-home_same parts number parameters at stamp node msg said false = refl
-
-content_same : (parts : Parts) (number : ℕ) (parameters : Parameters) (at stamp : ℕ) (node : NodeState) (msg : Msg) (said : Content) → deliver_by (share_of parts number) parameters at stamp node msg said ≡ deliver_by parts parameters at stamp node msg said
-content_same parts number parameters at stamp node msg (ForMemory said) = home_same parts number parameters at stamp node msg said (is_trapped parameters.pointers (home_at parts node msg.line.0) msg.src.0 said)
+content_same : (parts : Parts) (number : ℕ) (parameters : Parameters) (at stamp : ℕ) (node : NodeState) (msg : Msg) (said : Content)
+    → deliver_by (share_of parts number) parameters at stamp node msg said ≡ deliver_by parts parameters at stamp node msg said
+content_same parts number parameters at stamp node msg (ForMemory said) = refl
 content_same parts number parameters at stamp node msg (ForCache said) = refl
 
-packet_same : (parts : Parts) (number at stamp : ℕ) (node : NodeState) (packet : Msg) (said : Content) → handle_by (share_of parts number) at stamp node packet said ≡ handle_by parts at stamp node packet said
-packet_same parts number at stamp node packet (ForCache said) = refl
-packet_same parts number at stamp node packet (ForMemory said) = refl
-
-front_same : (parts : Parts) (number at stamp : ℕ) (node : NodeState) (packets : List Msg) → handle_front (share_of parts number) at stamp node packets ≡ handle_front parts at stamp node packets
-front_same parts number at stamp node [] = refl
-front_same parts number at stamp node (packet ∷ rest) = packet_same parts number at stamp (record node { packets = rest }) packet (content packet)
-
-event_same : (parts : Parts) (number : ℕ) (parameters : Parameters) (at stamp : ℕ) (node : NodeState) (event : Event) (taken : Option Msg) → event_at (share_of parts number) parameters at stamp node event taken ≡ event_at parts parameters at stamp node event taken
-event_same parts number parameters at stamp node (Instr here) taken = instr_same parts number parameters at stamp node (running node.slots node.current)
-event_same parts number parameters at stamp node (Handle here) taken = front_same parts number at stamp node node.packets
+event_same : (parts : Parts) (number : ℕ) (parameters : Parameters) (at stamp : ℕ) (node : NodeState) (event : Event) (taken : Option Msg)
+    → event_at (share_of parts number) parameters at stamp node event taken ≡ event_at parts parameters at stamp node event taken
+event_same parts number parameters at stamp node (Instr here) taken = refl
+event_same parts number parameters at stamp node (Handle here) taken = refl
 event_same parts number parameters at stamp node (Evict here set) taken = refl
 event_same parts number parameters at stamp node (Deliver from to) None = refl
 event_same parts number parameters at stamp node (Deliver from to) (Some msg) = content_same parts number parameters at stamp node msg (content msg)

@@ -1,10 +1,3 @@
-pub mod Deliveries
-pub mod Embeds
-pub mod Entries
 pub mod Given
-pub mod Handlings
 pub mod KeptMembers
-pub mod Sides
-pub mod Starts
-pub mod TableSizes
-pub mod Wholes
+pub mod Takings

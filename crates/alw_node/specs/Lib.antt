@@ -1,5 +1,2 @@
-pub mod HomeSides
-pub mod Insides
 pub mod Nodes
 pub mod Shares
-pub mod Views

@@ -8,9 +8,9 @@ use Rattle.alw_image.specs.declared.parts.Parts.{Parts}
 use Rattle.alw_image.specs.Images.{node_count}
 use Rattle.alw_image.specs.Parameters.{Parameters}
 use Rattle.alw_model.specs.NodeStates.{NodeState, node_start, may_deliver}
+use Rattle.alw_model.specs.declared.steps.Did.{Did}
 use Rattle.alw_model.specs.NodeSteps.{Stepped}
-use Rattle.alw_proc.specs.Processors.{Processor}
-use Rattle.alw_node.specs.HomeSides.{Side}
+use Rattle.alw_model.specs.Sides.{Processor, Memory}
 use Rattle.alw_node.specs.Shares.{share_of}
 
 -- a node
@@ -24,28 +24,24 @@ pub record Whole : Type 0 where
 abbrev pub whole_start : Parts → Parameters → ℕ → Whole
 whole_start parts parameters number = record { number = number; parts = share_of parts number; parameters = parameters; state = node_start parts number }
 
--- the state of a node with these two sides and this clock
-abbrev pub state_with : Processor → Side → ℕ → NodeState
-state_with p side clock = record { slots = p.slots; current = p.current; cache = p.cache; transactions = p.transactions; homes = side.homes; packets = side.packets; clock = clock }
-
 -- the node that these make up; its sizes are the processor side's, which are the share's
-abbrev pub whole_of : Parts → Parameters → Processor → Side → ℕ → Whole
-whole_of share parameters p side clock = record {
+abbrev pub whole_of : Parts → Parameters → Processor → Memory → ℕ → Whole
+whole_of share parameters p m clock = record {
   number = p.number;
   parts = record share { width = p.width; height = p.height; per_node = p.per_node };
   parameters = parameters;
-  state = state_with p side clock;
+  state = record { slots = p.slots; current = p.current; cache = p.cache; transactions = p.transactions; homes = m.homes; packets = m.packets; clock = clock };
 }
 
 -- the two sides are of one node, which has this share, with a slot for each context, and these parameters
-pub record AreOne (share : Parts) (parameters : Parameters) (p : Processor) (side : Side) : Type 0 where
+pub record AreOne (share : Parts) (parameters : Parameters) (p : Processor) (m : Memory) : Type 0 where
   pub width : p.width ≡ share.width
   pub height : p.height ≡ share.height
   pub lines : p.per_node ≡ share.per_node
-  pub number : side.number ≡ p.number
-  pub nodes : side.nodes ≡ p.width * p.height
-  pub per_node : side.per_node ≡ p.per_node
-  pub pointers : side.pointers ≡ parameters.pointers
+  pub number : m.number ≡ p.number
+  pub nodes : m.nodes ≡ p.width * p.height
+  pub per_node : m.per_node ≡ p.per_node
+  pub pointers : m.pointers ≡ parameters.pointers
   pub sets : p.sets ≡ parameters.sets
   pub slots : length p.slots ≡ share.contexts
 
@@ -59,9 +55,11 @@ pub record IsNode (node : Whole) : Type 0 where
   pub slots : length node.state.slots ≡ node.parts.contexts
   pub homes : length node.state.homes ≡ node.parts.per_node
 
--- the sends of an event of a node at a stamp, which are a step's
-abbrev pub sent_by : Sending → ℕ → ℕ → Stepped → Sending
-sent_by sending number stamp step = record { room = sending.room; src = number; stamp = stamp; messages = step.sends }
+-- what an event has left of a node and of the list of its sends, which is begun at the node's new clock, and what it did, are this step's
+pub record Steps (before after : Whole) (sent sent' : Sending) (did : Did) (step : Stepped) : Type 0 where
+  pub node : after ≡ record before { state = step.node }
+  pub sends : sent' ≡ record { room = sent.room; src = before.number; stamp = step.node.clock; messages = step.sends }
+  pub outcome : did ≡ step.did
 
 -- a message has a stamp below the greatest, if there is one
 abbrev pub FitsStamp : Option Msg → Type 0

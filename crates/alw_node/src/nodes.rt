@@ -9,13 +9,12 @@ ghost use Rattle.alw_model.specs.Messages.{home_node, is_fit};
 ghost use Rattle.alw_model.specs.NodeStates.{home_at, is_enabled_at, may_reach, stamp_of};
 ghost use Rattle.alw_model.specs.NodeSteps.{node_step};
 ghost use Rattle.alw_proc.specs.Processors.{mode_of, cached_of};
-ghost use Rattle.alw_node.specs.Nodes.{whole_start, sent_by, may_take_from, FitsStamp, IsGiven, IsNode};
-ghost use Rattle.alw_node.specs.Views.{IsViewOf};
+ghost use Rattle.alw_memory.specs.Views.{IsViewOf};
+ghost use Rattle.alw_node.specs.Nodes.{whole_start, may_take_from, Steps, FitsStamp, IsGiven, IsNode};
 
-use crate::home_sides::HomeSide;
 use crate::shares::share_of;
-use crate::views::HomeView;
 use alw_image::{Image, Params, Parts};
+use alw_memory::{HomeView, Memory};
 use alw_model::Did;
 use alw_msg::{Event, Msg, Sends, Status};
 use alw_num::{Line, LineNo, Mode, NoMemory, NodeNo};
@@ -31,7 +30,7 @@ pub struct Node {
     share: Parts,
     params: Params,
     proc: Proc,
-    side: HomeSide,
+    memory: Memory,
     clock: u32,
 }
 
@@ -40,9 +39,9 @@ impl Model for Node {
 
     ghost Value = { Whole };
 
-    ghost view = { λ n. whole_of n.share n.params n.proc n.side n.clock };
+    ghost view = { λ n. whole_of n.share n.params n.proc n.memory n.clock };
 
-    ghost invariant = { λ n. AreOne n.share n.params n.proc n.side };
+    ghost invariant = { λ n. AreOne n.share n.params n.proc n.memory };
 }
 
 impl Node {
@@ -60,7 +59,7 @@ impl Node {
             share: share_of(alloc, image, node)?,
             params: *params,
             proc: Proc::start(alloc, image, params, node)?,
-            side: HomeSide::start(alloc, image, params, node)?,
+            memory: Memory::start(alloc, image, params, node)?,
             clock: 0,
         })
     }
@@ -76,7 +75,7 @@ impl Node {
         }
         match event {
             Event::Instr { .. } => self.proc.is_ready(),
-            Event::Handle { .. } => self.side.has_packet(),
+            Event::Handle { .. } => self.memory.has_packet(),
             Event::Deliver { from, .. } => match head {
                 Some(msg) => self.may_take_from(from, msg),
                 None => false,
@@ -91,29 +90,23 @@ impl Node {
         requires enabled { is_enabled_at self.old.parts self.old.parameters self.old.number self.old.state event taken ≡ true }
         requires taken { IsGiven event taken }
         requires room { node_count self.old.parts ≤ sent.old.room }
-        ensures node { self.new ≡ record self.old { state = (node_step self.old.parts self.old.parameters self.old.number self.old.state event taken).node } }
-        ensures sends { sent.new ≡ sent_by sent.old self.old.number (stamp_of self.old.state.clock taken) (node_step self.old.parts self.old.parameters self.old.number self.old.state event taken) }
-        ensures did { result ≡ (node_step self.old.parts self.old.parameters self.old.number self.old.state event taken).did }
+        ensures { Steps self.old self.new sent.old sent.new result (node_step self.old.parts self.old.parameters self.old.number self.old.state event taken) }
     {
         let stamp = next_stamp(self.clock, taken);
         sent.begin(self.proc.number(), stamp);
         self.clock = stamp;
         match event {
             Event::Instr { .. } => self.proc.instr(self.share.code.words(), sent),
-            Event::Handle { .. } => self.side.handle(sent),
-            Event::Evict { set, .. } => {
-                self.proc.evict(set, sent);
-                Did::Evicted
-            }
+            Event::Handle { .. } => self.memory.handle(sent),
+            Event::Evict { set, .. } => self.proc.evict(set, sent),
             Event::Deliver { .. } => {
                 let Some(msg) = taken else {
                     return Did::Took;
                 };
                 if msg.kind.is_to_memory() {
-                    self.side.deliver(&msg, sent)
+                    self.memory.deliver(&msg, sent)
                 } else {
-                    self.proc.cache_msg(&msg, sent);
-                    Did::Took
+                    self.proc.cache_msg(&msg, sent)
                 }
             }
         }
@@ -124,7 +117,7 @@ impl Node {
         ensures number { result.0 ≡ self.now.number }
         ensures stands { IsNode self.now }
     {
-        let _stands = self.side.number();
+        let _stands = self.memory.number();
         self.proc.number()
     }
 
@@ -201,21 +194,21 @@ impl Node {
         requires { home_node self.now.parts line.0 ≡ self.now.number }
         ensures { IsViewOf result (home_at self.now.parts self.now.state line.0) }
     {
-        self.side.home(line)
+        self.memory.home(line)
     }
 
     /// The packet at a place of the queue, where 0 is the front. None exactly behind its end.
     pub fn packet(&self, i: u32) -> Option<Msg>
         ensures { result ≡ slice_get self.now.state.packets i }
     {
-        self.side.packet(i)
+        self.memory.packet(i)
     }
 
     // The message at the head of the link from a node can be delivered.
     fn may_take_from(&self, from: NodeNo, msg: &Msg) -> bool
         ensures { result ≡ may_take_from self.now from.0 msg.now }
     {
-        u32::from(from.0) < self.side.nodes() && self.is_fit(from, msg) && self.may_reach(msg)
+        u32::from(from.0) < self.memory.nodes() && self.is_fit(from, msg) && self.may_reach(msg)
     }
 
     // A message is fit for the link from a node: sent by that node, about a line that exists, with a
@@ -223,8 +216,8 @@ impl Node {
     fn is_fit(&self, from: NodeNo, msg: &Msg) -> bool
         ensures { result ≡ is_fit self.now.parts from.0 self.now.number msg.now }
     {
-        let here = self.side.number();
-        let home = msg.line.0 / u32::from(self.side.per_node());
+        let here = self.memory.number();
+        let home = msg.line.0 / u32::from(self.memory.per_node());
         let end = if msg.kind.is_to_memory() { here } else { from };
         msg.src == from
             && msg.line.0 < self.proc.lines()
@@ -237,7 +230,7 @@ impl Node {
         ensures { result ≡ may_reach self.now.parts self.now.parameters self.now.state msg.now.line.0 (content msg.now) }
     {
         if msg.kind.is_to_memory() {
-            self.side.is_free(msg.line)
+            self.memory.is_free(msg.line)
         } else {
             self.proc.may_take(msg)
         }

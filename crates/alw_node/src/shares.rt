@@ -1,6 +1,7 @@
 ghost use Rattle.std.specs.Prelude.{◌≡◌, ◌<◌, ◌≤◌, IfOk, filter};
 ghost use Rattle.alw_image.specs.Images.{node_count};
-ghost use Rattle.alw_node.specs.Shares.{share_of, is_body_of, is_start_of, is_line_of};
+ghost use Rattle.alw_image.specs.Nodes.{is_body_of, is_start_of, is_line_of};
+ghost use Rattle.alw_node.specs.Shares.{share_of};
 
 use alw_image::{Bodies, Image, LineList, Parts, Starts};
 use alw_num::{NoMemory, NodeNo};

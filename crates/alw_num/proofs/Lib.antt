@@ -3,3 +3,4 @@ pub mod Sets
 pub mod Weigh
 pub mod Words
 pub mod MapLaws
+pub mod MapLengths

@@ -1,7 +1,8 @@
 -- Laws of finite maps: what a map answers after a change, and that two maps that answer alike are equal.
-use Rattle.std.proofs.Common.{◌≡◌, ℕ, ◌+◌, ◌<◌, Bool, true, false, cond, ◌==◌, T, Option, Some, None, List, [], ◌∷◌, refl, sym, ap, ◌∙◌, subst, ◌⊎◌, inl, inr, arith}
+use Rattle.std.proofs.Common.{◌≡◌, ℕ, ◌+◌, ◌<◌, Bool, true, false, cond, ◌==◌, T, Some, None, List, [], ◌∷◌, refl, sym, ap, ◌∙◌, subst, ◌⊎◌, inl, inr, arith}
 use Rattle.std.proofs.lemmas.Bool.Decides.{nat_tests}
 use Rattle.std.proofs.lemmas.Bool.{cases_order}
+use Rattle.std.proofs.lemmas.Option.{same_Some, none-some}
 use Rattle.alw_num.specs.Maps.{Map, ascends_from, put, taken, found, empty_map, value_at, with_value, without_value}
 
 found-put : {X : Type 0} (key : ℕ) (value : X) (at : ℕ) (entries : List (ℕ × X)) → found at (put key value entries) ≡ cond (at == key) (Some value) (found at entries)
@@ -9,7 +10,7 @@ found-put key value at [] = refl
 found-put key value at (entry ∷ rest) = grind (arith, nat_tests, found-put key value at rest)
 
 -- below all keys there is no value
-not_below : {X : Type 0} (at low : ℕ) (entries : List (ℕ × X)) → at < low → T (ascends_from low entries) → found at entries ≡ None
+pub not_below : {X : Type 0} (at low : ℕ) (entries : List (ℕ × X)) → at < low → T (ascends_from low entries) → found at entries ≡ None
 not_below at low [] l a = refl
 not_below at low (entry ∷ rest) l a = grind (arith, nat_tests, not_below at (entry.0 + 1) rest)
 
@@ -31,28 +32,18 @@ value-without map key at = found-taken key 0 at map.entries map.ascending
 
 -- ---- equality
 
-unwrapped : {X : Type 0} → X → Option X → X
-unwrapped d None = d
-unwrapped d (Some x) = x
-
-some_is : {X : Type 0} (x y : X) → Some x ≡ Some y → x ≡ y
-unfolding unwrapped
-some_is x y e = ap (unwrapped x) e
-
-some_is_not : {X : Type 0} (x : X) → Some x ≡ None → ⊥
-some_is_not x e = cc
-
--- at its first key a list has its first value, and below its first key none
-first_found : {X : Type 0} (x : ℕ × X) (xs : List (ℕ × X)) → found x.0 (x ∷ xs) ≡ Some x.1
+-- at its first key a list has its first value
+pub first_found : {X : Type 0} (x : ℕ × X) (xs : List (ℕ × X)) → found x.0 (x ∷ xs) ≡ Some x.1
 first_found x xs = grind (arith, nat_tests)
 
 tails_alike : {X : Type 0} (x y : ℕ × X) (xs ys : List (ℕ × X)) → x.0 ≡ y.0 → T (ascends_from (x.0 + 1) xs) → T (ascends_from (y.0 + 1) ys) → (at : ℕ) → found at (x ∷ xs) ≡ found at (y ∷ ys) → found at xs ≡ found at ys
 tails_alike x y xs ys e a b at same = grind (arith, nat_tests, not_below at (x.0 + 1) xs, not_below at (y.0 + 1) ys)
 
 heads_alike : {X : Type 0} (low : ℕ) (x y : ℕ × X) (xs ys : List (ℕ × X)) → T (ascends_from low (x ∷ xs)) → T (ascends_from low (y ∷ ys)) → ((at : ℕ) → found at (x ∷ xs) ≡ found at (y ∷ ys)) → x.0 < y.0 → ⊥
-heads_alike low x y xs ys a b same l = some_is_not x.1 (sym (first_found x xs) ∙ (same x.0 ∙ not_below x.0 y.0 (y ∷ ys) l (grind (arith, nat_tests))))
+heads_alike low x y xs ys a b same l = none-some x.1 (sym (sym (first_found x xs) ∙ (same x.0 ∙ not_below x.0 y.0 (y ∷ ys) l (grind (arith, nat_tests)))))
 
-rest_ascends : {X : Type 0} (low : ℕ) (x : ℕ × X) (xs : List (ℕ × X)) → T (ascends_from low (x ∷ xs)) → T (ascends_from (x.0 + 1) xs)
+-- the entries behind the first ascend from above its key
+pub rest_ascends : {X : Type 0} (low : ℕ) (x : ℕ × X) (xs : List (ℕ × X)) → T (ascends_from low (x ∷ xs)) → T (ascends_from (x.0 + 1) xs)
 rest_ascends low x xs a = grind (arith, nat_tests)
 
 -- a list may begin at its first key, or below it
@@ -64,15 +55,15 @@ raised_to low x xs a to l = grind (arith, nat_tests)
 
 same_entries : {X : Type 0} (low high : ℕ) (xs ys : List (ℕ × X)) → T (ascends_from low xs) → T (ascends_from high ys) → ((at : ℕ) → found at xs ≡ found at ys) → xs ≡ ys
 same_entries low high [] [] a b same = refl
-same_entries low high [] (y ∷ ys) a b same = absurd (some_is_not y.1 (sym (first_found y ys) ∙ sym (same y.0)))
-same_entries low high (x ∷ xs) [] a b same = absurd (some_is_not x.1 (sym (first_found x xs) ∙ same x.0))
+same_entries low high [] (y ∷ ys) a b same = absurd (none-some y.1 (same y.0 ∙ first_found y ys))
+same_entries low high (x ∷ xs) [] a b same = absurd (none-some x.1 (sym (same x.0) ∙ first_found x xs))
 same_entries low high (x ∷ xs) (y ∷ ys) a b same =
     go (same_entries (x.0 + 1) (y.0 + 1) xs ys (rest_ascends low x xs a) (rest_ascends high y ys b)) (cases_order x.0 y.0)
   where
     go : (((at : ℕ) → found at xs ≡ found at ys) → xs ≡ ys) → (x.0 ≡ y.0) ⊎ ((x.0 < y.0) ⊎ (y.0 < x.0)) → x ∷ xs ≡ y ∷ ys
     go rest (inl e) =
         let tails : xs ≡ ys = rest (λ at. tails_alike x y xs ys e (rest_ascends low x xs a) (rest_ascends high y ys b) at (same at)) in
-        let value : x.1 ≡ y.1 = some_is x.1 y.1 (sym (first_found x xs) ∙ (same x.0 ∙ (ap (λ k. found k (y ∷ ys)) e ∙ first_found y ys))) in
+        let value : x.1 ≡ y.1 = same_Some x.1 y.1 (sym (first_found x xs) ∙ (same x.0 ∙ (ap (λ k. found k (y ∷ ys)) e ∙ first_found y ys))) in
         λ i. (e i, value i) ∷ tails i
     go rest (inr (inl l)) = absurd (heads_alike x.0 x y xs ys (raised low x xs a) (raised_to high y ys b x.0 l) same l)
     go rest (inr (inr l)) = absurd (heads_alike y.0 y x ys xs (raised high y ys b) (raised_to low x xs a y.0 l) (λ at. sym (same at)) l)

@@ -1,12 +1,13 @@
 -- Laws of sets of nodes.
-use Rattle.std.proofs.Common.{◌≡◌, ℕ, zero, suc, ◌+◌, ◌/◌, ◌%◌, ◌^◌, ◌<◌, ◌≤◌, ◌≢◌, ◌==◌, Bool, true, false, cond, ◌||◌, List, [], ◌∷◌, length, refl, sym, ap, ◌∙◌, ◌⊎◌, inl, inr, arith, bit_and, count_ones}
+use Rattle.std.proofs.Common.{◌≡◌, ℕ, zero, suc, ◌+◌, ◌/◌, ◌%◌, ◌^◌, ◌<◌, ◌≤◌, ◌≢◌, ◌==◌, Bool, true, false, cond, ◌||◌, List, [], ◌∷◌, length, refl, sym, ap, ◌∙◌, ◌⊎◌, inl, inr, ⊎_elim, arith, bit_and, count_ones}
 use Rattle.std.specs.Int.Count.{ones, ones_step}
 use Rattle.std.specs.Int.{bit_at}
 use Rattle.std.specs.List.{AllByRecursion}
-use Rattle.std.proofs.lemmas.Bool.{eqb-true, eqb-false, eq-eqb, ne_eqb, cases_order}
+use Rattle.std.proofs.lemmas.Bool.{eqb-true, eqb-false, eq-eqb, ne_eqb, cases_order, or_cases, false≢true}
 use Rattle.std.proofs.lemmas.Bool.Decides.{nat_tests}
+use Rattle.std.proofs.lemmas.List.{nil_from_length}
 use Rattle.std.proofs.lemmas.Nat.Bits.{same_from_bits, bit_at-lt, bit_at-zero, bit_at_lowest, bit_at-suc, bit_at_or, bit_at_and, bit_at_xor, bit_at-pow_same, bit_at-pow_other}
-use Rattle.alw_num.specs.NodeSets.{Nodes, no_nodes, has_node, add_node, drop_node, one_node, join_nodes, members, count_nodes, places, front_if}
+use Rattle.alw_num.specs.NodeSets.{Nodes, no_nodes, has_node, add_node, drop_node, one_node, join_nodes, members, count_nodes, places, front_if, AreBelow}
 use Rattle.alw_num.specs.Weights.{digit, weigh, times, sum_below}
 use Rattle.alw_num.proofs.Weigh.{is_node, digit_same, digit_other, digit_le, digit_of_more, true_of_digit, cases_lt_then, sum_same, sum_le, sum_both, sum_ones, sum_at, sum_times}
 
@@ -263,11 +264,7 @@ pub count-members : (P : Nodes) → count_nodes P ≡ length (members P)
 count-members P = refl
 
 pub none_of_count : (P : Nodes) → count_nodes P ≡ 0 → P ≡ no_nodes
-none_of_count P e = none_of_members P (empty (members P) e)
-  where
-    empty : (js : List ℕ) → length js ≡ 0 → js ≡ []
-    empty [] is = refl
-    empty (j ∷ js) is = absurd (omega arith)
+none_of_count P e = none_of_members P (nil_from_length (members P) e)
 
 -- a node more or less
 count_differs : (P Q : Nodes) (n : ℕ) → ((k : ℕ) → k ≢ n → has_node P k ≡ has_node Q k) → count_nodes P + digit (has_node Q n) ≡ count_nodes Q + digit (has_node P n)
@@ -314,3 +311,25 @@ count-join P Q =
 -- a set of nodes below n has no more than n
 pub count_below : (P : Nodes) (n : ℕ) → ((k : ℕ) → n ≤ k → has_node P k ≡ false) → count_nodes P ≤ n
 count_below P n past = omega (arith, count-sum P n past, sum_le n (λ k. digit (has_node P k)) (λ k. 1) (λ k l. digit_le (has_node P k)), sum_ones n)
+
+-- without its least member a set has fewer
+pub count_falls : (rest after : Nodes) (m : ℕ) → members rest ≡ m ∷ members (drop_node rest m) → after ≡ drop_node rest m → count_nodes after < count_nodes rest
+count_falls rest after m least dropped = let count = ap length least in rw dropped (omega arith)
+
+-- ---- sets whose members are below a number
+
+pub none_below : (n : ℕ) → AreBelow n no_nodes
+none_below n k has = absurd (false≢true (sym (has-none k) ∙ has))
+
+pub add_below : (n i : ℕ) (set : Nodes) → i < n → AreBelow n set → AreBelow n (add_node set i)
+add_below n i set l below k has = go (k == i) refl (sym (has-add set i k) ∙ has)
+  where
+    go : (b : Bool) → (k == i) ≡ b → cond b true (has_node set k) ≡ true → k < n
+    go true same is = rw (eqb-true k i same) l
+    go false other is = below k is
+
+pub one_below : (n i : ℕ) → i < n → AreBelow n (one_node i)
+one_below n i l = add_below n i no_nodes l (none_below n)
+
+pub join_below : (n : ℕ) (one other : Nodes) → AreBelow n one → AreBelow n other → AreBelow n (join_nodes one other)
+join_below n one other first second k has = ⊎_elim (first k) (second k) (or_cases (has_node one k) (has_node other k) (sym (has-join one other k) ∙ has))

@@ -2,3 +2,4 @@ pub mod Lanes
 pub mod NodeSets
 pub mod Weights
 pub mod Maps
+pub mod Rooms

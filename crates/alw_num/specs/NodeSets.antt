@@ -1,5 +1,5 @@
 -- A set of nodes is the number whose binary digit n says whether node n is in it, so that two sets with the same members are equal.
-use Rattle.std.specs.Prelude.{ℕ, zero, suc, ◌+◌, ◌*◌, ◌/◌, ◌%◌, ◌^◌, List, [], ◌∷◌, length, Bool, true, false, ◌==◌, bit_and, bit_or, bit_xor, refl}
+use Rattle.std.specs.Prelude.{ℕ, zero, suc, ◌+◌, ◌*◌, ◌/◌, ◌%◌, ◌^◌, ◌≡◌, ◌<◌, List, [], ◌∷◌, length, Bool, true, false, ◌==◌, bit_and, bit_or, bit_xor, refl}
 use Rattle.std.specs.Int.{bit_at}
 use Rattle.std.specs.Coded.{Coded, code_by, coded_ℕ}
 use Rattle.alw_num.specs.declared.node_sets.NodeSet.{NodeSet}
@@ -50,6 +50,10 @@ places (suc most) false at bits = front_if (bits % 2 == 1) at (places most (bits
 -- the members, ascending, each once
 unfoldable pub members : Nodes → List ℕ
 members set = places set.bits (set.bits == 0) 0 set.bits
+
+-- each member is below a number
+abbrev pub AreBelow : ℕ → Nodes → Type 0
+AreBelow n set = (k : ℕ) → has_node set k ≡ true → k < n
 
 -- how many members there are
 abbrev pub count_nodes : Nodes → ℕ

@@ -64,6 +64,15 @@ impl Bytes {
         self.items.push(byte)?;
         Ok(())
     }
+
+    /// Appends bytes.
+    pub fn put(&mut self, bytes: &[u8]) -> Result<(), NoMemory>
+        ensures ok { OnOk result (self.new ≡ self.old ++ bytes.now) }
+        ensures err { OnErr result (self.new ≡ self.old) }
+    {
+        self.items.extend_from_slice(bytes)?;
+        Ok(())
+    }
 }
 
 impl From<Vec<u8>> for Bytes {

@@ -5,6 +5,7 @@ mod addresses;
 mod byte_list;
 mod memory;
 mod node_sets;
+mod roomy;
 mod sequences;
 mod states;
 
@@ -12,6 +13,7 @@ pub use addresses::{Line, LineNo, NodeNo, SHARED_BASE, Width, home_of, lane, lin
 pub use byte_list::Bytes;
 pub use memory::NoMemory;
 pub use node_sets::{MOST_NODES, NodeSet};
+pub use roomy::Roomy;
 pub use sequences::Sequence;
 pub use states::{Meta, Mode, State};
 

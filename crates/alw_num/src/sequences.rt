@@ -33,6 +33,26 @@ impl<T> Sequence<T> {
         }
     }
 
+    // The list of these members.
+    pub(crate) fn of(items: Vec<T>) -> Self
+        requires { length items.items < 2 ^ 32 }
+        ensures { result ≡ items.items }
+    {
+        Sequence { items }
+    }
+
+    /// The list of these members, in memory of its own.
+    pub fn from_slice(alloc: Global, members: &[T]) -> Result<Self, NoMemory>
+    where
+        T: Copy,
+        requires { length members.now < 2 ^ 32 }
+        ensures { IfOk result (λ list. list ≡ members.now) }
+    {
+        let mut items = Vec::with_capacity(alloc, members.len())?;
+        items.extend_from_slice(members)?;
+        Ok(Sequence { items })
+    }
+
     /// The number of members.
     pub fn len(&self) -> u32
         ensures { result ≡ length self.now }
@@ -89,9 +109,7 @@ impl<T> Sequence<T> {
         T: Copy,
         ensures { IfOk result (λ copy. copy ≡ self.now) }
     {
-        let mut items = Vec::with_capacity(*self.items.allocator(), self.items.len())?;
-        items.extend_from_slice(&self.items)?;
-        Ok(Sequence { items })
+        Sequence::from_slice(*self.items.allocator(), &self.items)
     }
 
     /// Takes the last member off. None exactly where the list is empty.

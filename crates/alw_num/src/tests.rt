@@ -92,7 +92,8 @@ fn lists_give_back_what_was_pushed(rt: HostRuntime) -> Result<(), Fail> {
     bytes.push(9)?;
     assert_eq!(rt; bytes.len(), 2);
     assert_eq!(rt; bytes.at(1), 9);
-    assert_eq!(rt; bytes.bytes(), b"\x07\x09".as_slice());
+    bytes.put(b"ab")?;
+    assert_eq!(rt; bytes.bytes(), b"\x07\x09ab".as_slice());
 
     let mut words: Sequence<u32> = Sequence::empty(rt.alloc());
     assert!(rt; words.is_empty());
@@ -103,7 +104,25 @@ fn lists_give_back_what_was_pushed(rt: HostRuntime) -> Result<(), Fail> {
     assert_eq!(rt; *words.at_ref(1), 9);
     assert_eq!(rt; words.words(), words.members());
     let copy = words.copy()?;
+    let again = Sequence::from_slice(rt.alloc(), words.members())?;
+    assert_eq!(rt; again.words(), copy.words());
     assert_eq!(rt; words.pop(), Some(9));
     assert_eq!(rt; copy.words(), [7, 9].as_slice());
+    Ok(())
+}
+
+#[test]
+fn room_comes_before_members(rt: HostRuntime) -> Result<(), Fail> {
+    let mut words: Roomy<u32> = Roomy::empty(rt.alloc());
+    words.reserve(2)?;
+    assert!(rt; words.is_empty());
+    words.push(7);
+    words.push(9);
+    words.reserve(1)?;
+    words.push(11);
+    assert_eq!(rt; words.len(), 3);
+    assert_eq!(rt; words.at(2), 11);
+    assert_eq!(rt; words.members(), [7, 9, 11].as_slice());
+    assert_eq!(rt; words.into_list().words(), [7, 9, 11].as_slice());
     Ok(())
 }

@@ -26,7 +26,8 @@ use Rattle.alw_model.specs.Contexts.{slot_at, running}
 use Rattle.alw_model.specs.Messages.{to_homes, is_fit}
 use Rattle.alw_msg.specs.Events.{node_of}
 use Rattle.alw_model.specs.NodeStates.{NodeState, node_start, home_at, with_home, place_of, may, may_deliver}
-use Rattle.alw_model.specs.NodeSteps.{Stepped, written, opened, take_turn, miss, access, instr_by, instr, at_home, deliver_by, deliver, handle_by, handle_front, event_at, clocked}
+use Rattle.alw_model.specs.ProcessorSteps.{written, opened}
+use Rattle.alw_model.specs.NodeSteps.{Stepped, take_turn, miss, access, instr_by, instr, at_home, deliver_by, deliver, handle_by, handle_front, event_at, clocked}
 use Rattle.alw_model.proofs.Journals.{and_parts}
 use Rattle.alw_lift.specs.Links.{GoBelow}
 use Rattle.alw_lift.proofs.HomeSide.{dests_go}
@@ -34,7 +35,9 @@ use Rattle.alw_lift.proofs.Following.{home_below}
 use Rattle.alw_lift.proofs.Instructions.{kept_is}
 use Rattle.alw_lift.proofs.Leaving.{told_below}
 use Rattle.alw_lift.proofs.Steps.{fit_is}
-use Rattle.alw_order.proofs.Pointers.{PointsBelow, hardware_points, hardware_sends, handler_points, handler_sends, trap_points, no_points}
+use Rattle.alw_limitless.specs.Entries.{PointsBelow}
+use Rattle.alw_limitless.proofs.Pointers.{hardware_points, handler_points, trap_points, no_points}
+use Rattle.alw_order.proofs.Pointers.{hardware_sends, handler_sends}
 
 pub every_set : {X : Type 0} (P : X → Type 0) (xs : List X) (i : ℕ) (x : X) → AllByRecursion P xs → P x → AllByRecursion P (set xs i x)
 every_set P [] i x all is = tt
@@ -104,7 +107,9 @@ module _ (parts : Parts) (parameters : Parameters) where
 
     -- ---- an instruction
 
-    turn_aims : (slot line : ℕ) (mode : Mode) (copy : Copy) (regs : Regs) (outcome : Outcome) (body : Line) → granted_copy parameters.sets node.cache line mode ≡ Some copy → StepAims parts (take_turn node slot (written parameters.sets node.cache copy mode body) regs outcome)
+    turn_aims : (slot line : ℕ) (mode : Mode) (copy : Copy) (regs : Regs) (outcome : Outcome) (body : Line)
+        → granted_copy parameters.sets node.cache line mode ≡ Some copy
+        → StepAims parts (take_turn parts parameters n node slot (written parameters.sets node.cache copy mode body) regs outcome)
     turn_aims slot line Read copy regs outcome body e = record { node = record { homes = aims.homes; cache = aims.cache; packets = aims.packets }; sends = tt }
     turn_aims slot line Write copy regs outcome body e =
         let a = kept_is (λ (c : Copy). grants c.mode Write) (copy_at parameters.sets node.cache line) copy e in
@@ -118,7 +123,7 @@ module _ (parts : Parts) (parameters : Parameters) where
     opened_below slot line mode None lines = (home_below parts line lines, tt)
     opened_below slot line mode (Some transaction) lines = tt
 
-    miss_aims : (slot line : ℕ) (mode : Mode) → line < line_count parts → StepAims parts (miss parts n stamp node slot line mode)
+    miss_aims : (slot line : ℕ) (mode : Mode) → line < line_count parts → StepAims parts (miss parts parameters n stamp node slot line mode)
     miss_aims slot line mode lines = record { node = record { homes = aims.homes; cache = aims.cache; packets = aims.packets }; sends = opened_below slot line mode (value_at node.transactions line) lines }
 
     access_aims : (slot line : ℕ) (mode : Mode) (o : Option Copy) → granted_copy parameters.sets node.cache line mode ≡ o → line < line_count parts → StepAims parts (access parts parameters n stamp node slot line mode o)
@@ -181,7 +186,9 @@ module _ (parts : Parts) (parameters : Parameters) where
 
     -- ---- the handler
 
-    packet_aims : (rest : List Msg) (packet : Msg) (said : Content) → packet.src.0 < node_count parts → AllByRecursion (λ (packet : Msg). packet.src.0 < node_count parts) rest → StepAims parts (handle_by parts n stamp (record node { packets = rest }) packet said)
+    packet_aims : (rest : List Msg) (packet : Msg) (said : Content) → packet.src.0 < node_count parts
+        → AllByRecursion (λ (packet : Msg). packet.src.0 < node_count parts) rest
+        → StepAims parts (handle_by parts parameters n stamp (record node { packets = rest }) packet said)
     packet_aims rest packet (ForCache said) source all = record { node = record { homes = aims.homes; cache = aims.cache; packets = all }; sends = tt }
     packet_aims rest packet (ForMemory said) source all =
         let d = home_at parts node packet.line.0 in
@@ -191,7 +198,8 @@ module _ (parts : Parts) (parameters : Parameters) where
           sends = dests_go (node_count parts) n stamp packet.line.0 (handle d packet.src.0 said).1 (handler_sends (node_count parts) packet.src.0 source d said points);
         }
 
-    queue_aims : (queue : List Msg) → AllByRecursion (λ (packet : Msg). packet.src.0 < node_count parts) queue → StepAims parts (handle_front parts n stamp node queue)
+    queue_aims : (queue : List Msg) → AllByRecursion (λ (packet : Msg). packet.src.0 < node_count parts) queue
+        → StepAims parts (handle_front parts parameters n stamp node queue)
     queue_aims [] all = record { node = aims; sends = tt }
     queue_aims (packet ∷ rest) all = packet_aims rest packet (content packet) all.0 all.1
 

@@ -16,7 +16,8 @@ use Rattle.alw_msg.specs.Statuses.{is_ready, is_halted, waits_on}
 use Rattle.alw_model.specs.Contexts.{Slot, slot_at, no_slot, all_halted, running, turn_order, woken, wake}
 use Rattle.alw_msg.specs.Events.{node_of}
 use Rattle.alw_model.specs.NodeStates.{NodeState, home_at, stamp_of, may}
-use Rattle.alw_model.specs.NodeSteps.{at_home, deliver_by, deliver, handle_by, handle_front, event_at, slots_after}
+use Rattle.alw_model.specs.ProcessorSteps.{slots_after}
+use Rattle.alw_model.specs.NodeSteps.{at_home, deliver_by, deliver, handle_by, handle_front, event_at}
 use Rattle.alw_model.specs.Machine.{MachineState, node_at, no_node, taken_by, is_enabled, has_halted, step, stepped_by}
 use Rattle.alw_model.proofs.Journals.{and_parts, and_is}
 use Rattle.alw_lift.proofs.Steps.{enabled_is}
@@ -89,11 +90,12 @@ module _ (parts : Parts) (parameters : Parameters) (n stamp : ℕ) (node : NodeS
   delivery_halted None = all
   delivery_halted (Some msg) = message_halted msg (content msg)
 
-  packet_halted : (rest : List Msg) (packet : Msg) (said : Content) → IsTrue (all_halted (handle_by parts n stamp (record node { packets = rest }) packet said).node.slots)
+  packet_halted : (rest : List Msg) (packet : Msg) (said : Content)
+      → IsTrue (all_halted (handle_by parts parameters n stamp (record node { packets = rest }) packet said).node.slots)
   packet_halted rest packet (ForCache said) = all
   packet_halted rest packet (ForMemory said) = all
 
-  queue_halted : (queue : List Msg) → IsTrue (all_halted (handle_front parts n stamp node queue).node.slots)
+  queue_halted : (queue : List Msg) → IsTrue (all_halted (handle_front parts parameters n stamp node queue).node.slots)
   queue_halted [] = all
   queue_halted (packet ∷ rest) = packet_halted rest packet (content packet)
 

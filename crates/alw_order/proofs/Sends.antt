@@ -19,7 +19,8 @@ use Rattle.alw_model.specs.Caches.{Copy, Requests, granted_copy, react, evict}
 use Rattle.alw_model.specs.Contexts.{slot_at, running}
 use Rattle.alw_model.specs.Messages.{to_homes, to_caches}
 use Rattle.alw_model.specs.NodeStates.{NodeState, home_at, stamp_of}
-use Rattle.alw_model.specs.NodeSteps.{opened, access, instr_by, instr, at_home, deliver_by, deliver, handle_by, handle_front, event_at, node_step}
+use Rattle.alw_model.specs.ProcessorSteps.{opened}
+use Rattle.alw_model.specs.NodeSteps.{access, instr_by, instr, at_home, deliver_by, deliver, handle_by, handle_front, event_at, node_step}
 
 -- each message sent has this stamp
 abbrev pub BearStamp : ℕ → List (ℕ × Msg) → Type 0
@@ -60,11 +61,12 @@ module _ (parts : Parts) (parameters : Parameters) (n stamp : ℕ) where
     delivery_so None = tt
     delivery_so (Some msg) = message_so msg (content msg)
 
-    packet_so : (rest : List Msg) (packet : Msg) (said : Content) → BearStamp stamp (handle_by parts n stamp (record node { packets = rest }) packet said).sends
+    packet_so : (rest : List Msg) (packet : Msg) (said : Content)
+        → BearStamp stamp (handle_by parts parameters n stamp (record node { packets = rest }) packet said).sends
     packet_so rest packet (ForCache said) = tt
     packet_so rest packet (ForMemory said) = told_so packet.line.0 (handle (home_at parts (record node { packets = rest }) packet.line.0) packet.src.0 said).1
 
-    queue_so : (queue : List Msg) → BearStamp stamp (handle_front parts n stamp node queue).sends
+    queue_so : (queue : List Msg) → BearStamp stamp (handle_front parts parameters n stamp node queue).sends
     queue_so [] = tt
     queue_so (packet ∷ rest) = packet_so rest packet (content packet)
 

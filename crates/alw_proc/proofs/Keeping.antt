@@ -13,7 +13,7 @@ use Rattle.alw_msg.specs.declared.contexts.Status.TheVariants.{Ready, Waiting, H
 use Rattle.alw_model.specs.Caches.{Copy, Cache, Transaction, Transactions}
 use Rattle.alw_msg.specs.Statuses.{is_ready, waits_on}
 use Rattle.alw_model.specs.Contexts.{Slot, no_slot, slot_at, running, turn_order, ran, woken, wake, give_hold}
-use Rattle.alw_model.specs.NodeSteps.{opened, slots_after}
+use Rattle.alw_model.specs.ProcessorSteps.{opened, slots_after}
 use Rattle.alw_proc.specs.Openings.{IsNotOf}
 use Rattle.alw_proc.specs.Processors.{HoldsLine}
 

@@ -12,8 +12,8 @@ use Rattle.alw_cache.specs.Places.{Copies, copy_of}
 use Rattle.alw_ctx.specs.Residents.{NodeContexts}
 use Rattle.alw_model.specs.Caches.{Copy, Cache, Transactions, set_of, invalidate}
 use Rattle.alw_model.specs.Contexts.{Slot, running, ran}
-use Rattle.alw_model.specs.NodeSteps.{opened}
-use Rattle.alw_proc.specs.Processors.{IsProcessor, HoldsLine, processor_of, stored}
+use Rattle.alw_model.specs.ProcessorSteps.{opened}
+use Rattle.alw_proc.specs.Processors.{IsProcessor, HoldsLine, processor_from, stored}
 use Rattle.alw_proc.proofs.Keeping.{Awaits, runs_ready, runs_within, awaits_ran, awaits_opened, holds_with, holds_without}
 
 abbrev Held : ℕ → Cache → Type 0
@@ -24,8 +24,9 @@ Await slots transactions = (line : ℕ) → Awaits slots line (value_at transact
 
 -- with other slots, cache and transactions that stand
 pub stands : (number width height per_node : ℕ) (contexts contexts' : NodeContexts) (cache cache' : Copies) (transactions transactions' : Transactions)
-    → IsProcessor (processor_of number width height per_node contexts cache transactions) → length contexts'.slots ≡ length contexts.slots
-    → Held (width * height * per_node) cache'.copies → Await contexts'.slots transactions' → IsProcessor (processor_of number width height per_node contexts' cache' transactions')
+    → IsProcessor (processor_from number width height per_node contexts cache transactions) → length contexts'.slots ≡ length contexts.slots
+    → Held (width * height * per_node) cache'.copies → Await contexts'.slots transactions'
+    → IsProcessor (processor_from number width height per_node contexts' cache' transactions')
 stands number width height per_node contexts contexts' cache cache' transactions transactions' is size held await = record {
   width = is.width;
   height = is.height;

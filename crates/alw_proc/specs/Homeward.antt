@@ -1,20 +1,14 @@
 -- What a processor side sends: requests to the homes of their lines.
-use Rattle.std.specs.Prelude.{ℕ, []}
-use Rattle.alw_msg.specs.Sending.{Sending}
-use Rattle.alw_image.specs.declared.parts.Parts.{Parts}
+use Rattle.std.specs.Prelude.{ℕ}
+use Rattle.alw_msg.specs.Sending.{Sending, with_messages}
 use Rattle.alw_cache.specs.declared.places.Evicted.{Evicted}
 use Rattle.alw_cache.specs.Places.{copy_of}
 use Rattle.alw_model.specs.Caches.{Copy, Requests}
-use Rattle.alw_model.specs.Messages.{to_homes}
-use Rattle.alw_proc.specs.Processors.{with_messages}
-
--- what a home's number is read from: the lines of each node
-abbrev pub sized : ℕ → Parts
-sized per_node = record { width = 0; height = 0; contexts = 0; per_node = per_node; code = []; bodies = []; starts = []; always = [] }
+use Rattle.alw_model.specs.Messages.{homeward}
 
 -- the sends of an event, which are these requests
 abbrev pub with_requests : ℕ → Sending → Requests → Sending
-with_requests per_node sending requests = with_messages sending (to_homes (sized per_node) sending.src sending.stamp requests)
+with_requests per_node sending requests = with_messages sending (homeward per_node sending.src sending.stamp requests)
 
 -- a copy that has left
 abbrev pub copy_left : Evicted → Copy

@@ -5,7 +5,7 @@ ghost use Rattle.alw_num.specs.declared.states.Mode.{Mode};
 ghost use Rattle.alw_model.specs.declared.steps.Did.TheVariants as dids;
 ghost use Rattle.alw_model.specs.Caches.{granted_copy, replaced};
 ghost use Rattle.alw_model.specs.Contexts.{ran, is_held};
-ghost use Rattle.alw_model.specs.NodeSteps.{opened, status_after, slots_after};
+ghost use Rattle.alw_model.specs.ProcessorSteps.{opened, status_after, slots_after};
 ghost use Rattle.alw_proc.specs.Openings.{IsNotOf};
 ghost use Rattle.alw_proc.specs.Homeward.{with_requests};
 ghost use Rattle.alw_proc.specs.Processors.{told_copy, stored};

@@ -6,13 +6,13 @@ ghost use Rattle.sparc_table.specs.Turns.{need_of};
 ghost use Rattle.sparc_table.specs.declared.outcomes.Need.TheVariants as needs;
 ghost use Rattle.alw_msg.specs.Kinds.{to_memory};
 ghost use Rattle.alw_image.specs.Images.{node_count};
-ghost use Rattle.alw_model.specs.declared.steps.Did.TheVariants as dids;
 ghost use Rattle.alw_model.specs.Caches.{granted_copy};
 ghost use Rattle.alw_model.specs.Contexts.{running, slot_at, is_held};
 ghost use Rattle.alw_msg.specs.Contents.{content};
-ghost use Rattle.alw_model.specs.NodeStates.{may_reach};
-ghost use Rattle.alw_model.specs.NodeSteps.{instr, access, miss, deliver_by, evict_from};
-ghost use Rattle.alw_proc.specs.Processors.{parts_of, parameters_of, state_of, with_state, with_messages, processor_start, lines_of, mode_of, cached_of, IsProcessor, AreBegun};
+ghost use Rattle.alw_model.specs.Sides.{lines_of};
+ghost use Rattle.alw_model.specs.ProcessorSteps.{Steps, instr, access, miss, takes, evict_from};
+ghost use Rattle.alw_model.specs.NodeStates.{node_start, processor_of};
+ghost use Rattle.alw_proc.specs.Processors.{may_take, mode_of, cached_of, IsProcessor, AreBegun};
 
 use crate::changes::{ask, end, granted, replaces_held, store, take_turn};
 use crate::homeward::{Homes, evict, fill, invalidate};
@@ -43,13 +43,14 @@ pub struct Proc {
 }
 
 impl Model for Proc {
-    ghost use Rattle.alw_proc.specs.Processors.{Processor, processor_of, IsProcessor};
+    ghost use Rattle.alw_model.specs.Sides.{Processor};
+    ghost use Rattle.alw_proc.specs.Processors.{processor_from, IsProcessor};
 
     ghost Value = { Processor };
 
-    ghost view = { λ p. processor_of p.number.0 p.width p.height p.per_node p.contexts p.cache p.openings };
+    ghost view = { λ p. processor_from p.number.0 p.width p.height p.per_node p.contexts p.cache p.openings };
 
-    ghost invariant = { λ p. IsProcessor (processor_of p.number.0 p.width p.height p.per_node p.contexts p.cache p.openings) };
+    ghost invariant = { λ p. IsProcessor (processor_from p.number.0 p.width p.height p.per_node p.contexts p.cache p.openings) };
 }
 
 impl Proc {
@@ -61,7 +62,7 @@ impl Proc {
         node: NodeNo,
     ) -> Result<Proc, NoMemory>
         requires { node.0 < node_count image.now }
-        ensures { IfOk result (λ p. p ≡ processor_start image.now params.now node.0) }
+        ensures { IfOk result (λ p. p ≡ processor_of image.now params.now node.0 (node_start image.now node.0)) }
     {
         let _allowed = image.code();
         let cache = Cache::room(alloc, params.sets())?;
@@ -81,9 +82,7 @@ impl Proc {
     /// the words from address 0 on. Where no context is Ready, nothing happens.
     pub fn instr(&mut self, code: &[u32], sent: &mut Sends) -> Did
         requires begun { AreBegun self.old.number sent.old }
-        ensures node { self.new ≡ with_state self.old (instr (parts_of self.old code.now) (parameters_of self.old) self.old.number sent.old.stamp (state_of self.old) (running self.old.slots self.old.current)).node }
-        ensures sends { sent.new ≡ with_messages sent.old (instr (parts_of self.old code.now) (parameters_of self.old) self.old.number sent.old.stamp (state_of self.old) (running self.old.slots self.old.current)).sends }
-        ensures did { result ≡ (instr (parts_of self.old code.now) (parameters_of self.old) self.old.number sent.old.stamp (state_of self.old) (running self.old.slots self.old.current)).did }
+        ensures { Steps self.old self.new sent.old sent.new result (instr code.now sent.old.stamp self.old (running self.old.slots self.old.current)) }
     {
         let Some(slot) = self.contexts.current() else {
             return Did::Took;
@@ -101,12 +100,11 @@ impl Proc {
 
     /// A message to a cache: RDATA and WDATA bring a line, BUSY sends the waiters back to try again,
     /// and INV takes the line away.
-    pub fn cache_msg(&mut self, msg: &Msg, sent: &mut Sends)
+    pub fn cache_msg(&mut self, msg: &Msg, sent: &mut Sends) -> Did
         requires begun { AreBegun self.old.number sent.old }
         requires to_cache { to_memory msg.now.kind ≡ false }
         requires line { msg.now.line.0 < lines_of self.old }
-        ensures node { self.new ≡ with_state self.old (deliver_by (parts_of self.old []) (parameters_of self.old) self.old.number sent.old.stamp (state_of self.old) msg.now (content msg.now)).node }
-        ensures sends { sent.new ≡ with_messages sent.old (deliver_by (parts_of self.old []) (parameters_of self.old) self.old.number sent.old.stamp (state_of self.old) msg.now (content msg.now)).sends }
+        ensures { Steps self.old self.new sent.old sent.new result (takes sent.old.stamp self.old msg.now.line.0 (content msg.now)) }
     {
         let (line, homes) = (msg.line, self.homes());
         match msg.kind {
@@ -122,17 +120,18 @@ impl Proc {
             Kind::INV => invalidate(&mut self.cache, line, self.per_node, sent),
             _ => {}
         }
+        Did::Took
     }
 
     /// An eviction empties a set of the cache. A Read-Write copy goes home.
-    pub fn evict(&mut self, set: u32, sent: &mut Sends)
+    pub fn evict(&mut self, set: u32, sent: &mut Sends) -> Did
         requires begun { AreBegun self.old.number sent.old }
         requires set { set < self.old.sets }
-        ensures node { self.new ≡ with_state self.old (evict_from (parts_of self.old []) self.old.number sent.old.stamp (state_of self.old) set).node }
-        ensures sends { sent.new ≡ with_messages sent.old (evict_from (parts_of self.old []) self.old.number sent.old.stamp (state_of self.old) set).sends }
+        ensures { Steps self.old self.new sent.old sent.new result (evict_from sent.old.stamp self.old set) }
     {
         let homes = self.homes();
         evict(&mut self.cache, set, homes, sent);
+        Did::Evicted
     }
 
     /// The node's number.
@@ -154,7 +153,7 @@ impl Proc {
     /// whose set holds another line that is held.
     pub fn may_take(&self, msg: &Msg) -> bool
         requires { to_memory msg.now.kind ≡ false }
-        ensures { result ≡ may_reach (parts_of self.now []) (parameters_of self.now) (state_of self.now) msg.now.line.0 (content msg.now) }
+        ensures { result ≡ may_take self.now msg.now.line.0 (content msg.now) }
     {
         match msg.kind {
             Kind::INV => !self.contexts.is_held(msg.line),
@@ -245,9 +244,7 @@ impl Proc {
         requires begun { AreBegun self.old.number sent.old }
         requires runs { running self.old.slots self.old.current ≡ Some slot }
         requires needs { need_of code.now (slot_at self.old.slots slot).regs (lines_of self.old) ≡ needs.Copy line mode }
-        ensures node { self.new ≡ with_state self.old (access (parts_of self.old code.now) (parameters_of self.old) self.old.number sent.old.stamp (state_of self.old) slot line.0 mode (granted_copy self.old.sets self.old.cache line.0 mode)).node }
-        ensures sends { sent.new ≡ with_messages sent.old (access (parts_of self.old code.now) (parameters_of self.old) self.old.number sent.old.stamp (state_of self.old) slot line.0 mode (granted_copy self.old.sets self.old.cache line.0 mode)).sends }
-        ensures did { result ≡ (access (parts_of self.old code.now) (parameters_of self.old) self.old.number sent.old.stamp (state_of self.old) slot line.0 mode (granted_copy self.old.sets self.old.cache line.0 mode)).did }
+        ensures { Steps self.old self.new sent.old sent.new result (access code.now sent.old.stamp self.old slot line.0 mode (granted_copy self.old.sets self.old.cache line.0 mode)) }
     {
         let Some((held, value)) = granted(&self.cache, line, mode) else {
             return self.miss(slot, line, mode, sent);
@@ -269,9 +266,7 @@ impl Proc {
         requires begun { AreBegun self.old.number sent.old }
         requires runs { running self.old.slots self.old.current ≡ Some slot }
         requires line { line.0 < lines_of self.old }
-        ensures node { self.new ≡ with_state self.old (miss (parts_of self.old []) self.old.number sent.old.stamp (state_of self.old) slot line.0 mode).node }
-        ensures sends { sent.new ≡ with_messages sent.old (miss (parts_of self.old []) self.old.number sent.old.stamp (state_of self.old) slot line.0 mode).sends }
-        ensures did { result ≡ dids.Missed slot }
+        ensures { Steps self.old self.new sent.old sent.new result (miss sent.old.stamp self.old slot line.0 mode) }
     {
         ask(&mut self.openings, slot, line, mode, self.per_node, sent);
         let regs = self.contexts.regs(slot);

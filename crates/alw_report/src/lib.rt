@@ -1,8 +1,18 @@
-//! The report of a run.
+//! The report of a run, as text.
 #![tactic(auto)]
 
-mod lines;
+mod entries;
+mod head;
+mod lists;
 mod memory;
 mod reports;
+mod values;
+mod worked_runs;
 
+pub use memory::put_line;
 pub use reports::report;
+pub use values::{DirectoryLine, DirectoryLines, Report};
+pub use worked_runs::worked_reports;
+
+#[cfg(test)]
+mod tests;

@@ -1,3 +1,6 @@
-pub mod Solos
 pub mod Needing
+pub mod Solos
 pub mod UnderWay
+pub mod Followed
+pub mod Memory
+pub mod Alone

@@ -2,7 +2,11 @@
 #![tactic(auto)]
 
 mod images;
+mod laws;
+mod reporting;
 mod runs;
 
 pub use images::not_solo;
-pub use runs::{Ended, Run, TrapAt, run_solo};
+pub use laws::told_as_turns;
+pub use reporting::report_run;
+pub use runs::{Run, run_solo};

@@ -6,34 +6,16 @@ ghost use Rattle.sparc_table.specs.declared.outcomes.Outcome.TheVariants as Outc
 ghost use Rattle.sparc_table.specs.Meaning.{IsStill};
 ghost use Rattle.sparc_table.specs.Turns.{turn_of};
 ghost use Rattle.alw_image.specs.Images.{zero_line};
-ghost use Rattle.alw_solo.specs.Solo.{not_solo, memory_at, IsRun};
+ghost use Rattle.alw_model.specs.Headline.{IsCoherentRun, IsScheduled};
+ghost use Rattle.alw_solo.specs.Solo.{not_solo, memory_at};
 
 use alw_image::{Image, Params};
+use alw_model::{Ended, TrapAt};
 use alw_msg::{Entry, Event, Journal, Prints};
 use alw_num::{Line, LineNo, Mode, NoMemory, NodeNo};
 use sparc_exec::{Port, turn};
 use sparc_table::{Outcome, Regs};
 use std::alloc::Global;
-
-/// A turn that trapped: its place in the journal, from 0, its node and slot, its PC and the type of
-/// the trap (SPARC V8 manual, table 7-1).
-#[derive(Clone, Copy, Debug, PartialEq, Eq)]
-pub struct TrapAt {
-    pub entry: u32,
-    pub node: u16,
-    pub slot: u8,
-    pub pc: u32,
-    pub tt: u8,
-}
-
-/// How a run ended: all contexts halted, the first trapping turn, or the first main event that is
-/// enabled but for the limit.
-#[derive(Clone, Copy, Debug, PartialEq, Eq)]
-pub enum Ended {
-    Halted,
-    Trapped(TrapAt),
-    Limit(Event),
-}
 
 /// A run that was made: its journal, the words that it printed, and how it ended.
 #[derive(Debug, Drop)]
@@ -79,7 +61,8 @@ impl Port for AtMostOne {
 /// instruction costs the same however long the run is.
 pub fn run_solo(alloc: Global, image: &Image, params: &Params) -> Result<Run, NoMemory>
     requires { not_solo image.now ≡ None }
-    ensures run { IfOk result (λ r. IsRun image.now params.now r.journal r.ended) }
+    ensures run { IfOk result (λ r. IsCoherentRun image.now params.now r.journal r.ended) }
+    ensures scheduled { IfOk result (λ r. IsScheduled image.now params.now r.journal) }
     ensures prints { IfOk result (λ r. r.prints ≡ prints_of image.now params.now r.journal) }
 {
     let code = image.code().members();

@@ -7,7 +7,7 @@ mod texts;
 
 pub use lines::{Span, line_at};
 pub use numbers::{decimal, digits, hex32};
-pub use texts::Text;
+pub use texts::{Spell, Text};
 
 #[cfg(test)]
 mod tests;

@@ -1,83 +1,30 @@
-ghost use Rattle.std.specs.Prelude.{◌≡◌, ◌<◌, ◌≤◌, ◌↔◌, ◌++◌, [], ◌∷◌, length, drop, slice_index, IsTrue, OnOk, OnErr};
+ghost use Rattle.std.specs.Prelude.{◌≡◌, ◌<◌, ◌≤◌, ◌++◌, drop, OnOk, OnErr};
 ghost use Rattle.std.specs.Fmt.{decimal};
 ghost use Rattle.alw_text.specs.Numbers.{hex_byte, hex_digit, hex_digits, hex_word};
 
-use alw_num::NoMemory;
-use std::alloc::Global;
-use std::marker::Model;
+use alw_num::{Bytes, NoMemory};
 
-/// A text that grows at its end. Contracts see the list of its bytes.
-#[derive(Debug, Drop)]
-pub struct Text {
-    items: Vec<u8>,
-}
+/// A text that grows at its end: a list of bytes.
+pub type Text = Bytes;
 
-impl Model for Text {
-    ghost use Rattle.std.specs.Prelude.{List, ℕ};
-
-    ghost Value = { List ℕ };
-
-    ghost view = { λ t. t.items.items };
-}
-
-impl Text {
-    /// The empty text, which takes no memory.
-    pub fn empty(alloc: Global) -> Self
-        ensures { result ≡ [] }
-    {
-        Text {
-            items: Vec::new(alloc),
-        }
-    }
-
-    /// The number of bytes.
-    pub fn len(&self) -> usize
-        ensures { result ≡ length self.now }
-    {
-        self.items.len()
-    }
-
-    pub fn is_empty(&self) -> bool
-        ensures { IsTrue result ↔ (self.now ≡ []) }
-    {
-        self.items.is_empty()
-    }
-
-    /// Byte i.
-    pub fn at(&self, i: usize) -> u8
-        requires { i < length self.now }
-        ensures { result ≡ slice_index self.now i }
-    {
-        self.items[i]
-    }
-
-    /// The whole text.
-    pub fn bytes(&self) -> &[u8]
-        ensures { result.now ≡ self.now }
-    {
-        &self.items
-    }
-
-    /// Appends one byte.
-    pub fn push(&mut self, byte: u8) -> Result<(), NoMemory>
-        ensures ok { OnOk result (self.new ≡ self.old ++ byte ∷ []) }
-        ensures err { OnErr result (self.new ≡ self.old) }
-    {
-        self.items.push(byte)?;
-        Ok(())
-    }
-
-    /// Appends bytes.
-    pub fn put(&mut self, bytes: &[u8]) -> Result<(), NoMemory>
-        ensures ok { OnOk result (self.new ≡ self.old ++ bytes.now) }
-        ensures err { OnErr result (self.new ≡ self.old) }
-    {
-        self.items.extend_from_slice(bytes)?;
-        Ok(())
-    }
-
+/// Puts numbers at the end of a text, each in its one spelling. Where memory is refused the text
+/// stays as it is.
+pub trait Spell {
     /// Appends a number in decimal, without leading zeros.
-    pub fn put_decimal(&mut self, n: u64) -> Result<(), NoMemory>
+    fn put_decimal(&mut self, n: u64) -> Result<(), NoMemory>;
+
+    /// Appends a word as `0x` and eight lower-case hexadecimal digits.
+    fn put_hex32(&mut self, n: u32) -> Result<(), NoMemory>;
+
+    /// Appends a word as eight lower-case hexadecimal digits.
+    fn put_hex_digits(&mut self, n: u32) -> Result<(), NoMemory>;
+
+    /// Appends a byte as `0x` and two lower-case hexadecimal digits.
+    fn put_hex8(&mut self, n: u8) -> Result<(), NoMemory>;
+}
+
+impl Spell for Bytes {
+    fn put_decimal(&mut self, n: u64) -> Result<(), NoMemory>
         ensures ok { OnOk result (self.new ≡ self.old ++ decimal n) }
         ensures err { OnErr result (self.new ≡ self.old) }
     {
@@ -87,8 +34,7 @@ impl Text {
         self.put(spelled)
     }
 
-    /// Appends a word as `0x` and eight lower-case hexadecimal digits.
-    pub fn put_hex32(&mut self, n: u32) -> Result<(), NoMemory>
+    fn put_hex32(&mut self, n: u32) -> Result<(), NoMemory>
         ensures ok { OnOk result (self.new ≡ self.old ++ hex_word n) }
         ensures err { OnErr result (self.new ≡ self.old) }
     {
@@ -96,16 +42,14 @@ impl Text {
         self.put(&[b'0', b'x', a, b, c, d, e, f, g, h])
     }
 
-    /// Appends a word as eight lower-case hexadecimal digits.
-    pub fn put_hex_digits(&mut self, n: u32) -> Result<(), NoMemory>
+    fn put_hex_digits(&mut self, n: u32) -> Result<(), NoMemory>
         ensures ok { OnOk result (self.new ≡ self.old ++ hex_digits n) }
         ensures err { OnErr result (self.new ≡ self.old) }
     {
         self.put(&hex_of(n))
     }
 
-    /// Appends a byte as `0x` and two lower-case hexadecimal digits.
-    pub fn put_hex8(&mut self, n: u8) -> Result<(), NoMemory>
+    fn put_hex8(&mut self, n: u8) -> Result<(), NoMemory>
         ensures ok { OnOk result (self.new ≡ self.old ++ hex_byte n) }
         ensures err { OnErr result (self.new ≡ self.old) }
     {

@@ -8,12 +8,14 @@ use Rattle.alw_num.specs.Maps.{Map, value_at, with_value, without_value}
 use Rattle.alw_model.specs.declared.steps.Keeping.{Keeping}
 use Rattle.alw_model.specs.declared.steps.Keeping.TheVariants.{Joined, Alone, Emptied, Kept}
 use Rattle.alw_model.specs.LimitLess.{kept, or_always}
-use Rattle.alw_msg.specs.Contents.{Content}
-use Rattle.dir_full.specs.Reactions.{reaction, keeping_of}
+use Rattle.alw_msg.specs.declared.messages.Msg.{Msg}
+use Rattle.alw_msg.specs.Contents.{content}
+use Rattle.alw_msg.specs.Sending.{Sending}
+use Rattle.dir_full.specs.Reactions.{reaction, keeping_of, with_sends}
 use Rattle.dir_hw.specs.declared.entries.HomeEntry.{HomeEntry}
 use Rattle.dir_soft.specs.Tables.{Table, set_or_none, set_of_line}
 use Rattle.alw_home.specs.Entries.{directory_of, home_of, with_home}
-use Rattle.alw_trap.specs.Handling.{handler_on, table_after}
+use Rattle.alw_trap.specs.Handling.{Handles, table_after}
 
 put_there : (m : Map Nodes) (line : ℕ) (nodes : Nodes) → set_or_none (value_at (with_value m line nodes) line) ≡ nodes
 put_there m line nodes =
@@ -33,15 +35,19 @@ set_after t line i hardware Alone = taken_out t.sets line
 set_after t line i hardware Emptied = taken_out t.sets line
 set_after t line i hardware Kept = refl
 
--- the parts, as the functions give them, are the handler's entry
-pub settled : (e mid last : HomeEntry) (before after : Table) (P : Nodes) (always : Bool) (line i : ℕ) (said : Content) (keeping : Keeping) (meta listed : Meta)
-    → P ≡ join_nodes e.pointers (set_of_line before line)
-    → mid ≡ with_home e (reaction (home_of e P) i said).0
-    → keeping ≡ keeping_of (home_of e P) i said
-    → last ≡ record mid { pointers = (kept mid.pointers (set_of_line before line) i keeping).0 }
-    → after ≡ table_after before line (kept mid.pointers (set_of_line before line) i keeping).1 keeping
-    → meta ≡ (kept mid.pointers (set_of_line before line) i keeping).2
+-- the parts, as the functions give them, are the handler's
+pub settled : (e mid last : HomeEntry) (before after : Table) (P : Nodes) (always : Bool) (sent sent' : Sending) (packet : Msg) (keeping : Keeping)
+    (meta listed : Meta)
+    → P ≡ join_nodes e.pointers (set_of_line before packet.line.0)
+    → mid ≡ with_home e (reaction (home_of e P) packet.src.0 (content packet)).0
+    → sent' ≡ with_sends sent packet.line.0 (reaction (home_of e P) packet.src.0 (content packet)).1
+    → keeping ≡ keeping_of (home_of e P) packet.src.0 (content packet)
+    → last ≡ record mid { pointers = (kept mid.pointers (set_of_line before packet.line.0) packet.src.0 keeping).0 }
+    → after ≡ table_after before packet.line.0 (kept mid.pointers (set_of_line before packet.line.0) packet.src.0 keeping).1 keeping
+    → meta ≡ (kept mid.pointers (set_of_line before packet.line.0) packet.src.0 keeping).2
     → listed ≡ or_always always meta
-    → directory_of (record last { meta = listed }) (set_of_line after line) always ≡ (handler_on (directory_of e (set_of_line before line) always) i said).0
-settled e mid last before after P always line i said keeping meta listed p_is mid_is keeping_is last_is after_is meta_is listed_is =
-    rw (listed_is, meta_is, last_is, after_is, set_after before line i mid.pointers keeping, keeping_is, mid_is, p_is) refl
+    → Handles (directory_of e (set_of_line before packet.line.0) always) (directory_of (record last { meta = listed }) (set_of_line after packet.line.0) always)
+    before after sent sent' packet
+settled e mid last before after P always sent sent' packet keeping meta listed p_is mid_is sent_is keeping_is last_is after_is meta_is listed_is =
+    rw (listed_is, meta_is, last_is, after_is, set_after before packet.line.0 packet.src.0 mid.pointers keeping, sent_is, keeping_is, mid_is, p_is)
+    (record { entry = refl; soft = refl; sends = refl })

@@ -2,12 +2,11 @@ ghost use Rattle.std.specs.Prelude.{◌≡◌, ◌<◌, None, IsTrue};
 ghost use Rattle.alw_num.specs.NodeSets.{nodes_of, add_node, join_nodes};
 ghost use Rattle.alw_msg.specs.Kinds.{to_memory};
 ghost use Rattle.alw_num.specs.Maps.{value_at, with_value};
-ghost use Rattle.alw_model.specs.LimitLess.{full_map_of, kept, or_always};
-ghost use Rattle.alw_msg.specs.Contents.{content};
-ghost use Rattle.dir_full.specs.Reactions.{keeping_of, with_sends, HasRoom};
+ghost use Rattle.alw_model.specs.LimitLess.{kept, or_always};
+ghost use Rattle.dir_full.specs.Reactions.{HasRoom};
 ghost use Rattle.dir_soft.specs.Tables.{set_of_line, used_lines};
 ghost use Rattle.alw_home.specs.Entries.{directory_of};
-ghost use Rattle.alw_trap.specs.Handling.{handler_on, table_after};
+ghost use Rattle.alw_trap.specs.Handling.{Handles, table_after};
 
 use alw_home::react;
 use alw_model::Keeping;
@@ -31,12 +30,8 @@ pub fn handle(
     requires node { packet.now.src.0 < MOST_NODES }
     requires free { value_at soft.old.sets packet.now.line.0 ≡ None → used_lines soft.old < soft.old.lines }
     requires room { HasRoom (join_nodes entry.old.pointers (set_of_line soft.old packet.now.line.0)) packet.now.src.0 sent.old }
-    ensures entry { directory_of entry.new (set_of_line soft.new packet.now.line.0) always
-        ≡ (handler_on (directory_of entry.old (set_of_line soft.old packet.now.line.0) always) packet.now.src.0 (content packet.now)).0 }
-    ensures table { let d = directory_of entry.old (set_of_line soft.old packet.now.line.0) always in
-        soft.new ≡ table_after soft.old packet.now.line.0 (handler_on d packet.now.src.0 (content packet.now)).0.software (keeping_of (full_map_of d) packet.now.src.0 (content packet.now)) }
-    ensures sends { sent.new ≡ with_sends sent.old packet.now.line.0
-        (handler_on (directory_of entry.old (set_of_line soft.old packet.now.line.0) always) packet.now.src.0 (content packet.now)).1 }
+    ensures { Handles (directory_of entry.old (set_of_line soft.old packet.now.line.0) always) (directory_of entry.new (set_of_line soft.new packet.now.line.0) always)
+        soft.old soft.new sent.old sent.new packet.now }
 {
     let pointers = entry.pointers().union(soft.set(packet.line));
     let keeping = react(entry, pointers, packet, sent);

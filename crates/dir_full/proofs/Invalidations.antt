@@ -35,9 +35,6 @@ goes_on before now next line body all rest after m way least sent dropped =
 pub has_place : (before now : Sending) (line : LineNo) (all rest : Nodes) (m : ℕ) → IsUnderWay before now line all rest → members rest ≡ m ∷ members (drop_node rest m) → length now.messages < now.room
 has_place before now line all rest m way least = let count = ap length least in omega (arith, way.room)
 
-pub falls : (rest after : Nodes) (m : ℕ) → members rest ≡ m ∷ members (drop_node rest m) → after ≡ drop_node rest m → count_nodes after < count_nodes rest
-falls rest after m least dropped = let count = ap length least in rw dropped (omega arith)
-
 pub ends : (before now : Sending) (line : LineNo) (all rest : Nodes) → IsUnderWay before now line all rest → members rest ≡ [] → now ≡ with_sends before line.0 (invs (members all))
 unfolding sent_after
 ends before now line all rest way none = ap (sent_after now) (sym (append-nil now.messages)) ∙ ap (λ (js : List ℕ). with_sends now line.0 (invs js)) (sym none) ∙ way.whole

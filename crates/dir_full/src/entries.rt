@@ -3,8 +3,7 @@ ghost use Rattle.alw_num.specs.NodeSets.{nodes_of, drop_node};
 ghost use Rattle.alw_msg.specs.Kinds.{to_memory};
 ghost use Rattle.alw_model.specs.FullMap.{home_start, write_shared, recall, give_back, others, sole, acknowledge};
 ghost use Rattle.alw_model.specs.LimitLess.{keeping_request, keeping_return};
-ghost use Rattle.alw_msg.specs.Contents.{content};
-ghost use Rattle.dir_full.specs.Reactions.{reaction, keeping_of, ended, with_sends, HasRoom};
+ghost use Rattle.dir_full.specs.Reactions.{Acts, HasRoom, ended, with_sends};
 
 use crate::sets::{invalidate, sole_member};
 use alw_model::Keeping;
@@ -91,9 +90,7 @@ impl FullMap {
         requires to_memory { IsTrue (to_memory msg.now.kind) }
         requires node { msg.now.src.0 < MOST_NODES }
         requires room { HasRoom self.old.pointers msg.now.src.0 sent.old }
-        ensures entry { self.new ≡ (reaction self.old msg.now.src.0 (content msg.now)).0 }
-        ensures sends { sent.new ≡ with_sends sent.old msg.now.line.0 (reaction self.old msg.now.src.0 (content msg.now)).1 }
-        ensures keeping { result ≡ keeping_of self.old msg.now.src.0 (content msg.now) }
+        ensures { Acts self.old self.new sent.old sent.new result msg.now }
     {
         match (self.state, msg.kind) {
             (State::RO, Kind::RREQ) => {

@@ -2,21 +2,14 @@
 use Rattle.std.proofs.Common.{◌≡◌, ℕ, zero, suc, ◌+◌, ◌<◌, ◌≤◌, Bool, true, false, cond, ◌==◌, Option, Some, None, List, [], ◌∷◌, length, get_or, slice_get, slice_set, refl, sym, ap, ◌∙◌, arith}
 use Rattle.std.proofs.lemmas.Bool.Decides.{nat_tests}
 use Rattle.std.proofs.lemmas.Bool.{eqb-true}
+use Rattle.std.proofs.lemmas.Option.{same_Some}
 use Rattle.alw_num.specs.NodeSets.{Nodes}
 use Rattle.alw_num.specs.Maps.{value_at, with_value, without_value}
 use Rattle.alw_num.proofs.MapLaws.{value-empty, value-with, value-without, same_maps}
 use Rattle.dir_soft.specs.declared.places.Place.{Place}
 use Rattle.dir_soft.specs.Chains.{line_at, with_next}
 use Rattle.dir_soft.specs.Pools.{Entry, entry_of, contents, is_free, map_of, first_of, IsSingle, chain_of, chain_at}
-use Rattle.dir_soft.proofs.MapLengths.{length-empty, length-with_new}
-
-unwrapped : {X : Type 0} → X → Option X → X
-unwrapped d None = d
-unwrapped d (Some x) = x
-
-some_is : {X : Type 0} (x y : X) → Some x ≡ Some y → x ≡ y
-unfolding unwrapped
-some_is x y e = ap (unwrapped x) e
+use Rattle.alw_num.proofs.MapLengths.{length-empty, length-with_new}
 
 -- the map has what the first place of a line has
 pub value-map_of : (pool : List Entry) (line : ℕ) → value_at (map_of pool) line ≡ first_of pool line
@@ -149,7 +142,7 @@ chain-set buckets (entry ∷ rest) (suc k) p (suc j) l = grind (arith, nat_tests
 
 pub chain-get : (buckets : ℕ) (pool : List Entry) (k : ℕ) (e : Entry) → slice_get pool k ≡ Some e → chain_at buckets pool k ≡ chain_of buckets e
 chain-get buckets [] k e at = absurd (cc)
-chain-get buckets (entry ∷ rest) zero e at = ap (chain_of buckets) (some_is entry e at)
+chain-get buckets (entry ∷ rest) zero e at = ap (chain_of buckets) (same_Some entry e at)
 chain-get buckets (entry ∷ rest) (suc k) e at = chain-get buckets rest k e at
 
 pub chain-beyond : (buckets : ℕ) (pool : List Entry) (k : ℕ) → length pool ≤ k → chain_at buckets pool k ≡ buckets + 1
@@ -180,7 +173,7 @@ contents-get (place ∷ rest) (suc k) seen l e = contents-get rest k seen (omega
 
 pub line-contents : (places : List Place) (k : ℕ) (e : Entry) → slice_get (contents places) k ≡ Some e → line_at places k ≡ e.line
 line-contents [] k e at = absurd (cc)
-line-contents (place ∷ rest) zero e at = ap (λ (x : Entry). x.line) (some_is (entry_of place) e at)
+line-contents (place ∷ rest) zero e at = ap (λ (x : Entry). x.line) (same_Some (entry_of place) e at)
 line-contents (place ∷ rest) (suc k) e at = line-contents rest k e at
 
 pub within-get : {X : Type 0} (xs : List X) (k : ℕ) (x : X) → slice_get xs k ≡ Some x → k < length xs

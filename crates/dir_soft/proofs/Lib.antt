@@ -1,4 +1,3 @@
-pub mod MapLengths
 pub mod Walks
 pub mod Links
 pub mod Entries

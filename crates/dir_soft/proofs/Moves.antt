@@ -14,7 +14,7 @@ use Rattle.dir_soft.specs.declared.places.Spot.{Spot}
 use Rattle.dir_soft.specs.Tables.{set_or_none}
 use Rattle.dir_soft.specs.Chains.{next_at, head_at, unlinked, IsPath, IsLinked, IsSpot, IsBefore, IsBeforeWithin}
 use Rattle.dir_soft.specs.Pools.{Entry, entry_of, contents, is_free, map_of, first_of, IsSingle, IsTable, chain_of, chain_at}
-use Rattle.dir_soft.proofs.MapLengths.{length-with_new, length-without}
+use Rattle.alw_num.proofs.MapLengths.{length-with_new, length-without}
 use Rattle.dir_soft.proofs.Links.{next-set, head-set, length-with_next, put, linked, unlinked_at, on_path}
 use Rattle.dir_soft.proofs.Pools.{IsLines, relinked, some_free, bucket-lt}
 use Rattle.dir_soft.proofs.Walks.{IsFront, head-read}

@@ -1,7 +1,7 @@
 -- A table's pool and chains: what a look-up finds, and what a change makes of them.
 use Rattle.std.proofs.Common.{◌≡◌, ℕ, ◌+◌, ◌%◌, ◌<◌, ◌≤◌, Bool, true, false, cond, ◌==◌, Option, Some, None, List, ◌∷◌, length, get_or, slice_get, slice_set, refl, sym, ap, ◌∙◌, subst, arith}
 use Rattle.std.proofs.Math.Nat.{mod-lt}
-use Rattle.std.proofs.lemmas.Bool.{true≢false, ne_eqb, eq-eqb, eqb-true}
+use Rattle.std.proofs.lemmas.Bool.{true≢false, ne_eqb, eq-eqb, eqb-true, eqb-false}
 use Rattle.std.proofs.lemmas.List.{length-set}
 use Rattle.alw_num.specs.NodeSets.{Nodes, no_nodes, nodes_of, count_nodes, add_node, has_node}
 use Rattle.alw_num.specs.declared.node_sets.NodeSet.{NodeSet}
@@ -14,7 +14,7 @@ use Rattle.dir_soft.specs.declared.places.Spot.{Spot}
 use Rattle.dir_soft.specs.Tables.{Table, set_or_none, table_of, set_of_line, used_lines}
 use Rattle.dir_soft.specs.Chains.{next_at, line_at, head_at, IsPath, IsChain, IsLinked, IsMissing, IsSpot}
 use Rattle.dir_soft.specs.Pools.{Entry, entry_of, contents, is_free, map_of, first_of, IsSingle, IsTable, chain_of, chain_at}
-use Rattle.dir_soft.proofs.MapLengths.{length-with_same}
+use Rattle.alw_num.proofs.MapLengths.{length-with_same}
 use Rattle.dir_soft.proofs.Walks.{head-read}
 use Rattle.dir_soft.proofs.Links.{next-set, kept}
 use Rattle.dir_soft.proofs.Entries
@@ -154,13 +154,25 @@ joins lines buckets used heads places is line node spot seen nodes at grown read
 
 -- ---- what the readers answer
 
+-- a place in use has a member
+pub has_member : (place : Place) → is_free (entry_of place) ≡ false → 1 ≤ count_nodes (nodes_of place.nodes)
+has_member place used_place = let some = eqb-false (count_nodes (nodes_of place.nodes)) 0 used_place in omega arith
+
+-- ... and its set is the line's
+pub value_seen : (lines buckets used : ℕ) (heads : List ℕ) (places : List Place) (is : IsTable lines buckets used heads places) (line : ℕ) (spot : Spot) (seen : Place)
+    → IsLines lines buckets used heads places is line spot seen → Some (nodes_of seen.nodes) ≡ value_at (map_of (contents places)) line
+value_seen lines buckets used heads places is line spot seen at =
+    sym (ap (value_at (map_of (contents places))) (sym at.same) ∙ Entries.set_at (contents places) spot.at (entry_of seen) is.pool.single at.here at.used_place)
+
+pub value_missing : (places : List Place) (line : ℕ) → first_of (contents places) line ≡ None → None ≡ value_at (map_of (contents places)) line
+value_missing places line none = sym (Entries.none_at (contents places) line none)
+
 pub set_seen : (lines buckets used : ℕ) (heads : List ℕ) (places : List Place) (is : IsTable lines buckets used heads places) (line : ℕ) (spot : Spot) (seen : Place) → IsLines lines buckets used heads places is line spot seen
     → nodes_of seen.nodes ≡ set_or_none (value_at (map_of (contents places)) line)
-set_seen lines buckets used heads places is line spot seen at =
-    ap set_or_none (sym (ap (value_at (map_of (contents places))) (sym at.same) ∙ Entries.set_at (contents places) spot.at (entry_of seen) is.pool.single at.here at.used_place))
+set_seen lines buckets used heads places is line spot seen at = ap set_or_none (value_seen lines buckets used heads places is line spot seen at)
 
 pub set_missing : (places : List Place) (line : ℕ) (empty : Nodes) → first_of (contents places) line ≡ None → empty ≡ no_nodes → empty ≡ set_or_none (value_at (map_of (contents places)) line)
-set_missing places line empty none nobody = nobody ∙ ap set_or_none (sym (Entries.none_at (contents places) line none))
+set_missing places line empty none nobody = nobody ∙ ap set_or_none (value_missing places line none)
 
 -- two tables with the same map
 pub same_table : (lines buckets : ℕ) (one other : Map Nodes) → one ≡ other → table_of lines buckets one ≡ table_of lines buckets other

@@ -12,7 +12,7 @@ use Rattle.dir_soft.specs.declared.places.Place.{Place}
 use Rattle.dir_soft.specs.declared.places.TheConstants.{END}
 use Rattle.dir_soft.specs.Chains.{next_at, head_at, IsPath}
 use Rattle.dir_soft.specs.Pools.{Entry, entry_of, contents, is_free, map_of, first_of, IsSingle, IsTable, chain_at}
-use Rattle.dir_soft.proofs.MapLengths.{length-empty}
+use Rattle.alw_num.proofs.MapLengths.{length-empty}
 use Rattle.dir_soft.proofs.Entries.{length-contents}
 use Rattle.dir_soft.proofs.Links.{head-set}
 

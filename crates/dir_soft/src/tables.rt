@@ -1,4 +1,4 @@
-ghost use Rattle.std.specs.Prelude.{◌≡◌, ◌<◌, ◌≤◌, ◌-◌, ◌^◌, None, IfOk, length};
+ghost use Rattle.std.specs.Prelude.{◌≡◌, ◌<◌, ◌≤◌, ◌-◌, ◌^◌, ◌↔◌, None, IfOk, IfSome, option_map, length};
 ghost use Rattle.alw_num.specs.NodeSets.{nodes_of, has_node, add_node, count_nodes};
 ghost use Rattle.alw_num.specs.Maps.{empty_map, value_at, with_value, without_value};
 ghost use Rattle.dir_soft.specs.Tables.{set_of_line, used_lines};
@@ -91,13 +91,24 @@ impl SoftDir {
         }
     }
 
+    // The set of a line, which has a member. None exactly where the line has none.
+    fn lookup(&self, line: LineNo) -> Option<NodeSet>
+        ensures set { option_map nodes_of result ≡ value_at self.now.sets line.0 }
+        ensures nonempty { IfSome result (λ nodes. 1 ≤ count_nodes (nodes_of nodes)) }
+    {
+        let bucket = (line.0 % self.buckets) as usize;
+        match find(&self.places, self.heads[bucket], line.0) {
+            Some(spot) => Some(self.places[spot.at as usize].nodes),
+            None => None,
+        }
+    }
+
     /// The set of a line: empty where it has none.
     pub fn set(&self, line: LineNo) -> NodeSet
         ensures { nodes_of result ≡ set_of_line self.now line.0 }
     {
-        let bucket = (line.0 % self.buckets) as usize;
-        match find(&self.places, self.heads[bucket], line.0) {
-            Some(spot) => self.places[spot.at as usize].nodes,
+        match self.lookup(line) {
+            Some(nodes) => nodes,
             None => NodeSet::empty(),
         }
     }
@@ -110,11 +121,16 @@ impl SoftDir {
         self.set(line).has(node)
     }
 
-    /// The number of nodes in the set of a line.
+    /// The number of nodes in the set of a line: 0 exactly where it has none, so that each set in the
+    /// table has a member.
     pub fn size(&self, line: LineNo) -> u32
-        ensures { result ≡ count_nodes (set_of_line self.now line.0) }
+        ensures size { result ≡ count_nodes (set_of_line self.now line.0) }
+        ensures none { (result ≡ 0) ↔ (value_at self.now.sets line.0 ≡ None) }
     {
-        self.set(line).count()
+        match self.lookup(line) {
+            Some(nodes) => nodes.count(),
+            None => 0,
+        }
     }
 
     /// Takes the set of a line out of the table. A line without a set leaves all as it is.

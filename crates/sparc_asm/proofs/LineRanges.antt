@@ -27,7 +27,7 @@ use Rattle.sparc_asm.specs.declared.faults.AsmErr.{AsmErr}
 use Rattle.sparc_asm.specs.Lexemes.{banked, short_register, long_register, two_characters, percented, literal, marked, worded, lexeme_of, lexeme_before, lexemes_of}
 use Rattle.sparc_asm.specs.Mnemonics.{mnemonics, directives, row_of, form_of, directive_of}
 use Rattle.sparc_asm.specs.Expressions.{term_of, expression_of, before_last, is_close, in_parens, operand_of, register_of, address_at, less, offset_of, address_of, address_in, in_brackets}
-use Rattle.sparc_asm.specs.Statements.{◌>>=◌, is_comma, at_comma, values_of, nothing, three_operands, constant, load_of, store_of, annulled, trap_address, read_y_of, is_y, write_y_of, jmpl_of, sethi_of, sethi_to, compare_of, move_of, set_of, mesh_of, equ_of, start_of, statement_of, named, perhaps_statement, line_with, line_of}
+use Rattle.sparc_asm.specs.Statements.{◌>>=◌, is_comma, at_comma, values_of, nothing, three_operands, constant, load_of, store_of, annulled, trap_address, read_y_of, is_y, write_y_of, jmpl_of, sethi_of, sethi_to, compare_of, move_of, set_of, mesh_of, equ_of, start_of, statement_of, named, perhaps_statement, line_with, spelled_line}
 use Rattle.sparc_asm.specs.Sources.{read_line, line_before, read_from, read_source}
 use Rattle.sparc_asm.specs.Ranges.{SourceFits, AddressFits, StatementFits, FitsIn, LineFits, EachFits}
 
@@ -349,7 +349,7 @@ perhaps_fits (lexeme.Name name ∷ rest) all = named_fits (form_of name) rest (m
 perhaps_fits (lexeme.Directive name ∷ rest) all = named_fits (directive_of name) rest (directive_fits name) all.1
 perhaps_fits _ all = tt
 
-line_fits : (xs : List Lexeme) → AllFit xs → Holds LineFits (line_of xs)
+line_fits : (xs : List Lexeme) → AllFit xs → Holds LineFits (spelled_line xs)
 line_fits (lexeme.Name name ∷ lexeme.Colon ∷ rest) all = mapped FitsIn LineFits (perhaps_statement rest) (line_with (Some name)) (perhaps_fits rest all.1.1) (λ s p. p)
 line_fits xs all = mapped FitsIn LineFits (perhaps_statement xs) (line_with None) (perhaps_fits xs all) (λ s p. p)
 
@@ -357,7 +357,7 @@ read_fits : (text : List ℕ) (number at : ℕ) (bytes : List ℕ) → Holds Lin
 unfolding read_line
 read_fits text number at bytes =
     bound (λ t. Unit {0}) LineFits (line_tokens number at bytes) _ (anything (line_tokens number at bytes)) (λ tokens u.
-    bound AllFit LineFits (lexemes_of text tokens) line_of (lexemes_fit text tokens) (λ xs all. line_fits xs all))
+    bound AllFit LineFits (lexemes_of text tokens) spelled_line (lexemes_fit text tokens) (λ xs all. line_fits xs all))
 
 abbrev LinesFit : Result (List Line) AsmErr → Type 0
 LinesFit (Err e) = Unit {0}

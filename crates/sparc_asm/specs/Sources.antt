@@ -3,14 +3,14 @@ use Rattle.std.specs.Prelude.{◌≡◌, ℕ, ◌+◌, List, [], ◌∷◌, leng
 use Rattle.alw_text.specs.Lines.{lines_of}
 use Rattle.sparc_lex.specs.Cut.{line_tokens}
 use Rattle.sparc_asm.specs.Lexemes.{lexemes_of}
-use Rattle.sparc_asm.specs.Statements.{◌>>=◌, line_of}
+use Rattle.sparc_asm.specs.Statements.{◌>>=◌, spelled_line}
 use Rattle.sparc_asm.specs.declared.statements.Line.{Line}
 use Rattle.sparc_asm.specs.declared.faults.AsmErr.{AsmErr}
 use Rattle.sparc_asm.specs.declared.faults.AsmErr.TheVariants.{Syntax, NoMemory}
 
 -- a line with a number that stands at a place of the source: None where it can't be cut or has no form
 unfoldable pub read_line : List ℕ → ℕ → ℕ → List ℕ → Option Line
-read_line source number at bytes = line_tokens number at bytes >>= (λ tokens. lexemes_of source tokens >>= line_of)
+read_line source number at bytes = line_tokens number at bytes >>= (λ tokens. lexemes_of source tokens >>= spelled_line)
 
 -- a line before those behind it, or Syntax at it
 abbrev pub line_before : ℕ → Option Line → Result (List Line) AsmErr → Result (List Line) AsmErr

@@ -267,6 +267,6 @@ abbrev pub line_with : Option (List ℕ) → Option Statement → Line
 line_with label statement = record { label = label; statement = statement }
 
 -- a line: a label with its colon or none, and a statement or none
-abbrev pub line_of : List Lexeme → Option Line
-line_of (lexeme.Name name ∷ lexeme.Colon ∷ rest) = option_map (line_with (Some name)) (perhaps_statement rest)
-line_of lexemes = option_map (line_with None) (perhaps_statement lexemes)
+abbrev pub spelled_line : List Lexeme → Option Line
+spelled_line (lexeme.Name name ∷ lexeme.Colon ∷ rest) = option_map (line_with (Some name)) (perhaps_statement rest)
+spelled_line lexemes = option_map (line_with None) (perhaps_statement lexemes)

@@ -1,6 +1,6 @@
 ghost use Rattle.std.specs.Prelude.{◌≡◌, ◌<◌, ◌-◌, ◌^◌, [], length, Some, None, IfOk};
 ghost use Rattle.std.specs.Option.{option_map};
-ghost use Rattle.sparc_asm.specs.Statements.{nothing, arith_of, shift_of, load_of, store_of, branch_of, read_y_of, write_y_of, jmpl_of, sethi_of, sethi_to, compare_of, move_of, test_of, clear_of, set_of, mesh_of, equ_of, start_of, statement_of, TakesOne, perhaps_statement, named, line_with, line_of, trap_address, values_of};
+ghost use Rattle.sparc_asm.specs.Statements.{nothing, arith_of, shift_of, load_of, store_of, branch_of, read_y_of, write_y_of, jmpl_of, sethi_of, sethi_to, compare_of, move_of, test_of, clear_of, set_of, mesh_of, equ_of, start_of, statement_of, TakesOne, perhaps_statement, named, line_with, spelled_line, trap_address, values_of};
 ghost use Rattle.sparc_asm.specs.Expressions.{address_of};
 
 use crate::expressions::{
@@ -462,9 +462,9 @@ fn perhaps_statement(
 
 /// The line that lexemes spell: a label with its colon or none, and a statement or none. None
 /// exactly where they spell none.
-pub fn line_of(alloc: Global, lexemes: &[Lexeme]) -> Result<Option<Line>, NoMemory>
+pub fn spelled_line(alloc: Global, lexemes: &[Lexeme]) -> Result<Option<Line>, NoMemory>
     requires { length lexemes.now < 2 ^ 32 - 1 }
-    ensures { IfOk result (λ line. line ≡ line_of lexemes.now) }
+    ensures { IfOk result (λ line. line ≡ spelled_line lexemes.now) }
 {
     if let Some((Lexeme::Name(name), behind)) = lexemes.split_first() {
         if let Some((Lexeme::Colon, rest)) = behind.split_first() {

@@ -3,7 +3,7 @@ ghost use Rattle.sparc_asm.specs.Sources.{read_line, read_source, AnswersLines, 
 
 use crate::faults::AsmErr;
 use crate::lexemes::lexemes_of;
-use crate::parse::line_of;
+use crate::parse::spelled_line;
 use crate::statements::{Line, Lines};
 use alw_text::{Span, line_at};
 use sparc_lex::{LexErr, line_tokens};
@@ -25,7 +25,7 @@ fn read_line(alloc: Global, source: &[u8], span: &Span, number: u32) -> Result<L
     let Some(lexemes) = lexemes_of(alloc, source, &tokens)? else {
         return Err(AsmErr::Syntax { line: number });
     };
-    match line_of(alloc, lexemes.members())? {
+    match spelled_line(alloc, lexemes.members())? {
         Some(line) => Ok(line),
         None => Err(AsmErr::Syntax { line: number }),
     }

@@ -1,7 +1,7 @@
 -- How many code words lines fill in: as many as they lay down.
-use Rattle.std.proofs.Common.{◌≡◌, true, false, Bool, ℕ, ◌+◌, ◌/◌, ◌≤◌, ◌&&◌, ◌||◌, not, if◌then◌else◌, nat_le, List, [], length, map, Option, Some, None, Result, Ok, Err, refl, sym, ap, ◌∙◌, arith, length-append}
+use Rattle.std.proofs.Common.{◌≡◌, true, false, Bool, ℕ, ◌+◌, ◌/◌, ◌≤◌, ◌&&◌, ◌||◌, not, if◌then◌else◌, nat_le, List, [], length, map, Option, Some, None, Result, Ok, Err, refl, ap, ◌∙◌, arith, length-append}
 use Rattle.std.proofs.lemmas.List.{length-map}
-use Rattle.std.proofs.lemmas.Bool.{true≢false}
+use Rattle.std.proofs.lemmas.Bool.{and_parts}
 use Rattle.std.proofs.lemmas.Bool.Decides.{nat_tests}
 use Rattle.alw_num.specs.declared.addresses.Width.{Width}
 use Rattle.sparc_table.specs.declared.instructions.Instr.{Instr}
@@ -67,10 +67,6 @@ by_values l after number false values n fault f g is size fit next words same fe
     let most : l.code + n ≤ 65536 = grind (arith, nat_tests, fit) in
     record { room = omega (arith, ap length words); count = λ none. omega (arith, ap length words) }
 
-and_right : (a b : Bool) → (a && b) ≡ true → b ≡ true
-and_right true b e = e
-and_right false b e = absurd (true≢false (sym e))
-
 data_grows : (names : Names) (count number : ℕ) (l m : Layout) (width : Width) (values : List (List Signed)) (f : Filled) → fits l (statement.Data width values) ≡ true → m.code ≡ l.code → length f.words ≡ l.code → l.code ≤ 65536 → Grows l (laid l (statement.Data width values) m) (value_fault names count (place_of l (Some (statement.Data width values))) (statement.Data width values)) (filled names number (place_of l (Some (statement.Data width values))) (statement.Data width values) f)
 data_grows names count number l m width values f fit alike same few = go l.in_data refl
   where
@@ -84,7 +80,7 @@ data_grows names count number l m width values f fit alike same few = go l.in_da
     go true e = by_values l (laid l (statement.Data width values) m) number true found (length values) fault f (filled names number (place_of l (Some (statement.Data width values))) (statement.Data width values) f) e (simp length-map) refl (rw (e, alike)) (rw e) same few
     go false e =
         let within = rw e at fit in
-        by_values l (laid l (statement.Data width values) m) number false found (length values) fault f (filled names number (place_of l (Some (statement.Data width values))) (statement.Data width values) f) e (simp length-map) (and_right (is_word width) (nat_le (l.code + length values) 65536) within) (rw (e, alike)) (rw e) same few
+        by_values l (laid l (statement.Data width values) m) number false found (length values) fault f (filled names number (place_of l (Some (statement.Data width values))) (statement.Data width values) f) e (simp length-map) ((and_parts (is_word width) (nat_le (l.code + length values) 65536) within).1) (rw (e, alike)) (rw e) same few
 
 -- any statement that stands where it fits
 pub grows : (names : Names) (count number : ℕ) (l : Layout) (label : Option (List ℕ)) (s : Statement) (f : Filled) → fits l s ≡ true → length f.words ≡ l.code → l.code ≤ 65536 → Grows l (laid l s (labelled label l)) (value_fault names count (place_of l (Some s)) s) (filled names number (place_of l (Some s)) s f)

@@ -9,3 +9,5 @@ pub mod Starts
 pub mod Tables
 pub mod Walks
 pub mod Whole
+pub mod Passes
+pub mod WordRanges

@@ -1,4 +1,6 @@
-ghost use Rattle.std.specs.Prelude.{◌≡◌, ◌<◌, ◌-◌, ◌^◌, length};
+ghost use Rattle.std.specs.Prelude.{◌≡◌, ◌<◌, ◌-◌, ◌^◌, length, IfOk};
+ghost use Rattle.alw_image.specs.Images.{IsImage};
+ghost use Rattle.alw_image.specs.Numbers.{HasWords};
 ghost use Rattle.sparc_assemble.specs.Assembly.{assembled, Answers};
 
 use crate::fillings::fill_in;
@@ -22,7 +24,9 @@ pub struct Assembled {
 #[tactic(auto, unfolding(crate::specs::Assembly::assembled))]
 pub fn assemble(alloc: Global, text: &[u8]) -> Result<Assembled, AsmErr>
     requires { length text.now < 2 ^ 32 - 1 }
-    ensures { Answers (assembled text.now) result }
+    ensures answer { Answers (assembled text.now) result }
+    ensures image { IfOk result (λ assembled. IsImage assembled.image) }
+    ensures words { IfOk result (λ assembled. HasWords assembled.image) }
 {
     let lines = match read_source(alloc, text) {
         Ok(lines) => lines,

@@ -1,22 +1,19 @@
 -- Sets of numbers as marks.
-use Rattle.std.proofs.Common.{◌≡◌, true, false, Bool, ℕ, zero, suc, ◌+◌, ◌*◌, ◌<◌, ◌≤◌, ◌||◌, max, List, [], ◌∷◌, ◌++◌, length, slice_set, refl, sym, ap, ◌∙◌, arith, ⊎_elim}
+use Rattle.std.proofs.Common.{◌≡◌, true, false, Bool, ℕ, zero, suc, ◌+◌, ◌*◌, ◌<◌, ◌≤◌, max, List, [], ◌∷◌, ◌++◌, length, slice_set, refl, sym, ap, ◌∙◌, arith, ⊎_elim}
 use Rattle.std.specs.Prelude.{replicate}
+use Rattle.std.proofs.Math.Bool.{or-true}
 use Rattle.std.proofs.lemmas.Bool.{cases_lt}
 use Rattle.std.proofs.lemmas.Bool.Decides.{nat_tests}
 use Rattle.std.proofs.lemmas.Grind.{common_steps}
 use Rattle.sparc_place.specs.Marks.{is_marked, is_context_marked, any_below}
 use Rattle.sparc_place.specs.Places.{with_range, with_start}
 
-or_true : (b : Bool) → (b || true) ≡ true
-or_true true = refl
-or_true false = refl
-
 -- a number that passes the test is found
 pub any_found : (n i : ℕ) (test : ℕ → Bool) → i < n → test i ≡ true → any_below n test ≡ true
 any_found zero i test l here = absurd (omega arith)
 any_found (suc n) i test l here = ⊎_elim
     (λ (less : i < n). rw (any_found n i test less here))
-    (λ (other : n ≤ i). let same : n ≡ i = omega arith in rw (same, here) (or_true (any_below i test)))
+    (λ (other : n ≤ i). let same : n ≡ i = omega arith in rw (same, here) (or-true (any_below i test)))
     (cases_lt i n)
 
 blank : (k n : ℕ) → is_marked (replicate k false) n ≡ false

@@ -1,5 +1,3 @@
-use Rattle.std.proofs.Common.{◌≡◌, ◌∙◌, sym, subst, ℕ, List, Some}
-use Rattle.std.specs.Io.KnownBytes.{Consumes}
 use Rattle.alw_cli.proofs.Answering.{answers_by, reads_all}
 use Rattle.alw_cli.proofs.top.answer.Goals as goal
 

@@ -1,6 +1,6 @@
-use Rattle.std.proofs.Common.{◌≡◌, ◌≢◌, ◌++◌, sym, ap, subst, ◌∙◌, refl, Some, None, drop, List, ℕ}
+use Rattle.std.proofs.Common.{◌≡◌, ◌++◌, sym, ap, ◌∙◌, refl, Some, drop, List, ℕ}
 use Rattle.alw_image.specs.Images.{spelling, IsImage}
-use Rattle.alw_image.specs.Faults.{image_fault, parts_in, tables_fault, bodies_at, starts_at, always_at}
+use Rattle.alw_image.specs.Faults.{parts_in, tables_fault, bodies_at, starts_at}
 use Rattle.alw_image.specs.declared.headers.Header.{Header}
 use Rattle.alw_image.specs.Spellings.{header_bytes}
 use Rattle.alw_image.proofs.Checked.{sizes_of, is_image}

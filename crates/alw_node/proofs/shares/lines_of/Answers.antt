@@ -1,7 +1,7 @@
 -- A member more is kept, or isn't.
 use Rattle.std.proofs.Common.{◌<◌, ◌∙◌, length, arith}
 use Rattle.std.proofs.lemmas.Bool.{eq-eqb, ne_eqb}
-use Rattle.alw_node.specs.Shares.{is_line_of}
+use Rattle.alw_image.specs.Nodes.{is_line_of}
 use Rattle.alw_node.proofs.KeptMembers.{keeps, leaves, room_kept}
 use Rattle.alw_node.proofs.shares.lines_of.Goals as goal
 use Rattle.alw_node.proofs.shares.lines_of.Goals.{then-line-from+in_ok-push, else-line-from}

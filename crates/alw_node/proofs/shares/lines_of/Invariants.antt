@@ -1,6 +1,6 @@
 -- What is kept of the members so far.
 use Rattle.std.proofs.Common.{◌≡◌, filter, take}
-use Rattle.alw_node.specs.Shares.{is_line_of}
+use Rattle.alw_image.specs.Nodes.{is_line_of}
 use Rattle.alw_node.proofs.shares.lines_of.Given as goal
 
 abbrev pub invariant-loop-i : goal.invariant-loop-i

@@ -1,6 +1,6 @@
 -- A member more is kept, or isn't.
 use Rattle.std.proofs.Common.{◌<◌, ◌∙◌, sym, length, arith}
-use Rattle.alw_node.specs.Shares.{is_start_of}
+use Rattle.alw_image.specs.Nodes.{is_start_of}
 use Rattle.alw_node.proofs.KeptMembers.{keeps, leaves, room_kept}
 use Rattle.alw_node.proofs.shares.starts_of.Goals as goal
 use Rattle.alw_node.proofs.shares.starts_of.Goals.{then-eq+in_ok-push, else-eq}

@@ -9,6 +9,7 @@ use Rattle.sparc_assemble.specs.Fillings.{filled_of}
 use Rattle.sparc_assemble.proofs.Allowed.{AreAddresses, is_image}
 use Rattle.sparc_assemble.proofs.Starts.{all_sound}
 use Rattle.sparc_assemble.proofs.Whole.{whole}
+use Rattle.sparc_assemble.proofs.WordRanges.{assembled_words}
 use Rattle.sparc_assemble.proofs.assembling.assemble.Goals as goal
 
 pub fill_in-requires-clause-fits : goal.fill_in-requires-clause-fits
@@ -30,11 +31,16 @@ unreachable-requires c =
     let never : false ≡ true = c.in-None.ensures.allowed.1 parts in
     absurd cc
 
-pub returns : goal.returns
-returns c =
+pub returns-clause-answer : goal.returns-clause-answer
+returns-clause-answer c =
     let plan = c.in-Ok-lay_out.laid.plan in
     let f : Filled = filled_of c.in-Ok-fill_in.filling in
     let done = c.in-Ok-fill_in.ensures.filled in
     let some : plan.cursor.code ≢ 0 = λ none. c.if-code-eq0.false (c.code.ensures.count ∙ none) in
     let a : Assembled = record { image = c.in-Some.image; lines = c.in-Ok-lines_of.lines } in
-    whole c.args.text.now c.in-Ok.lines (layout_of plan) c.in-Ok-lay_out.laid.places f a c.in-Ok.ensures c.in-Ok-lay_out.ensures.0 c.in-Ok-lay_out.ensures.1 done.0 done.1 some (c.in-Some.ensures.same ∙ c.in-Ok-parts_of.ensures) c.in-Ok-lines_of.ensures
+    whole c.args.text.now c.in-Ok.lines
+    (layout_of plan) c.in-Ok-lay_out.laid.places f a c.in-Ok.ensures c.in-Ok-lay_out.ensures.0 c.in-Ok-lay_out.ensures.1 done.0 done.1 some
+    (c.in-Some.ensures.same ∙ c.in-Ok-parts_of.ensures) c.in-Ok-lines_of.ensures
+
+pub returns-clause-words : goal.returns-clause-words
+returns-clause-words c = assembled_words c.args.text.now _ (returns-clause-answer c)

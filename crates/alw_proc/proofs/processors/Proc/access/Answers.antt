@@ -1,5 +1,5 @@
 -- A turn on the copy, or a miss.
-use Rattle.std.proofs.Common.{◌≡◌, ◌<◌, ◌*◌, Some}
+use Rattle.std.proofs.Common.{rules, ◌≡◌, ◌<◌, ◌*◌, Some}
 use Rattle.std.proofs.lemmas.List.{length-set}
 use Rattle.sparc_table.proofs.Effects.{turn_exists}
 use Rattle.alw_model.specs.Contexts.{running}
@@ -31,3 +31,6 @@ invariant_of-self c =
     (stands _ _ _ _ inside.contexts _ inside.cache _ inside.openings inside.openings c.self.invariant (length-set inside.contexts.slots c.args.slot _)
     (stored_stands _ inside.cache.sets inside.cache.copies c.args.line.0 c.args.mode _ exists c.self.invariant.cached)
     (ran_stands inside.contexts.slots inside.contexts.current c.args.slot _ _ inside.openings runs c.self.invariant.opened))
+
+pub returns : goal.returns
+returns c = record { side = search rules; sends = search rules; outcome = search rules }

@@ -1,12 +1,12 @@
 -- The turn's need, and then the turn.
-use Rattle.std.proofs.Common.{◌≡◌, Some, None, refl, sym, ap, ◌∙◌}
+use Rattle.std.proofs.Common.{◌≡◌, Some, None, refl, sym, subst}
 use Rattle.std.proofs.lemmas.List.{length-set}
 use Rattle.sparc_table.specs.Turns.{need_of}
 use Rattle.sparc_exec.specs.Runs.{IsMissing}
 use Rattle.sparc_table.specs.declared.outcomes.Need.TheVariants as needs
 use Rattle.alw_model.specs.Contexts.{running, slot_at}
-use Rattle.alw_model.specs.NodeSteps.{Stepped}
-use Rattle.alw_proc.specs.Processors.{lines_of, parts_of, parameters_of, state_of, with_state, with_messages}
+use Rattle.alw_model.specs.Sides.{lines_of}
+use Rattle.alw_model.specs.ProcessorSteps.{ProcessorStep, Steps}
 use Rattle.alw_proc.proofs.Turning.{instr_needs}
 use Rattle.alw_proc.proofs.Keeping.{runs_within}
 use Rattle.alw_proc.proofs.Standing.{stands, ran_stands}
@@ -31,26 +31,13 @@ invariant_of-self c =
     (stands _ _ _ _ inside.contexts _ inside.cache inside.cache inside.openings inside.openings c.self.invariant (length-set inside.contexts.slots c.in-Some.slot _)
     c.self.invariant.cached (ran_stands inside.contexts.slots inside.contexts.current c.in-Some.slot _ _ inside.openings (sym c.in-Some.ensures) c.self.invariant.opened))
 
-pub returns-in-Miss-clause-node : goal.returns-in-Miss-clause-node
-returns-in-Miss-clause-node c =
+pub returns-in-Miss : goal.returns-in-Miss
+returns-in-Miss c =
     let p = c.args.self.now in
-    let missed : IsMissing (need_of c.args.code.now c.regs-regs.result c.lines.result) (λ l. None) c.in-Miss.line c.in-Miss.mode = (c.in-Miss.ensures.missed c.in-Miss.line c.in-Miss.mode).0 refl in
-    let need : need_of c.args.code.now (slot_at p.slots c.in-Some.slot).regs (lines_of p) ≡ needs.Copy c.in-Miss.line c.in-Miss.mode = rw (← c.lines.ensures, ← c.self.view_is, ← c.regs-regs.ensures) missed.0 in
+    let missed : IsMissing (need_of c.args.code.now c.regs-regs.result c.lines.result) (λ l. None) c.in-Miss.line c.in-Miss.mode =
+    (c.in-Miss.ensures.missed c.in-Miss.line c.in-Miss.mode).0 refl in
+    let need : need_of c.args.code.now (slot_at p.slots c.in-Some.slot).regs (lines_of p) ≡ needs.Copy c.in-Miss.line c.in-Miss.mode =
+    rw (← c.lines.ensures, ← c.self.view_is, ← c.regs-regs.ensures) missed.0 in
     let runs : running p.slots p.current ≡ Some c.in-Some.slot = rw (← c.self.view_is) (sym c.in-Some.ensures) in
-    c.access.ensures.node ∙ ap (λ (s : Stepped). with_state c.args.self.now s.node) (instr_needs (parts_of p c.args.code.now) (parameters_of p) p.number c.args.sent.now.stamp (state_of p) (running p.slots p.current) c.in-Some.slot c.in-Miss.line c.in-Miss.mode runs need)
-
-pub returns-in-Miss-clause-sends : goal.returns-in-Miss-clause-sends
-returns-in-Miss-clause-sends c =
-    let p = c.args.self.now in
-    let missed : IsMissing (need_of c.args.code.now c.regs-regs.result c.lines.result) (λ l. None) c.in-Miss.line c.in-Miss.mode = (c.in-Miss.ensures.missed c.in-Miss.line c.in-Miss.mode).0 refl in
-    let need : need_of c.args.code.now (slot_at p.slots c.in-Some.slot).regs (lines_of p) ≡ needs.Copy c.in-Miss.line c.in-Miss.mode = rw (← c.lines.ensures, ← c.self.view_is, ← c.regs-regs.ensures) missed.0 in
-    let runs : running p.slots p.current ≡ Some c.in-Some.slot = rw (← c.self.view_is) (sym c.in-Some.ensures) in
-    c.access.ensures.sends ∙ ap (λ (s : Stepped). with_messages c.args.sent.now s.sends) (instr_needs (parts_of p c.args.code.now) (parameters_of p) p.number c.args.sent.now.stamp (state_of p) (running p.slots p.current) c.in-Some.slot c.in-Miss.line c.in-Miss.mode runs need)
-
-pub returns-in-Miss-clause-did : goal.returns-in-Miss-clause-did
-returns-in-Miss-clause-did c =
-    let p = c.args.self.now in
-    let missed : IsMissing (need_of c.args.code.now c.regs-regs.result c.lines.result) (λ l. None) c.in-Miss.line c.in-Miss.mode = (c.in-Miss.ensures.missed c.in-Miss.line c.in-Miss.mode).0 refl in
-    let need : need_of c.args.code.now (slot_at p.slots c.in-Some.slot).regs (lines_of p) ≡ needs.Copy c.in-Miss.line c.in-Miss.mode = rw (← c.lines.ensures, ← c.self.view_is, ← c.regs-regs.ensures) missed.0 in
-    let runs : running p.slots p.current ≡ Some c.in-Some.slot = rw (← c.self.view_is) (sym c.in-Some.ensures) in
-    c.access.ensures.did ∙ ap (λ (s : Stepped). s.did) (instr_needs (parts_of p c.args.code.now) (parameters_of p) p.number c.args.sent.now.stamp (state_of p) (running p.slots p.current) c.in-Some.slot c.in-Miss.line c.in-Miss.mode runs need)
+    subst (λ (s : ProcessorStep). Steps p c.access.new.self c.args.sent.now c.access.new.sent c.access.result s)
+    (instr_needs c.args.code.now c.args.sent.now.stamp p (running p.slots p.current) c.in-Some.slot c.in-Miss.line c.in-Miss.mode runs need) c.access.ensures

@@ -1,0 +1,453 @@
+#!/usr/bin/env python3
+"""Checks that the documents say what stands. Prints a line for each finding, and ends with 1 where there is one.
+
+What is tested:
+- README.md's maps of promises: each row has a promise, functions with their clauses, crates, and edits. The functions
+  and edits stand in one of the row's crates, and each row has an edit. The promises are those of the list of claims,
+  '- **promise**: claim', in its order, and a claim has a line of at most 100 characters.
+- each crate's README: its headings, its table (the same without the crates), that each edit of the crate has a row, and
+  that 'Left open' speaks of want of memory where a public function may answer nothing but that.
+- README.md, docs/ and each crate's README: each name in `code` that looks like one of the repository's is declared in it,
+  and each path is there. CHANGES.md may name what is gone.
+- the manual page, the completions, the launcher's help and README.md have the command words of alw_config, and no other options.
+- each edit still fits: its old text stands once in its file.
+- docs/ARCHITECTURE.md has each crate of crates.txt, and no other.
+
+A row's second cell is read like this: parts are parted by ';', and what stands in `code` in a part is a function, method or
+type of the row's crates, or a clause of one named before it in that part. In brackets stand definitions, or an edit's crate.
+"""
+import re
+import sys
+from dataclasses import dataclass, field
+from pathlib import Path
+
+ROOT = Path(__file__).resolve().parent.parent
+HEADINGS = ['What it does', 'What a contract sees', 'What is proved', 'What is only tested', 'Left open', 'A caller']
+CRATE_TABLE = ['promise', 'function, clause', 'edit that is refused']
+MAP_TABLE = ['promise', 'function, clause', 'crate', 'edit that is refused']
+
+# Words in `code` that the repository doesn't declare: of Rust and its library, of the toolchain, and of the shell.
+OUTSIDE = set('''
+    Model Option Some None Result Ok Err Vec String extend_from_slice from_be_bytes strip_prefix split_at where pub mod
+    Appends Consumes IsAtEnd Keeps IsPermutation FinMap take filter eqb-true arith nat_tests yes no
+    auto using unfolding unfoldable abbrev refl sym subst ap rw simp cc elim search omega grind rt plant renice asm
+'''.split())
+
+
+# ---- the sources
+
+
+@dataclass
+class Clause:
+    """A clause of a function: what it is, `ensures` or `requires`, its name, or '' where it has none, and its text."""
+    kind: str
+    name: str
+    text: str
+
+
+@dataclass
+class Function:
+    """A function or method of a crate. `path` is Type::name of a method, and the name of any other."""
+    name: str
+    path: str
+    is_public: bool
+    signature: str
+    file: Path
+    clauses: list = field(default_factory=list)
+
+
+FUNCTION = re.compile(r'^ *(pub )?(?:pub\(crate\) )?(?:const |unsafe )*fn (\w+)')
+BLOCK = re.compile(r'^(pub )?(?:pub\(crate\) )?(?:(trait)|impl(?:<[^{]*?>)?(?: \w+(?:<.*?>)? (for))?) (\w+)')
+CLAUSE = re.compile(r'^\s*(ensures|requires)\b *(\w*) *\{', re.M)
+
+
+def braced(text, start):
+    """What stands between the brace at `start` and the one that ends it."""
+    depth = 0
+    for at in range(start, len(text)):
+        depth += {'{': 1, '}': -1}.get(text[at], 0)
+        if depth == 0:
+            return text[start + 1:at]
+    return text[start + 1:]
+
+
+def heads_of(text):
+    """Where the functions of a .rt file begin, as rt fmt lays it out: the place, the type whose method it is, its name, whether others see it."""
+    at, owner, shows = 0, '', False
+    for line in text.splitlines(keepends=True):
+        block, function = BLOCK.match(line), FUNCTION.match(line)
+        if block:
+            owner, shows = block[4] + '::', bool(block[3] or block[1] and block[2])
+        elif line[0] not in ' \n}':
+            owner, shows = '', False
+        if function:
+            yield at, owner, function[2], bool(function[1]) or shows
+        at += len(line)
+
+
+def functions_of(file):
+    """The functions of a .rt file, each with its clauses."""
+    text = re.sub(r'//.*', '', file.read_text())
+    heads, functions = list(heads_of(text)), []
+    for (start, owner, name, is_public), end in zip(heads, [head[0] for head in heads[1:]] + [len(text)]):
+        own = text[start:end]
+        clauses = [Clause(c[1], c[2], braced(own, c.end() - 1)) for c in CLAUSE.finditer(own)]
+        signature = CLAUSE.split(own)[0] if clauses else own.partition('{')[0]
+        functions.append(Function(name, owner + name, is_public, signature, file, clauses))
+    return functions
+
+
+RUST_NAME = re.compile(r'\b(?:fn|struct|enum|trait|const|static|type|mod) (\w+)')
+TYPE = re.compile(r'^pub (?:struct|enum|trait) (\w+)[^;{(]*(?:\{(.*?)^\}|\((.*?)\);|;)', re.M | re.S)
+MEMBER = re.compile(r'^ +(?:pub |pub\(crate\) )?(?:ghost )?(\w+)(?=[:,({ ])', re.M)
+EXPORT = re.compile(r'^(?:pub )?use [\w:]*?(\{[^}]*\}|\w+);', re.M)
+ANTT_NAME = re.compile(
+    r'^ *(?:abbrev |unfoldable )?(?:pub )?(?:(?:record|data|mod|ruleset) ([^\s:]+)|([^\s({:]+)(?= :))', re.M)
+
+
+@dataclass
+class Crate:
+    """A crate: its functions, its public types with their parts, what its root exports, and all names that it declares."""
+    name: str
+    folder: Path
+    functions: list = field(default_factory=list)
+    types: dict = field(default_factory=dict)
+    exports: set = field(default_factory=set)
+    edits: set = field(default_factory=set)
+    names: set = field(default_factory=set)
+
+    def readme(self):
+        return self.folder / 'README.md'
+
+    def calls(self):
+        """The functions and methods that other crates can call, without conversions and tests."""
+        return [f for f in self.functions if f.is_public and f.path.split('::')[0] in self.exports and f.name != 'from']
+
+
+def read_crate(folder):
+    crate = Crate(folder.name, folder)
+    for file in sorted(folder.glob('src/**/*.rt')):
+        bare = re.sub(r'//.*', '', file.read_text())
+        crate.functions += functions_of(file)
+        crate.types.update({match[1]: match[2] or match[3] or '' for match in TYPE.finditer(bare)})
+        crate.names |= set(RUST_NAME.findall(bare)) | set(MEMBER.findall(bare)) | {file.stem}
+        if file.name in ('lib.rt', 'main.rt'):
+            crate.exports |= {name for item in EXPORT.findall(bare) for name in re.findall(r'\w+', item)}
+    for file in [*folder.glob('specs/**/*.antt'), *folder.glob('proofs/**/*.antt')]:
+        crate.names |= declared(file) | {file.stem}
+    crate.edits = {file.stem for file in folder.glob('must-fail/*.edit')}
+    crate.names |= {clause.name for f in crate.functions for clause in f.clauses} | crate.edits | {crate.name}
+    return crate
+
+
+def declared(file):
+    """What a file of specs/ or proofs/ declares, with fields and constructors."""
+    bare = re.sub(r'--.*', '', file.read_text())
+    return {name for pair in ANTT_NAME.findall(bare) for name in pair if name}
+
+
+def read_crates():
+    return {folder.name: read_crate(folder) for folder in sorted((ROOT / 'crates').iterdir()) if (folder / 'src').is_dir()}
+
+
+def with_parts(types, parts):
+    """The types that have one of these parts, or one that has, and so on."""
+    found, more = set(), set(parts)
+    while not more <= found:
+        found |= more
+        more = {name for name, text in types.items() if found & set(re.findall(r'\w+', text))}
+    return found
+
+
+def memory_calls(crate, repository):
+    """The crate's calls whose answer can be want of memory: NoMemory, an enum with such a variant, or what has one of these in it."""
+    refusals = {name for each in repository.values() for name, text in each.types.items() if re.search(r'\bNoMemory\b', text)}
+    found = with_parts(crate.types, refusals | {'NoMemory'})
+    return [f.path for f in crate.calls() if found & set(re.findall(r'\w+', f.signature.rpartition('->')[2]))]
+
+
+# ---- the documents
+
+
+SPAN = re.compile(r'`([^`\n]+)`')
+FENCE = re.compile(r'^( *)```.*?^\1```', re.M | re.S)
+
+
+@dataclass
+class Row:
+    line: int
+    cells: list
+
+
+def without_fences(text):
+    """The text with fenced and indented code blanked, its lines kept."""
+    text = FENCE.sub(lambda m: '\n' * m[0].count('\n'), text)
+    return re.sub(r'^    .*$', '', text, flags=re.M)
+
+
+def tables_of(text):
+    """The tables of a document: of each its head and its rows."""
+    tables, rows = [], []
+    for number, line in enumerate(without_fences(text).splitlines() + [''], 1):
+        if line.startswith('|'):
+            rows.append(Row(number, [cell.strip() for cell in re.split(r'(?<!\\)\|', line.strip()[1:-1])]))
+        elif rows:
+            tables.append((rows[0].cells, [row for row in rows[1:] if set(row.cells[0]) - set('-: ')]))
+            rows = []
+    return tables
+
+
+def section_of(text, heading):
+    """What stands below a heading, up to the next."""
+    match = re.search(rf'^## {re.escape(heading)}\n(.*?)(?=^## |\Z)', text, re.M | re.S)
+    return match[1].strip() if match else None
+
+
+class Findings:
+    def __init__(self):
+        self.count = 0
+
+    def say(self, file, line, text):
+        self.count += 1
+        place = file.relative_to(ROOT)
+        print(f'{place}:{line}: {text}' if line else f'{place}: {text}')
+
+
+# ---- the checks
+
+
+def named(crates, name, before):
+    """The functions of a name: the free one, else the method of the type last named, else any method; of a type, its calls."""
+    functions = [function for crate in crates for function in crate.functions]
+    owner = before[-1].path.rpartition('::')[0] if before else ''
+    for path in (name, f'{owner}::{name}'):
+        exact = [f for f in functions if f.path == path]
+        if exact:
+            return exact
+    if any(name in crate.types for crate in crates):
+        return [f for f in functions if f.path.startswith(name + '::') and f.is_public]
+    return [f for f in functions if f.name == name]
+
+
+def check_contract(findings, file, row, cell, crates):
+    """Each function, method, type or clause of a row's second cell stands in one of these crates."""
+    names_one = False
+    for part in re.sub(r'\(.*?\)', '', cell).split(';'):
+        before = []
+        for name in SPAN.findall(part):
+            here = named(crates, name, before)
+            before += here
+            if not here and not any((clause.kind, clause.name) == ('ensures', name) for f in before for clause in f.clauses):
+                findings.say(file, row.line, f'`{name}` is no function, type or clause here of {", ".join(c.name for c in crates)}')
+            names_one = True
+    if not names_one:
+        findings.say(file, row.line, 'a row without a function')
+
+
+def check_edits(findings, file, row, cell, crates, repository):
+    """The edits of a row, each of one of these crates or of the one named behind it in brackets. Answers them as (crate, edit)."""
+    found = set()
+    for name, other in re.findall(r'`(\w+)`(?: \((?:in )?`(\w+)`\))?', cell):
+        owners = [repository[other]] if other in repository else crates
+        holders = [crate.name for crate in owners if name in crate.edits]
+        if not holders:
+            findings.say(file, row.line, f'there is no edit {name} in {", ".join(c.name for c in owners)}')
+        found |= {(holder, name) for holder in holders}
+    if not found:
+        findings.say(file, row.line, 'a row without an edit')
+    return found
+
+
+CLAIM = re.compile(r'^- \*\*(.*?)\*\*: .*$', re.M)
+
+
+def maps_of(text):
+    """The rows of the maps of promises."""
+    return [row for head, rows in tables_of(text) if head == MAP_TABLE for row in rows]
+
+
+def check_claims(findings, file):
+    """The claims of README.md are the promises of its maps, in their order, a line each."""
+    text = file.read_text()
+    claims, promises = [claim[1] for claim in CLAIM.finditer(text)], [row.cells[0] for row in maps_of(text)]
+    for claim in CLAIM.finditer(text):
+        if len(claim[0]) > 100:
+            findings.say(file, 0, f'the line of the claim {claim[1]} has {len(claim[0])} characters')
+    if claims != promises:
+        missing = sorted(set(claims) ^ set(promises))
+        findings.say(file, 0, f'claims and rows differ: {", ".join(missing) or "their order"}')
+
+
+def check_maps(findings, file, repository):
+    """The maps of promises of README.md."""
+    rows = maps_of(file.read_text())
+    if not rows:
+        findings.say(file, 0, f'no table with the head {MAP_TABLE}')
+    for row in rows:
+        crates = [repository[name] for name in SPAN.findall(row.cells[2]) if name in repository]
+        if not crates or len(row.cells) != len(MAP_TABLE):
+            findings.say(file, row.line, 'a row without its crates')
+            continue
+        check_contract(findings, file, row, row.cells[1], crates)
+        check_edits(findings, file, row, row.cells[3], crates, repository)
+
+
+def check_form(findings, file, text, crate):
+    """A crate's README: its headings in their order, and under each of them a text."""
+    headings = re.findall(r'^## (.*)$', without_fences(text), re.M)
+    if headings != HEADINGS:
+        findings.say(file, 0, f'has the headings {", ".join(headings)}; the form is {", ".join(HEADINGS)}')
+    for heading in HEADINGS:
+        if section_of(text, heading) == '':
+            findings.say(file, 0, f"'{heading}' is empty")
+    if not text.startswith(f'# {crate.name}\n'):
+        findings.say(file, 1, f'the first line is not # {crate.name}')
+
+
+def check_left_open(findings, file, text, crate, repository):
+    """Where want of memory alone meets a clause of the crate, 'Left open' says so."""
+    calls = memory_calls(crate, repository)
+    left = section_of(text, 'Left open') or ''
+    if calls and not re.search('want of memory|NoMemory', left):
+        findings.say(file, 0, f"'Left open' doesn't say that {', '.join(calls)} may answer want of memory at any time")
+
+
+def check_crate(findings, crate, repository):
+    """A crate's README."""
+    file = crate.readme()
+    if not file.is_file():
+        findings.say(crate.folder, 0, 'has no README.md')
+        return
+    text = file.read_text()
+    check_form(findings, file, text, crate)
+    check_left_open(findings, file, text, crate, repository)
+    named = set()
+    tables = [rows for head, rows in tables_of(text) if head == CRATE_TABLE]
+    if len(tables) != 1:
+        findings.say(file, 0, f'has {len(tables)} tables with the head {CRATE_TABLE}')
+    for row in (row for rows in tables for row in rows):
+        check_contract(findings, file, row, row.cells[1], [crate])
+        named |= check_edits(findings, file, row, row.cells[2], [crate], repository)
+    for edit in sorted(crate.edits - {name for owner, name in named if owner == crate.name}):
+        findings.say(file, 0, f'the edit {edit} is in no row')
+
+
+PATH = re.compile(r'^[\w.*-]+(/[\w.*-]*)+$|^[\w-]+\.(?:rt|antt|md|s|sh|py|txt)$')
+WORD = re.compile(r'[A-Za-z_◌][\w-]*')
+
+
+def check_names(findings, file, repository, folder):
+    """Each path in `code` is there, and each name that looks like one of the repository's is declared in it."""
+    known = set().union(*(crate.names for crate in repository.values())) | OUTSIDE
+    known |= {item for crate in repository.values() for item in crate.types}
+    for number, line in enumerate(without_fences(file.read_text()).splitlines(), 1):
+        for span in SPAN.findall(line):
+            if PATH.match(span):
+                if not is_there(span.strip('/'), folder):
+                    findings.say(file, number, f'there is no {span}')
+            elif is_name(span):
+                for word in WORD.findall(span):
+                    if word not in known:
+                        findings.say(file, number, f'nothing is named {word} (in `{span}`)')
+
+
+def is_there(path, folder):
+    """Whether a path is there, from the top, from crates/ or from the crate of a README, else from any crate; .antt may be left out."""
+    crates = ROOT / 'crates'
+    own = [folder, folder / 'specs'] if folder.parent == crates else [*crates.iterdir()]
+    bases = (ROOT, crates, *own)
+    return any(list(base.glob(path + end)) for base in bases for end in ('', '.antt'))
+
+
+def is_name(span):
+    """Whether a span is a name, or several joined by '.' or '::', that could be one of the repository's own."""
+    return bool(re.fullmatch(r'[A-Za-z_][\w-]*((::|\.)\{?[\w-]+(, [\w-]+)*\}?)*', span))
+
+
+EDIT = re.compile(r'^(?:file: (.*)|old: (.*)\nnew: ?(.*))$', re.M)
+
+
+def check_fit(findings, edit, crate):
+    """Each old text of an edit stands once in its file, as the pairs before it left that."""
+    texts, name = {}, None
+    for file, old, new in EDIT.findall(edit.read_text()):
+        name = file or name
+        path = crate.folder / name
+        texts.setdefault(name, path.read_text() if path.is_file() else '')
+        count = 1 if file else texts[name].count(old)
+        if count != 1:
+            findings.say(edit, 0, f'its old text stands {count} times in {name}: {old.strip()}')
+        texts[name] = texts[name].replace(old, new) if old else texts[name]
+
+
+LAUNCHER = {'--help', '--version', '--unproved'}
+QUOTED = re.compile(r'"(-?-?[a-z]+)"')
+
+
+def command_words():
+    """The words that alw_config's table of commands and options has: all that stands in quotes in its definitions and code."""
+    crate = ROOT / 'crates' / 'alw_config'
+    files = [*crate.glob('specs/**/*.antt'), *(file for file in crate.glob('src/**/*.rt') if 'tests' not in file.stem)]
+    return {word for file in files for word in QUOTED.findall(file.read_text())}
+
+
+def word_texts():
+    """The texts that say the command words, each with its file."""
+    launcher = (ROOT / 'alewife').read_text()
+    yield ROOT / 'alewife', launcher.partition("<<'HELP'")[2].partition('\nHELP\n')[0]
+    yield ROOT / 'README.md', (ROOT / 'README.md').read_text()
+    for file in (ROOT / 'docs' / 'alewife.1', *sorted((ROOT / 'docs' / 'completions').iterdir())):
+        yield file, file.read_text().replace('\\-', '-') if file.is_file() else ''
+
+
+def check_words(findings):
+    """Each text has each of the words, and no option that is neither in the table nor the launcher's."""
+    wanted = command_words() | LAUNCHER
+    for file, text in word_texts():
+        said = set(re.findall(r'(?<![\w-])(?:--)?[a-z]+(?![\w-])', text))
+        for word in sorted(wanted - said):
+            findings.say(file, 0, f"doesn't say the word {word}")
+        for word in sorted(word for word in said - wanted if word.startswith('--')):
+            findings.say(file, 0, f'has the option {word}, which no command takes')
+
+
+def check_architecture(findings, repository):
+    """crates.txt, the folders of crates/ and the table of docs/ARCHITECTURE.md have the same crates."""
+    listed = re.findall(r'^(\w+)(?: \w+=?\w*)*:', (ROOT / 'crates.txt').read_text(), re.M)
+    file = ROOT / 'docs' / 'ARCHITECTURE.md'
+    shown = [name for head, rows in tables_of(file.read_text()) if head[0] == 'crate' for row in rows for name in SPAN.findall(row.cells[0])]
+    for name in sorted(set(listed) ^ set(repository)):
+        findings.say(ROOT / 'crates.txt', 0, f'{name} stands in crates.txt or in crates/, and not in both')
+    for name in sorted(set(shown) ^ set(listed)):
+        findings.say(file, 0, f'{name} stands in its table or in crates.txt, and not in both')
+
+
+def documents(repository):
+    """The files whose names are checked, each with the folder that its paths may start from."""
+    yield ROOT / 'README.md', ROOT
+    for file in sorted((ROOT / 'docs').glob('*.md')):
+        yield file, ROOT / 'docs'
+    for crate in repository.values():
+        if crate.readme().is_file():
+            yield crate.readme(), crate.folder
+
+
+def main():
+    findings, repository = Findings(), read_crates()
+    check_claims(findings, ROOT / 'README.md')
+    check_maps(findings, ROOT / 'README.md', repository)
+    for crate in repository.values():
+        check_crate(findings, crate, repository)
+        for edit in sorted(crate.folder.glob('must-fail/*.edit')):
+            check_fit(findings, edit, crate)
+    for file, folder in documents(repository):
+        check_names(findings, file, repository, folder)
+    check_architecture(findings, repository)
+    check_words(findings)
+    if findings.count:
+        print(f'documents: {findings.count} findings')
+    return 1 if findings.count else 0
+
+
+if __name__ == '__main__':
+    sys.exit(main())

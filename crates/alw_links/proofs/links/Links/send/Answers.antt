@@ -1,0 +1,17 @@
+use Rattle.std.proofs.Common.{◌<◌, ap, ◌∙◌, arith}
+use Rattle.std.proofs.lemmas.List.{get_or_read}
+use Rattle.alw_num.specs.NodeSets.{add_node, nodes_of}
+use Rattle.alw_num.specs.declared.node_sets.NodeSet.{NodeSet}
+use Rattle.alw_links.specs.Traffic.{Traffic}
+use Rattle.alw_links.specs.Keeping.{nobody}
+use Rattle.alw_links.proofs.Keeping.{sends}
+use Rattle.alw_links.proofs.links.Links.send.Goals as goal
+
+pub invariant_of-self : goal.invariant_of-self
+invariant_of-self c =
+    let size = ap (λ (t : Traffic). t.nodes) c.self.view_is in
+    let from : c.args.from.0 < c.self.inside.nodes = omega arith in
+    let to : c.args.to.0 < c.self.inside.nodes = omega arith in
+    let read = get_or_read c.self.inside.senders.items c.args.to.0 c.index-senders.result.now (omega arith) c.index-senders.ensures nobody in
+    let told = c.with.ensures ∙ ap (λ (s : NodeSet). add_node (nodes_of s) c.args.from.0) read in
+    rw (c.push.ensures.links, c.place-at.ensures) (sends _ _ _ c.self.inside.spare _ _ _ c.args.msg _ _ c.self.invariant from to c.push.ensures.spare told)

@@ -1,0 +1,4 @@
+pub mod Memories
+pub mod Lines
+pub mod Insides
+pub mod Views

@@ -1,0 +1,26 @@
+# Completions of alewife for bash: source this file.
+
+_alewife() {
+    local word=${COMP_WORDS[COMP_CWORD]} before=${COMP_WORDS[COMP_CWORD-1]} at=1 words
+    [ "${COMP_WORDS[1]}" = --unproved ] && at=2
+    case $COMP_CWORD in
+    "$at")
+        words='asm run'
+        [ "$at" = 1 ] && words="$words --unproved --help --version"
+        ;;
+    *)
+        case ${COMP_WORDS[at]}:$before in
+        asm:--write) words='image listing' ;;
+        run:--write) words='report' ;;
+        run:--pointers) words='1 2 3 4 5 6 7 8' ;;
+        run:--sets) words='4 8 16 32 64 128 256 512 1024 2048 4096' ;;
+        run:--seed | run:--limit | run:--evict) words='' ;;
+        asm:*) words='--write' ;;
+        run:*) words='--seed --pointers --sets --limit --evict --write' ;;
+        esac
+        ;;
+    esac
+    mapfile -t COMPREPLY < <(compgen -W "$words" -- "$word")
+}
+
+complete -F _alewife alewife ./alewife
