@@ -3,3 +3,4 @@ pub mod NodeSets
 pub mod Weights
 pub mod Maps
 pub mod Rooms
+pub mod Draws

@@ -3,6 +3,7 @@
 
 mod addresses;
 mod byte_list;
+mod draws;
 mod memory;
 mod node_sets;
 mod roomy;
@@ -11,6 +12,7 @@ mod states;
 
 pub use addresses::{Line, LineNo, NodeNo, SHARED_BASE, Width, home_of, lane, line_of, with_lane};
 pub use byte_list::Bytes;
+pub use draws::Draws;
 pub use memory::NoMemory;
 pub use node_sets::{MOST_NODES, NodeSet};
 pub use roomy::Roomy;

@@ -126,3 +126,14 @@ fn room_comes_before_members(rt: HostRuntime) -> Result<(), Fail> {
     assert_eq!(rt; words.into_list().words(), [7, 9, 11].as_slice());
     Ok(())
 }
+
+// The first number of seed 0, and the state behind the last state.
+#[test]
+fn draws_of_a_seed(rt: HostRuntime) {
+    let mut draws = Draws { state: 0 };
+    assert_eq!(rt; draws.draw(), 0x0a02_bdbf);
+    assert_eq!(rt; draws.state, 0x1405_7b7e_f767_814f);
+    let mut last = Draws { state: u64::MAX };
+    last.draw();
+    assert_eq!(rt; last.state, 0xbbb3_8751_aad2_0222);
+}
