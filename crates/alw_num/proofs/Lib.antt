@@ -4,3 +4,4 @@ pub mod Weigh
 pub mod Words
 pub mod MapLaws
 pub mod MapLengths
+pub mod Ranks
