@@ -1,12 +1,12 @@
 -- The first number of a range that passes a test, and which slot runs.
-use Rattle.std.proofs.Common.{◌≡◌, ℕ, zero, suc, ◌+◌, ◌<◌, ◌≤◌, ◌%◌, Bool, true, false, ◌==◌, Some, None, find, List, length, map, refl, sym, ap, ◌∙◌, ◌⊎◌, inl, inr, arith}
+use Rattle.std.proofs.Common.{◌≡◌, ℕ, zero, suc, ◌+◌, ◌<◌, ◌≤◌, ◌%◌, Bool, true, false, ◌==◌, Some, None, find, List, length, map, take, refl, sym, ap, ◌∙◌, ◌⊎◌, inl, inr, arith}
 use Rattle.std.proofs.lemmas.Bool.{cases_lt}
-use Rattle.std.specs.List.{range_with_len}
-use Rattle.std.proofs.lemmas.List.{get_or_default}
-use Rattle.std.proofs.lemmas.List.Folds.{list_any_none, list_any-from_Any}
+use Rattle.std.specs.List.{range_with_len, list_all}
+use Rattle.std.proofs.lemmas.List.{get_or_default, take_all}
+use Rattle.std.proofs.lemmas.List.Folds.{list_any_none, list_any-from_Any, list_all_at, list_all_more}
 use Rattle.alw_num.specs.Maps.{passes}
-use Rattle.alw_msg.specs.Statuses.{is_ready}
-use Rattle.alw_model.specs.Contexts.{Slot, no_slot, slot_at, running, turn_order, is_held}
+use Rattle.alw_msg.specs.Statuses.{is_ready, is_halted}
+use Rattle.alw_model.specs.Contexts.{Slot, no_slot, slot_at, running, turn_order, is_held, all_halted}
 
 find_first : (p : ℕ → Bool) (f : ℕ → ℕ) (a n k : ℕ) → a ≤ k → k < a + n → ((j : ℕ) → a ≤ j → j < k → p (f j) ≡ false) → p (f k) ≡ true → find p (map f (range_with_len a n)) ≡ Some (f k)
 find_first p f a zero k l m before here = absurd (omega arith)
@@ -42,3 +42,16 @@ held_by slots line i l here = sym (list_any-from_Any (holds_on line) slots (i, s
 
 pub held_by_none : (slots : List Slot) (line n : ℕ) → length slots ≡ n → ((i : ℕ) → i < n → holds_on line (slot_at slots i) ≡ false) → false ≡ is_held slots line
 held_by_none slots line n size none = sym (list_any_none (holds_on line) slots (λ k d l. ap (holds_on line) (get_or_default slots k d no_slot l) ∙ none k (omega arith)))
+
+-- the slot's context has halted
+abbrev pub halted_in : Slot → Bool
+halted_in slot = is_halted slot.status
+
+pub live_by : (slots : List Slot) (i : ℕ) → i < length slots → halted_in (slot_at slots i) ≡ false → false ≡ all_halted slots
+live_by slots i l here = sym (list_all_at halted_in slots i no_slot l here)
+
+pub halted_more : (slots : List Slot) (i : ℕ) → i < length slots → list_all halted_in (take i slots) ≡ true → halted_in (slot_at slots i) ≡ true → list_all halted_in (take (i + 1) slots) ≡ true
+halted_more slots i l before here = list_all_more halted_in slots i no_slot l ∙ (rw (before, here) refl)
+
+pub halted_by : (slots : List Slot) (n : ℕ) → length slots ≤ n → list_all halted_in (take n slots) ≡ true → true ≡ all_halted slots
+halted_by slots n all halted = sym (ap (list_all halted_in) (sym (take_all n slots all)) ∙ halted)

@@ -2,7 +2,7 @@ ghost use Rattle.std.specs.Prelude.{◌≡◌, ◌<◌, ◌≤◌, length, is_so
 ghost use Rattle.std.specs.Option.{option_map};
 ghost use Rattle.alw_num.specs.Weights.{digit, weigh};
 ghost use Rattle.alw_image.specs.Images.{node_count};
-ghost use Rattle.alw_model.specs.Contexts.{slots_start, slot_at, running, ran, wake, give_hold, is_held};
+ghost use Rattle.alw_model.specs.Contexts.{slots_start, slot_at, running, ran, wake, give_hold, is_held, all_halted};
 ghost use Rattle.alw_ctx.specs.Residents.{number_of};
 
 use crate::residents::Resident;
@@ -125,6 +125,18 @@ impl Contexts {
             }
         }
         count
+    }
+
+    /// All contexts have halted.
+    pub fn have_halted(&self) -> bool
+        ensures { result ≡ all_halted self.now.slots }
+    {
+        for slot in 0..self.count {
+            if !self.places[slot as usize].has_halted() {
+                return false;
+            }
+        }
+        true
     }
 
     /// A slot has run: it becomes the current one, with these registers and this status, and its hold

@@ -1,6 +1,6 @@
 ghost use Rattle.std.specs.Prelude.{◌≡◌, ◌==◌, is_some};
 ghost use Rattle.alw_num.specs.Maps.{passes};
-ghost use Rattle.alw_msg.specs.Statuses.{is_ready, waits_on};
+ghost use Rattle.alw_msg.specs.Statuses.{is_ready, is_halted, waits_on};
 ghost use Rattle.alw_model.specs.Contexts.{woken};
 ghost use Rattle.alw_ctx.specs.Residents.{slot_of};
 
@@ -22,6 +22,13 @@ impl Resident {
         ensures { result ≡ is_ready self.now.status }
     {
         matches!(self.status, Status::Ready)
+    }
+
+    /// The context has halted.
+    pub fn has_halted(&self) -> bool
+        ensures { result ≡ is_halted self.now.status }
+    {
+        matches!(self.status, Status::Halted)
     }
 
     /// The context once a transaction on a line has ended: Ready, where it waits on that line.

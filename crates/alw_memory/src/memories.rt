@@ -1,4 +1,4 @@
-ghost use Rattle.std.specs.Prelude.{◌≡◌, ◌<◌, ◌≤◌, ◌*◌, ◌/◌, IfOk, IsTrue, false, not, slice_get};
+ghost use Rattle.std.specs.Prelude.{◌≡◌, ◌<◌, ◌≤◌, ◌*◌, ◌/◌, IfOk, IsTrue, false, not, length, slice_get};
 ghost use Rattle.alw_msg.specs.Kinds.{to_memory};
 ghost use Rattle.alw_msg.specs.Contents.{content};
 ghost use Rattle.alw_msg.specs.Lists.{is_nonempty};
@@ -140,6 +140,14 @@ impl Memory {
         ensures { result ≡ slice_get self.now.packets i }
     {
         self.packets.get(i as usize).copied()
+    }
+
+    /// The number of packets: at most one for each home line.
+    pub fn packets(&self) -> u32
+        ensures count { result ≡ length self.now.packets }
+        ensures most { result ≤ 4096 }
+    {
+        self.packets.len() as u32
     }
 
     /// A message to memory: it traps, which puts it behind the packets, or hardware acts on it.

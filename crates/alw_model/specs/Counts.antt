@@ -109,9 +109,13 @@ count_holds machine = weigh (λ node. weigh (λ slot. digit (is_some slot.hold))
 abbrev pub words_of : ℕ → Line → List (ℕ × ℕ)
 words_of line body = filter (λ (word : ℕ × ℕ). not (word.1 == 0)) (map (λ offset. (SHARED_BASE + 16 * line + offset, lane_of body offset Word)) (0 ∷ 4 ∷ 8 ∷ 12 ∷ []))
 
--- the words of shared data whose current value isn't 0, each with its address, ascending
+-- the words that aren't 0 of so many lines with these values, each with its address, ascending
+abbrev pub listed_words : (ℕ → Line) → ℕ → List (ℕ × ℕ)
+listed_words value lines = flat_map (λ line. words_of line (value line)) (range_with_len 0 lines)
+
+-- the words of shared data whose current value isn't 0
 abbrev pub memory_words : Parts → Parameters → MachineState → List (ℕ × ℕ)
-memory_words parts parameters machine = flat_map (λ line. words_of line (current_value parts parameters machine line)) (range_with_len 0 (line_count parts))
+memory_words parts parameters machine = listed_words (current_value parts parameters machine) (line_count parts)
 
 -- what the report says of an entry: line, state, meta state, H and S as ascending lists, and the counter
 pub record DirectoryLine : Type 0 where

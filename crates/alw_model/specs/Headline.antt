@@ -10,7 +10,8 @@ use Rattle.alw_model.specs.declared.ends.Ended.{Ended}
 use Rattle.alw_model.specs.LimitLess.{full_map_of}
 use Rattle.alw_model.specs.Machine.{IsLegal, state, end_of}
 use Rattle.alw_model.specs.Lines.{entry_of}
-use Rattle.alw_model.specs.Flat.{AreReady, flat_after, flat_prints}
+use Rattle.alw_model.specs.Flat.{AreReady, line_at, flat_after, flat_prints}
+use Rattle.alw_model.specs.Counts.{listed_words, memory_words}
 use Rattle.alw_model.specs.Runs.{turns_of, prints_of, flat_view, full_map_after}
 use Rattle.alw_model.specs.Ends.{IsEnd}
 
@@ -25,6 +26,8 @@ pub record IsCoherentRun (parts : Parts) (parameters : Parameters) (journal : Li
   pub prints : prints_of parts parameters journal ≡ flat_prints parts (turns_of parts parameters journal)
   pub homes : (n line : ℕ) → line < line_count parts →
       full_map_of (entry_of parts (state parts parameters (take n journal)) line) ≡ full_map_after parts parameters (take n journal) line
+  -- at the end, where the report lists it
+  pub memory : memory_words parts parameters (state parts parameters journal) ≡ listed_words (line_at (flat_after parts (turns_of parts parameters journal))) (line_count parts)
 
 -- a journal that was made event by event: no end holds before its last entry, and no entry is an eviction where none is to be tried
 pub record IsScheduled (parts : Parts) (parameters : Parameters) (journal : List Entry) : Type 0 where

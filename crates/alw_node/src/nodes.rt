@@ -3,11 +3,13 @@ ghost use Rattle.std.specs.Option.{option_map};
 ghost use Rattle.alw_num.specs.Maps.{value_at};
 ghost use Rattle.alw_num.specs.Weights.{digit, weigh};
 ghost use Rattle.alw_image.specs.Images.{node_count};
-ghost use Rattle.alw_model.specs.Contexts.{slot_at};
+ghost use Rattle.alw_model.specs.Contexts.{slot_at, all_halted};
 ghost use Rattle.alw_msg.specs.Contents.{content};
 ghost use Rattle.alw_model.specs.Messages.{home_node, is_fit};
 ghost use Rattle.alw_model.specs.NodeStates.{home_at, is_enabled_at, may_reach, stamp_of};
 ghost use Rattle.alw_model.specs.NodeSteps.{node_step};
+ghost use Rattle.alw_ctx.specs.Residents.{number_of};
+ghost use Rattle.alw_proc.specs.Openings.{opener_of};
 ghost use Rattle.alw_proc.specs.Processors.{mode_of, cached_of};
 ghost use Rattle.alw_memory.specs.Views.{IsViewOf};
 ghost use Rattle.alw_node.specs.Nodes.{whole_start, may_take_from, Steps, FitsStamp, IsGiven, IsNode};
@@ -151,6 +153,15 @@ impl Node {
         self.proc.last()
     }
 
+    /// The number of slots, which is the number of contexts that the image gives each node.
+    pub fn count(&self) -> u8
+        ensures count { result ≡ length self.now.state.slots }
+        ensures contexts { result ≡ self.now.parts.contexts }
+        ensures most { result ≤ 4 }
+    {
+        self.proc.count()
+    }
+
     /// What the context of a slot does.
     pub fn status(&self, slot: u8) -> Status
         requires { slot < length self.now.state.slots }
@@ -167,6 +178,21 @@ impl Node {
         self.proc.regs(slot)
     }
 
+    /// The line that a slot has a hold on. None exactly where it has none.
+    pub fn held(&self, slot: u8) -> Option<LineNo>
+        requires { slot < length self.now.state.slots }
+        ensures { option_map number_of result ≡ (slot_at self.now.state.slots slot).hold }
+    {
+        self.proc.held(slot)
+    }
+
+    /// All contexts have halted.
+    pub fn have_halted(&self) -> bool
+        ensures { result ≡ all_halted self.now.state.slots }
+    {
+        self.proc.have_halted()
+    }
+
     /// The number of slots with a hold.
     pub fn holds(&self) -> u32
         ensures { result ≡ weigh (λ slot. digit (is_some slot.hold)) self.now.state.slots }
@@ -179,6 +205,13 @@ impl Node {
         ensures { result ≡ option_map mode_of (value_at self.now.state.transactions line.0) }
     {
         self.proc.pending(line)
+    }
+
+    /// The slot that opened the transaction on a line. None exactly where there is none.
+    pub fn opener(&self, line: LineNo) -> Option<u8>
+        ensures { result ≡ option_map opener_of (value_at self.now.state.transactions line.0) }
+    {
+        self.proc.opener(line)
     }
 
     /// The line, mode and bytes of the copy that a set holds. None exactly where it holds none.
@@ -202,6 +235,14 @@ impl Node {
         ensures { result ≡ slice_get self.now.state.packets i }
     {
         self.memory.packet(i)
+    }
+
+    /// The number of packets in the queue: at most one for each home line.
+    pub fn packets(&self) -> u32
+        ensures count { result ≡ length self.now.state.packets }
+        ensures most { result ≤ 4096 }
+    {
+        self.memory.packets()
     }
 
     // The message at the head of the link from a node can be delivered.

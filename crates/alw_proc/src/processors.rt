@@ -7,11 +7,13 @@ ghost use Rattle.sparc_table.specs.declared.outcomes.Need.TheVariants as needs;
 ghost use Rattle.alw_msg.specs.Kinds.{to_memory};
 ghost use Rattle.alw_image.specs.Images.{node_count};
 ghost use Rattle.alw_model.specs.Caches.{granted_copy};
-ghost use Rattle.alw_model.specs.Contexts.{running, slot_at, is_held};
+ghost use Rattle.alw_model.specs.Contexts.{running, slot_at, is_held, all_halted};
 ghost use Rattle.alw_msg.specs.Contents.{content};
 ghost use Rattle.alw_model.specs.Sides.{lines_of};
 ghost use Rattle.alw_model.specs.ProcessorSteps.{Steps, instr, access, miss, takes, evict_from};
 ghost use Rattle.alw_model.specs.NodeStates.{node_start, processor_of};
+ghost use Rattle.alw_ctx.specs.Residents.{number_of};
+ghost use Rattle.alw_proc.specs.Openings.{opener_of};
 ghost use Rattle.alw_proc.specs.Processors.{may_take, mode_of, cached_of, IsProcessor, AreBegun};
 
 use crate::changes::{ask, end, granted, replaces_held, store, take_turn};
@@ -182,7 +184,8 @@ impl Proc {
 
     /// The number of slots.
     pub fn count(&self) -> u8
-        ensures { result ≡ length self.now.slots }
+        ensures count { result ≡ length self.now.slots }
+        ensures most { result ≤ 4 }
     {
         self.contexts.count()
     }
@@ -211,6 +214,21 @@ impl Proc {
         self.contexts.regs(slot)
     }
 
+    /// The line that a slot has a hold on. None exactly where it has none.
+    pub fn held(&self, slot: u8) -> Option<LineNo>
+        requires { slot < length self.now.slots }
+        ensures { option_map number_of result ≡ (slot_at self.now.slots slot).hold }
+    {
+        self.contexts.held(slot)
+    }
+
+    /// All contexts have halted.
+    pub fn have_halted(&self) -> bool
+        ensures { result ≡ all_halted self.now.slots }
+    {
+        self.contexts.have_halted()
+    }
+
     /// The number of slots with a hold.
     pub fn holds(&self) -> u32
         ensures { result ≡ weigh (λ slot. digit (is_some slot.hold)) self.now.slots }
@@ -224,6 +242,16 @@ impl Proc {
     {
         match self.openings.of(line) {
             Some((_, mode)) => Some(mode),
+            None => None,
+        }
+    }
+
+    /// The slot that opened the transaction on a line. None exactly where there is none.
+    pub fn opener(&self, line: LineNo) -> Option<u8>
+        ensures { result ≡ option_map opener_of (value_at self.now.transactions line.0) }
+    {
+        match self.openings.of(line) {
+            Some((slot, _)) => Some(slot),
             None => None,
         }
     }
