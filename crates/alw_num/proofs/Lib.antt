@@ -3,4 +3,5 @@ pub mod Sets
 pub mod Weigh
 pub mod Words
 pub mod MapLaws
+pub mod Ranks
 pub mod MapLengths

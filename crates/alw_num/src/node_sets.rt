@@ -1,5 +1,7 @@
-ghost use Rattle.std.specs.Prelude.{◌≡◌, ◌<◌, ◌↔◌, [], ◌∷◌, IsTrue, IsNone, IfNone, IfSome};
+ghost use Rattle.std.specs.Prelude.{◌≡◌, ◌<◌, ◌↔◌, [], ◌∷◌, slice_get, Some, count_ones, IsTrue, IsNone, IfNone, IfSome};
+ghost use Rattle.std.specs.Int.{bit_at};
 ghost use Rattle.alw_num.specs.NodeSets.{no_nodes, has_node, add_node, drop_node, join_nodes, count_nodes, members, nodes_of};
+ghost use Rattle.alw_num.specs.Weights.{sum_below};
 
 use crate::addresses::NodeNo;
 
@@ -115,4 +117,47 @@ impl NodeSet {
     {
         self.lowest().is_none()
     }
+
+    /// Member number k in ascending order, where 0 is the least. Counts of bits halve the set, so that
+    /// it takes the same few steps for every k.
+    pub fn nth(&self, k: u32) -> NodeNo
+        requires { k < count_nodes (nodes_of self.now) }
+        ensures member { slice_get (members (nodes_of self.now)) k ≡ Some result.0 }
+        ensures within { result.0 < MOST_NODES }
+    {
+        let low = self.low.count_ones();
+        if k < low {
+            NodeNo(nth_one(self.low, k))
+        } else {
+            NodeNo(WORD_BITS + nth_one(self.high, k - low))
+        }
+    }
+}
+
+// The place of one number k of a word, lowest first.
+fn nth_one(word: u128, k: u32) -> u16
+    requires { k < count_ones word }
+    ensures within { result < WORD_BITS }
+    ensures one { bit_at word result ≡ 1 }
+    ensures before { sum_below result (bit_at word) ≡ k }
+{
+    let mut rest = word;
+    let mut left = k;
+    let mut at = 0;
+    let mut width = WORD_BITS;
+    while width > 1 {
+        let half = width / 2;
+        let low = rest & ((1 << half) - 1);
+        let ones = low.count_ones();
+        if left < ones {
+            rest = low;
+            width = half;
+        } else {
+            left -= ones;
+            rest >>= half;
+            at += half;
+            width -= half;
+        }
+    }
+    at
 }

@@ -85,6 +85,26 @@ fn a_set_gives_its_members_in_order(rt: HostRuntime) {
 }
 
 #[test]
+fn a_set_tells_which_member_is_number_k(rt: HostRuntime) {
+    let three = NodeSet {
+        low: 1 << 3,
+        high: 1 | 1 << 127,
+    };
+    for (k, node) in [(0, 3), (1, 128), (2, 255)] {
+        assert!(rt; k < three.count());
+        assert_eq!(rt; three.nth(k), NodeNo(node));
+    }
+    let all = NodeSet {
+        low: u128::MAX,
+        high: u128::MAX,
+    };
+    for node in 0..256 {
+        assert!(rt; u32::from(node) < all.count());
+        assert_eq!(rt; all.nth(u32::from(node)), NodeNo(node));
+    }
+}
+
+#[test]
 fn lists_give_back_what_was_pushed(rt: HostRuntime) -> Result<(), Fail> {
     let mut bytes = Bytes::empty(rt.alloc());
     assert!(rt; bytes.is_empty());

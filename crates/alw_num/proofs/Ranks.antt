@@ -1,0 +1,189 @@
+-- Number k of a set of nodes stands where k members stand below it, and a word is halved by counts of bits.
+use Rattle.std.proofs.Common.{◌≡◌, ℕ, zero, suc, add-zero, add-suc, subst, ◌+◌, ◌-◌, ◌*◌, ◌/◌, ◌%◌, ◌^◌, ◌<◌, ◌≤◌, ◌==◌, nat_lt, Bool, true, false, List, [], ◌∷◌, length, slice_get, Some, refl, sym, ap, ◌∙◌, ◌⊎◌, inl, inr, ⊎_elim, arith, bit_and, count_ones}
+use Rattle.std.specs.Int.{bit_at}
+use Rattle.std.proofs.lemmas.Bool.{lt-ltb, le-ltb, cases_order}
+use Rattle.std.proofs.lemmas.Bool.Decides.{nat_tests}
+use Rattle.std.proofs.lemmas.Nat.{and_mask, one_shl, shr_split, shr-shr, mod_below, shr_below, pow_pos, ones_cat, ones_le_self}
+use Rattle.std.proofs.lemmas.Nat.Bits.{bit_at-lt, bit_at_above, bit_at_cat_low}
+use Rattle.alw_num.specs.declared.node_sets.NodeSet.{NodeSet}
+use Rattle.alw_num.specs.NodeSets.{Nodes, has_node, members, count_nodes, nodes_of}
+use Rattle.alw_num.specs.Weights.{digit, weigh, times, sum_below}
+use Rattle.alw_num.proofs.Sets.{AscendsFrom, times_before, member, members-ascend, count-bits, count-sum}
+use Rattle.alw_num.proofs.Weigh.{cases_lt_then, true_of_digit, digit_other, sum_same, sum_both, sum_one, sum_none}
+use Rattle.alw_num.proofs.Words.{has-low, has-high, counted, nodes_below}
+
+-- ---- lists that ascend
+
+-- how many members of a list stand below n
+abbrev pub below : ℕ → List ℕ → ℕ
+below n xs = weigh (λ j. digit (nat_lt j n)) xs
+
+digit_lt : (j n : ℕ) → j < n → digit (nat_lt j n) ≡ 1
+digit_lt j n l = ap digit (lt-ltb j n l)
+
+digit_ge : (j n : ℕ) → n ≤ j → digit (nat_lt j n) ≡ 0
+digit_ge j n l = ap digit (le-ltb j n l)
+
+none_below : (n low : ℕ) (xs : List ℕ) → n ≤ low → AscendsFrom low xs → below n xs ≡ 0
+none_below n low [] l a = refl
+none_below n low (x ∷ xs) l (h, a) = omega (arith, digit_ge x n (omega arith), none_below n (x + 1) xs (omega arith) a)
+
+-- a member with k others below it is number k
+number_is : (low : ℕ) (xs : List ℕ) (n k : ℕ) → AscendsFrom low xs → times n xs ≡ 1 → below n xs ≡ k → slice_get xs k ≡ Some n
+number_is low [] n k a here is = absurd (omega arith)
+number_is low (x ∷ xs) n k (h, a) here is = go k (cases_order x n) is (λ k. number_is (x + 1) xs n k a)
+  where
+    go : (k : ℕ) → (x ≡ n) ⊎ ((x < n) ⊎ (n < x)) → below n (x ∷ xs) ≡ k → ((k : ℕ) → times n xs ≡ 1 → below n xs ≡ k → slice_get xs k ≡ Some n) → slice_get (x ∷ xs) k ≡ Some n
+    go zero (inl same) is rest = ap Some same
+    go (suc k) (inl same) is rest = absurd (omega (arith, digit_ge x n (omega arith), none_below n (x + 1) xs (omega arith) a))
+    go zero (inr (inl less)) is rest = absurd (omega (arith, digit_lt x n less))
+    go (suc k) (inr (inl less)) is rest = rest k (omega (arith, digit_other n x (λ e. omega arith))) (omega (arith, digit_lt x n less))
+    go k (inr (inr more)) is rest = absurd (omega (arith, digit_other n x (λ e. omega arith), times_before (x + 1) xs n a (omega arith)))
+
+-- how many stand below n, number by number
+below_sum : (n : ℕ) (xs : List ℕ) → sum_below n (λ k. times k xs) ≡ below n xs
+below_sum n [] = sum_none n (λ k. 0) (λ k l. refl)
+below_sum n (j ∷ js) = cases_lt_then n j
+    (λ l. omega (arith, below_sum n js, sum_both n (λ k. digit (k == j)) (λ k. times k js), sum_one n j l, digit_lt j n l))
+    (λ l. omega (arith, below_sum n js, sum_both n (λ k. digit (k == j)) (λ k. times k js), sum_none n (λ k. digit (k == j)) (λ k m. digit_other k j (λ e. omega arith)), digit_ge j n l))
+
+-- number k of a set is the member with k others below it
+pub nth_is : (P : Nodes) (n k : ℕ) → has_node P n ≡ true → sum_below n (λ j. digit (has_node P j)) ≡ k → slice_get (members P) k ≡ Some n
+nth_is P n k here is =
+    number_is 0 (members P) n k (members-ascend P) (member P n ∙ ap digit here)
+    (sym (below_sum n (members P)) ∙ (sum_same n (λ j. times j (members P)) (λ j. digit (has_node P j)) (λ j l. member P j) ∙ is))
+
+-- ---- the ones of a word
+
+-- a sum over two parts
+pub sum_cat : (a b : ℕ) (f : ℕ → ℕ) → sum_below (a + b) f ≡ sum_below a f + sum_below b (λ k. f (a + k))
+sum_cat a zero f = rw add-zero (omega arith)
+sum_cat a (suc b) f = rw add-suc (omega (arith, sum_cat a b f))
+
+digit_bit : (word k : ℕ) → digit (bit_at word k == 1) ≡ bit_at word k
+digit_bit word k = grind (arith, nat_tests, bit_at-lt word k)
+
+-- a word of w digits has as many ones as the sum of its digits
+ones_sum : (w word : ℕ) → word < 2 ^ w → sum_below w (bit_at word) ≡ count_ones word
+unfolding has_node
+ones_sum w word l =
+    let P : Nodes = record { bits = word } in
+    sum_same w (bit_at word) (λ k. digit (has_node P k)) (λ k m. sym (digit_bit word k))
+    ∙ (sym (count-sum P w (λ k m. rw (bit_at_above word w k l m) refl)) ∙ count-bits P)
+
+bit_at-low : (word w k : ℕ) → k < w → bit_at (word % 2 ^ w) k ≡ bit_at word k
+bit_at-low word w k l = sym (bit_at_cat_low (word / 2 ^ w) w (word % 2 ^ w) k l) ∙ ap (λ m. bit_at m k) (shr_split word w)
+
+low_below : (word w : ℕ) → word % 2 ^ w < 2 ^ w
+low_below word w = mod_below word (2 ^ w) (pow_pos w)
+
+bit_at-high : (word w k : ℕ) → bit_at (word / 2 ^ w) k ≡ bit_at word (w + k)
+bit_at-high word w k = ap (λ n. n % 2) (shr-shr word w k)
+
+-- the ones of a word are those of its two parts
+ones_parts : (word w : ℕ) → count_ones word ≡ count_ones (word / 2 ^ w) + count_ones (word % 2 ^ w)
+ones_parts word w = sym (ap count_ones (shr_split word w)) ∙ ones_cat w (word / 2 ^ w) (word % 2 ^ w) (low_below word w)
+
+-- of the ones of a word number k is number `left` of those of a part, which has these digits from a place on
+pub record IsWindow (word k rest left at width : ℕ) : Type 0 where
+  pub some : 1 ≤ width
+  pub within : at + width ≤ 128
+  pub fits : rest < 2 ^ width
+  pub digits : (j : ℕ) → j < width → bit_at rest j ≡ bit_at word (at + j)
+  pub before : sum_below at (bit_at word) + left ≡ k
+  pub here : left < count_ones rest
+
+pub begins : (word k : ℕ) → word < 2 ^ 128 → k < count_ones word → IsWindow word k word k 0 128
+begins word k fits here = record {
+  some = omega arith;
+  within = omega arith;
+  fits = fits;
+  digits = λ j l. ap (bit_at word) (omega arith);
+  before = omega arith;
+  here = here;
+}
+
+-- the low digits of a word, by a mask
+masked : (rest half : ℕ) → half < 128 → bit_and rest (1 * 2 ^ half % 2 ^ 128 - 1) ≡ rest % 2 ^ half
+masked rest half l = rw (one_shl half 128 l) (and_mask rest half)
+
+abbrev pub low_part : ℕ → ℕ → ℕ
+low_part rest half = bit_and rest (1 * 2 ^ half % 340282366920938463463374607431768211456 - 1)
+
+module _ (word k rest left at width : ℕ) (window : IsWindow word k rest left at width) (more : 1 < width) where
+  abbrev half : ℕ
+  half = width / 2
+
+  low_is : low_part rest half ≡ rest % 2 ^ half
+  low_is = masked rest half (omega (arith, window.within))
+
+  pub goes_low : left < count_ones (low_part rest (width / 2)) → IsWindow word k (low_part rest (width / 2)) left at (width / 2)
+  goes_low here = record {
+    some = omega arith;
+    within = omega (arith, window.within);
+    fits = rw low_is (low_below rest half);
+    digits = λ j l. rw low_is (bit_at-low rest half j l ∙ window.digits j (omega arith));
+    before = window.before;
+    here = here;
+  }
+
+  pub goes_high : count_ones (low_part rest (width / 2)) ≤ left → IsWindow word k (rest / 2 ^ (width / 2)) (left - count_ones (low_part rest (width / 2))) (at + width / 2) (width - width / 2)
+  goes_high past =
+      let ones : count_ones (low_part rest half) ≡ count_ones (rest % 2 ^ half) = ap count_ones low_is in
+      let whole : rest < 2 ^ (width - half + half) = let e : width ≡ width - half + half = omega arith in subst (λ w. rest < 2 ^ w) e window.fits in
+      let low : sum_below half (λ j. bit_at word (at + j)) ≡ count_ones (rest % 2 ^ half) =
+      sum_same half (λ j. bit_at word (at + j)) (bit_at (rest % 2 ^ half)) (λ j l. sym (bit_at-low rest half j l ∙ window.digits j (omega arith))) ∙ ones_sum half (rest % 2 ^ half) (low_below rest half) in
+      record {
+        some = omega arith;
+        within = omega (arith, window.within);
+        fits = shr_below rest (width - half) half whole;
+        digits = λ j l. bit_at-high rest half j ∙ (window.digits (half + j) (omega arith) ∙ ap (bit_at word) (omega arith));
+        before = omega (arith, window.before, sum_cat at half (bit_at word), low, ones);
+        here = omega (arith, window.here, ones_parts rest half, ones);
+      }
+
+-- a part of one digit is the one
+pub record IsFound (word k at : ℕ) : Type 0 where
+  pub within : at < 128
+  pub one : bit_at word at ≡ 1
+  pub before : sum_below at (bit_at word) ≡ k
+
+pub ends : (word k rest left at width : ℕ) → IsWindow word k rest left at width → width ≤ 1 → IsFound word k at
+ends word k rest left at width window last =
+    let single : width ≡ 1 = omega (arith, window.some) in
+    let few : rest < 2 = subst (λ w. rest < 2 ^ w) single window.fits in
+    let some : rest ≡ 1 = omega (arith, window.here, ones_le_self rest) in
+    let digit_is : bit_at rest 0 ≡ bit_at word at = window.digits 0 (omega arith) ∙ ap (bit_at word) (omega arith) in
+    record {
+      within = omega (arith, window.within);
+      one = sym digit_is ∙ ap (λ n. bit_at n 0) some;
+      before = omega (arith, window.before, window.here, ones_le_self rest);
+    }
+
+-- ---- the two words of a set
+
+module _ (set : NodeSet) (low : set.low < 2 ^ 128) (high : set.high < 2 ^ 128) where
+  before_low : (n : ℕ) → n ≤ 128 → sum_below n (λ j. digit (has_node (nodes_of set) j)) ≡ sum_below n (bit_at set.low)
+  before_low n l = sum_same n (λ j. digit (has_node (nodes_of set) j)) (bit_at set.low) (λ j m. ap digit (has-low set j (omega arith)) ∙ digit_bit set.low j)
+
+  pub nth_low : (k n : ℕ) → IsFound set.low k n → slice_get (members (nodes_of set)) k ≡ Some n
+  nth_low k n found = nth_is (nodes_of set) n k (has-low set n found.within ∙ ap (λ b. b == 1) found.one) (before_low n (omega (arith, found.within)) ∙ found.before)
+
+  high_digit : (j : ℕ) → j < 128 → digit (has_node (nodes_of set) (128 + j)) ≡ bit_at set.high j
+  high_digit j l = ap digit (has-high set (128 + j) (omega arith) (omega arith)) ∙ (digit_bit set.high (128 + j - 128) ∙ ap (bit_at set.high) (omega arith))
+
+  pub nth_high : (k n : ℕ) → count_ones set.low ≤ k → IsFound set.high (k - count_ones set.low) n → slice_get (members (nodes_of set)) k ≡ Some (128 + n)
+  nth_high k n past found =
+      let l = found.within in
+      let here : digit (has_node (nodes_of set) (128 + n)) ≡ 1 = high_digit n l ∙ found.one in
+      nth_is (nodes_of set) (128 + n) k (true_of_digit (has_node (nodes_of set) (128 + n)) (omega arith))
+      (sum_cat 128 n (λ j. digit (has_node (nodes_of set) j)) ∙ both
+      (before_low 128 (omega arith) ∙ ones_sum 128 set.low low)
+      (sum_same n (λ j. digit (has_node (nodes_of set) (128 + j))) (bit_at set.high) (λ j m. high_digit j (omega arith)) ∙ found.before))
+    where
+      both : {a b : ℕ} → a ≡ count_ones set.low → b ≡ k - count_ones set.low → a + b ≡ k
+      both e f = omega arith
+
+  -- number k is one of the low word's, or of the high word's
+  pub high_has : (k : ℕ) → k < count_nodes (nodes_of set) → count_ones set.low ≤ k → k - count_ones set.low < count_ones set.high
+  high_has k l past = omega (arith, counted set low high)
