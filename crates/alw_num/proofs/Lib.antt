@@ -3,5 +3,6 @@ pub mod Sets
 pub mod Weigh
 pub mod Words
 pub mod MapLaws
+pub mod Ranks
 pub mod MapLengths
 pub mod Ranks

@@ -1,0 +1,7 @@
+pub mod Sums
+pub mod RowEvents
+pub mod MainEvents
+pub mod Reach
+pub mod Leaves
+pub mod Renewing
+pub mod Examples

@@ -1,0 +1,135 @@
+-- The events of rows: how many they are, and which is number k.
+use Rattle.std.proofs.Common.{◌≡◌, ℕ, zero, suc, add-zero, ◌+◌, ◌-◌, ◌<◌, ◌≤◌, Bool, true, false, cond, List, [], ◌∷◌, ◌++◌, length, map, replicate, get_or, set, slice_get, slice_index, Option, Some, refl, sym, ap, ◌∙◌, arith}
+use Rattle.std.proofs.lemmas.List.{length-append, length-map, length-set, length-replicate, map-set, get_or_read}
+use Rattle.std.proofs.lemmas.Option.{slice_get-map}
+use Rattle.std.specs.Option.{option_map}
+use Rattle.alw_num.specs.NodeSets.{members, count_nodes, nodes_of}
+use Rattle.alw_num.specs.Weights.{digit, sum_below}
+use Rattle.alw_num.proofs.Words.{count_at_most}
+use Rattle.alw_msg.specs.declared.events.Event.{Event}
+use Rattle.alw_ready.specs.declared.rows.Row.{Row}
+use Rattle.alw_ready.specs.Rows.{instr_at, handle_at, delivery, event_if, row_events, row_count, events_from, events_of, no_row, row_at, AreCounted}
+use Rattle.alw_ready.specs.Tallies.{sum_before, total, IsPlace}
+
+-- ---- one row
+
+length-if : (b : Bool) (event : Event) (rest : List Event) → length (event_if b event rest) ≡ digit b + length rest
+length-if true event rest = omega arith
+length-if false event rest = omega arith
+
+pub row_length : (at : ℕ) (row : Row) → length (row_events at row) ≡ row_count row
+row_length at row = go row.in_time (map (λ from. delivery from at) (members (nodes_of row.senders))) (length-map (members (nodes_of row.senders)) (λ from. delivery from at))
+  where
+    go : (b : Bool) (deliveries : List Event) → length deliveries ≡ count_nodes (nodes_of row.senders)
+        → length (cond b (event_if row.instr (instr_at at) (event_if row.handle (handle_at at) deliveries)) []) ≡ cond b (digit row.instr + (digit row.handle + count_nodes (nodes_of row.senders))) 0
+    go true deliveries e = omega (arith, length-if row.instr (instr_at at) (event_if row.handle (handle_at at) deliveries), length-if row.handle (handle_at at) deliveries)
+    go false deliveries e = refl
+
+at_if : (b : Bool) (event : Event) (rest : List Event) (k : ℕ) → k < digit b → slice_get (event_if b event rest) k ≡ Some event
+at_if true event rest zero l = refl
+at_if true event rest (suc k) l = absurd (omega arith)
+at_if false event rest k l = absurd (omega arith)
+
+past_if : (b : Bool) (event : Event) (rest : List Event) (k : ℕ) → digit b ≤ k → slice_get (event_if b event rest) k ≡ slice_get rest (k - digit b)
+past_if true event rest zero l = absurd (omega arith)
+past_if true event rest (suc k) l = let e : k ≡ suc k - 1 = omega arith in ap (slice_get rest) e
+past_if false event rest k l = let e : k ≡ k - 0 = omega arith in ap (slice_get rest) e
+
+module _ (at : ℕ) (row : Row) (k : ℕ) (timely : row.in_time ≡ true) where
+  inside_is : row_events at row ≡ event_if row.instr (instr_at at) (event_if row.handle (handle_at at) (map (λ from. delivery from at) (members (nodes_of row.senders))))
+  inside_is = rw timely refl
+
+  pub nth_instr : k < digit row.instr → slice_get (row_events at row) k ≡ Some (instr_at at)
+  nth_instr l = ap (λ events. slice_get events k) inside_is ∙ at_if row.instr (instr_at at) _ k l
+
+  pub nth_handle : digit row.instr ≤ k → k - digit row.instr < digit row.handle → slice_get (row_events at row) k ≡ Some (handle_at at)
+  nth_handle past l = ap (λ events. slice_get events k) inside_is ∙ (past_if row.instr (instr_at at) _ k past ∙ at_if row.handle (handle_at at) _ (k - digit row.instr) l)
+
+  pub nth_delivery : (from skip : ℕ) → skip ≡ digit row.instr + digit row.handle → skip ≤ k → slice_get (members (nodes_of row.senders)) (k - skip) ≡ Some from → slice_get (row_events at row) k ≡ Some (delivery from at)
+  nth_delivery from skip two past is =
+      let e : k - digit row.instr - digit row.handle ≡ k - skip = omega arith in
+      ap (λ events. slice_get events k) inside_is
+      ∙ (past_if row.instr (instr_at at) _ k (omega arith)
+      ∙ (past_if row.handle (handle_at at) _ (k - digit row.instr) (omega arith)
+      ∙ (slice_get-map (λ from. delivery from at) (members (nodes_of row.senders)) (k - digit row.instr - digit row.handle)
+      ∙ ap (option_map (λ from. delivery from at)) (ap (slice_get (members (nodes_of row.senders))) e ∙ is))))
+
+-- a row with events is in time, and counts its senders behind the two others
+pub counts_in_time : (row : Row) (k : ℕ) → k < row_count row → (row.in_time ≡ true) × (k < digit row.instr + digit row.handle + count_nodes (nodes_of row.senders))
+counts_in_time row k l = go row.in_time refl l
+  where
+    go : (b : Bool) → row.in_time ≡ b → k < cond b (digit row.instr + (digit row.handle + count_nodes (nodes_of row.senders))) 0 → (row.in_time ≡ true) × (k < digit row.instr + digit row.handle + count_nodes (nodes_of row.senders))
+    go true is m = (is, omega arith)
+    go false is m = absurd (omega arith)
+
+-- ---- all rows
+
+get_front : (xs ys : List Event) (k : ℕ) → k < length xs → slice_get (xs ++ ys) k ≡ slice_get xs k
+get_front [] ys k l = absurd (omega arith)
+get_front (x ∷ xs) ys zero l = refl
+get_front (x ∷ xs) ys (suc k) l = get_front xs ys k (omega arith)
+
+get_behind : (xs ys : List Event) (k : ℕ) → slice_get (xs ++ ys) (length xs + k) ≡ slice_get ys k
+get_behind [] ys k = let e : 0 + k ≡ k = omega arith in ap (slice_get ys) e
+get_behind (x ∷ xs) ys k = let e : suc (length xs) + k ≡ suc (length xs + k) = omega arith in ap (slice_get (x ∷ xs ++ ys)) e ∙ get_behind xs ys k
+
+-- a sum of one number more at its front
+sum_front : (n : ℕ) (f : ℕ → ℕ) → sum_below (suc n) f ≡ f 0 + sum_below n (λ k. f (suc k))
+sum_front zero f = refl
+sum_front (suc n) f = omega (arith, sum_front n f)
+
+pub events_counted : (at : ℕ) (rows : List Row) → length (events_from at rows) ≡ total (map row_count rows)
+events_counted at [] = refl
+events_counted at (row ∷ rows) =
+    omega (arith, length-append (row_events at row) (events_from (at + 1) rows), row_length at row, events_counted (at + 1) rows, sum_front (length (map row_count rows)) (slice_index (row_count row ∷ map row_count rows)))
+
+-- number k stands in the row of its place
+pub nth_event : (at : ℕ) (rows : List Row) (k place left : ℕ) → IsPlace (map row_count rows) k place left → slice_get (events_from at rows) k ≡ slice_get (row_events (at + place) (row_at rows place)) left
+nth_event at [] k place left found = absurd (omega (arith, found.below))
+nth_event at (row ∷ rows) k zero left found =
+    let e : k ≡ left = omega (arith, found.before) in
+    let l : left < length (row_events at row) = omega (arith, found.below, row_length at row) in
+    rw (add-zero, e) (get_front (row_events at row) (events_from (at + 1) rows) left l)
+nth_event at (row ∷ rows) k (suc place) left found =
+    let e : k ≡ length (row_events at row) + (sum_before (map row_count rows) place + left) = omega (arith, found.before, sum_front place (slice_index (row_count row ∷ map row_count rows)), row_length at row) in
+    let next : at + 1 + place ≡ at + suc place = omega arith in
+    ap (slice_get (events_from at (row ∷ rows))) e
+    ∙ (get_behind (row_events at row) (events_from (at + 1) rows) (sum_before (map row_count rows) place + left)
+    ∙ (nth_event (at + 1) rows (sum_before (map row_count rows) place + left) place left (record { before = refl; below = found.below })
+    ∙ ap (λ n. slice_get (row_events n (row_at rows place)) left) next))
+
+-- ---- an index
+
+pub few_senders : (row : Row) → count_nodes (nodes_of row.senders) ≤ 256
+few_senders row = count_at_most row.senders
+
+none_counted : (n : ℕ) → replicate n 0 ≡ map row_count (replicate n no_row)
+none_counted zero = refl
+none_counted (suc n) = ap (λ counts. 0 ∷ counts) (none_counted n)
+
+pub starts : (n : ℕ) (rows : List Row) (counts : List ℕ) → n ≤ 256 → rows ≡ replicate n no_row → counts ≡ replicate n 0 → AreCounted rows counts
+starts n rows counts few rows_are counts_are = record {
+  few = omega (arith, ap length rows_are, length-replicate {A = Row} n no_row);
+  counted = counts_are ∙ (none_counted n ∙ ap (map row_count) (sym rows_are));
+}
+
+module _ (rows : List Row) (counts : List ℕ) (are : AreCounted rows counts) where
+  pub total_is : (now : List Row) → rows ≡ now → total counts ≡ length (events_of now)
+  total_is now is = ap total are.counted ∙ (sym (events_counted 0 rows) ∙ ap (λ (seen : List Row). length (events_of seen)) is)
+
+  places : length counts ≡ length rows
+  places = ap length are.counted ∙ length-map rows row_count
+
+  pub nth_found : (now : List Row) (k place left : ℕ) (row : Row) → rows ≡ now → IsPlace counts k place left → place < length counts → row ≡ get_or rows place row → slice_get (events_of now) k ≡ slice_get (row_events place row) left
+  nth_found now k place left row is found within read =
+      let here : place < length rows = omega (arith, places) in
+      let e : 0 + place ≡ place = omega arith in
+      ap (λ (seen : List Row). slice_get (events_of seen) k) (sym is)
+      ∙ (nth_event 0 rows k place left (rw (← are.counted) found)
+      ∙ (λ x. slice_get (row_events (e x) (sym (get_or_read rows place row here read no_row) x)) left))
+
+  pub set_counted : (place count : ℕ) (row : Row) (next : List ℕ) → next ≡ set counts place count → count ≡ row_count row → AreCounted (set rows place row) next
+  set_counted place count row next next_is count_is = record {
+    few = omega (arith, are.few, length-set rows place row);
+    counted = next_is ∙ ((λ x. set (are.counted x) place (count_is x)) ∙ sym (map-set row_count rows place row));
+  }

@@ -1,0 +1,5 @@
+pub mod Tallies
+pub mod Rows
+pub mod Fits
+pub mod Changes
+pub mod Example

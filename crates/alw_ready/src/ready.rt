@@ -1,0 +1,85 @@
+ghost use Rattle.std.specs.Prelude.{◌≡◌, ◌<◌, ◌≤◌, length, replicate, slice_get, slice_set, Some, IfOk};
+ghost use Rattle.alw_ready.specs.Rows.{events_of, no_row};
+
+use crate::rows::Row;
+use crate::tallies::Tally;
+use alw_msg::Event;
+use alw_num::{NoMemory, NodeNo};
+use std::alloc::Global;
+use std::marker::Model;
+
+/// Which main events are enabled within the limit, as a row for each node. Contracts see the rows.
+#[derive(Debug, Drop)]
+pub struct Ready {
+    rows: Vec<Row>,
+    tally: Tally,
+}
+
+impl Model for Ready {
+    ghost use Rattle.std.specs.Prelude.{List};
+    ghost use Rattle.alw_ready.specs.declared.rows.Row.{Row};
+    ghost use Rattle.alw_ready.specs.Rows.{AreCounted};
+
+    ghost Value = { List Row };
+
+    ghost view = { λ r. r.rows.items };
+
+    ghost invariant = { λ r. AreCounted r.rows.items r.tally };
+}
+
+impl Ready {
+    /// Rows without events, for so many nodes. It takes all memory that is ever needed.
+    pub fn start(alloc: Global, nodes: u32) -> Result<Ready, NoMemory>
+        requires { nodes ≤ 256 }
+        ensures { IfOk result (λ ready. ready ≡ replicate nodes no_row) }
+    {
+        let tally = Tally::zeros(alloc, nodes)?;
+        let mut rows = Vec::with_capacity(alloc, nodes as usize)?;
+        for _node in 0..nodes {
+            rows.push_reserved(Row::none());
+        }
+        Ok(Ready { rows, tally })
+    }
+
+    /// The number of nodes.
+    pub fn nodes(&self) -> u16
+        ensures { result ≡ length self.now }
+    {
+        self.rows.len() as u16
+    }
+
+    /// The number of events.
+    pub fn count(&self) -> u32
+        ensures { result ≡ length (events_of self.now) }
+    {
+        self.tally.total()
+    }
+
+    /// Event number k in the schedule's order: by node, and of a node an instruction, an action of the
+    /// handler, and deliveries by sender.
+    pub fn nth(&self, k: u32) -> Event
+        requires { k < length (events_of self.now) }
+        ensures { slice_get (events_of self.now) k ≡ Some result }
+    {
+        let (place, k) = self.tally.find(k);
+        self.rows[place].nth(NodeNo(place as u16), k)
+    }
+
+    /// The row of a node.
+    pub fn row(&self, node: NodeNo) -> Row
+        requires { node.0 < length self.now }
+        ensures { slice_get self.now node.0 ≡ Some result }
+    {
+        self.rows[usize::from(node.0)]
+    }
+
+    /// The row of a node becomes this one.
+    pub fn set(&mut self, node: NodeNo, row: Row)
+        requires { node.0 < length self.old }
+        ensures { self.new ≡ slice_set self.old node.0 row }
+    {
+        let place = usize::from(node.0);
+        self.tally.set(place, row.count());
+        self.rows[place] = row;
+    }
+}

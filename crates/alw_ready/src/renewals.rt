@@ -1,0 +1,154 @@
+ghost use Rattle.std.specs.Prelude.{◌≡◌, ℕ, ◌<◌, ◌≤◌, cond, ◌||◌, ◌==◌, List, length};
+ghost use Rattle.alw_num.specs.NodeSets.{has_node, nodes_of};
+ghost use Rattle.alw_msg.specs.declared.events.Entry.{Entry};
+ghost use Rattle.alw_msg.specs.Events.{node_of};
+ghost use Rattle.alw_image.specs.Images.{node_count};
+ghost use Rattle.alw_model.specs.Machine.{state, IsLegal};
+ghost use Rattle.alw_lift.specs.Links.{GoBelow};
+ghost use Rattle.alw_order.specs.Orders.{takes_from};
+ghost use Rattle.alw_ready.specs.Rows.{instr_at, handle_at, delivery};
+ghost use Rattle.alw_ready.specs.Fits.{may_happen, is_in_time, RowFits, RowsFit};
+ghost use Rattle.alw_ready.specs.Changes.{IsRenewed, RowsFitBut, IsTold};
+
+use crate::changes::Happened;
+use crate::ready::Ready;
+use crate::rows::Row;
+use crate::views::View;
+use alw_msg::{Event, Sends};
+use alw_num::{NodeNo, NodeSet};
+
+impl Ready {
+    /// Every row is made anew: each node, and each message at the head of a link, is looked at once.
+    pub fn renew_all<V: View>(&mut self, view: &V)
+        requires counted { length self.old ≡ node_count (V.image view.now) }
+        requires few { node_count (V.image view.now) ≤ 256 }
+        ensures { RowsFit (V.image view.now) (V.parameters view.now) (V.state view.now) self.new }
+    {
+        for at in 0..self.nodes() {
+            let node = NodeNo(at);
+            self.set(node, row_of(view, node));
+        }
+    }
+
+    /// Takes the rows from before an event to after it, over the machine after it. It looks at the
+    /// event's own node, at the link that it took from, and at the links of its sends; where the event is
+    /// wide also at the heads of all links to its node that hold something; and where with it every
+    /// context has halted at all nodes.
+    pub fn renew<V: View>(&mut self, view: &V, happened: &Happened, sends: &Sends)
+        requires counted { length self.old ≡ node_count (V.image view.now) }
+        requires few { node_count (V.image view.now) ≤ 256 }
+        requires here { node_of happened.now.event < length self.old }
+        requires below { GoBelow (length self.old) sends.now.messages }
+        ensures { (journal : List Entry) → IsLegal (V.image view.now) (V.parameters view.now) journal →
+            IsTold (V.image view.now) (V.parameters view.now) (state (V.image view.now) (V.parameters view.now) journal) (V.state view.now) happened.now sends.now.messages →
+            RowsFit (V.image view.now) (V.parameters view.now) (state (V.image view.now) (V.parameters view.now) journal) self.old →
+            RowsFit (V.image view.now) (V.parameters view.now) (V.state view.now) self.new }
+    {
+        if happened.halted {
+            self.renew_all(view);
+            return;
+        }
+        let node = happened.event.node();
+        let row = self.row(node);
+        self.set(node, own_row(view, happened, row));
+        self.renew_sent(view, node, sends);
+    }
+
+    // Looks again at the heads of the links that a node sent to.
+    fn renew_sent<V: View>(&mut self, view: &V, from: NodeNo, sends: &Sends)
+        requires counted { length self.old ≡ node_count (V.image view.now) }
+        requires few { node_count (V.image view.now) ≤ 256 }
+        requires below { GoBelow (length self.old) sends.now.messages }
+        ensures { RowsFitBut (V.image view.now) (V.parameters view.now) (V.state view.now) from.0 sends.now.messages self.old →
+            RowsFit (V.image view.now) (V.parameters view.now) (V.state view.now) self.new }
+    {
+        for i in 0..sends.len() {
+            let (to, _) = sends.at(i);
+            let row = self.row(to);
+            let senders = looked_at(view, row.senders, from, to);
+            self.set(to, Row { senders, ..row });
+        }
+    }
+}
+
+// The row of a node.
+fn row_of<V: View>(view: &V, node: NodeNo) -> Row
+    requires few { node_count (V.image view.now) ≤ 256 }
+    requires here { node.0 < node_count (V.image view.now) }
+    ensures { RowFits (V.image view.now) (V.parameters view.now) (V.state view.now) node.0 result }
+{
+    row_with(view, node, deliverable(view, node))
+}
+
+// The row of an event's own node after it, from the one before it.
+fn own_row<V: View>(view: &V, happened: &Happened, row: Row) -> Row
+    requires few { node_count (V.image view.now) ≤ 256 }
+    requires here { node_of happened.now.event < node_count (V.image view.now) }
+    ensures in_time { result.in_time ≡ is_in_time (V.parameters view.now) (V.state view.now) (node_of happened.now.event) }
+    ensures renewed { IsRenewed (may_happen (V.image view.now) (V.parameters view.now) (V.state view.now)) (node_of happened.now.event)
+        (λ from. happened.now.wide || takes_from happened.now.event from (node_of happened.now.event)) row result }
+{
+    let senders = own_senders(view, happened, row.senders);
+    row_with(view, happened.event.node(), senders)
+}
+
+// The row of a node with these senders.
+fn row_with<V: View>(view: &V, node: NodeNo, senders: NodeSet) -> Row
+    requires { node.0 < node_count (V.image view.now) }
+    ensures in_time { result.in_time ≡ is_in_time (V.parameters view.now) (V.state view.now) node.0 }
+    ensures instr { result.instr ≡ may_happen (V.image view.now) (V.parameters view.now) (V.state view.now) (instr_at node.0) }
+    ensures handle { result.handle ≡ may_happen (V.image view.now) (V.parameters view.now) (V.state view.now) (handle_at node.0) }
+    ensures senders { result.senders ≡ senders }
+{
+    Row {
+        in_time: view.is_in_time(node),
+        instr: view.may(Event::Instr { node }),
+        handle: view.may(Event::Handle { node }),
+        senders,
+    }
+}
+
+// The nodes from which a delivery to an event's own node may happen after it, from those before it.
+fn own_senders<V: View>(view: &V, happened: &Happened, senders: NodeSet) -> NodeSet
+    requires few { node_count (V.image view.now) ≤ 256 }
+    requires here { node_of happened.now.event < node_count (V.image view.now) }
+    ensures { (from : ℕ) → has_node (nodes_of result) from ≡ cond (happened.now.wide || takes_from happened.now.event from (node_of happened.now.event))
+        (may_happen (V.image view.now) (V.parameters view.now) (V.state view.now) (delivery from (node_of happened.now.event))) (has_node (nodes_of senders) from) }
+{
+    if happened.wide {
+        return deliverable(view, happened.event.node());
+    }
+    match happened.event {
+        Event::Deliver { from, to } => looked_at(view, senders, from, to),
+        Event::Instr { .. } | Event::Handle { .. } | Event::Evict { .. } => senders,
+    }
+}
+
+// The nodes from which a delivery to this one may happen. It looks at those alone that have something on
+// their link.
+fn deliverable<V: View>(view: &V, to: NodeNo) -> NodeSet
+    requires few { node_count (V.image view.now) ≤ 256 }
+    requires here { to.0 < node_count (V.image view.now) }
+    ensures { (from : ℕ) → has_node (nodes_of result) from ≡ may_happen (V.image view.now) (V.parameters view.now) (V.state view.now) (delivery from to.0) }
+{
+    let mut found = NodeSet::empty();
+    let mut rest = view.senders(to);
+    while let Some(from) = rest.lowest() {
+        rest = rest.without(from);
+        found = looked_at(view, found, from, to);
+    }
+    found
+}
+
+// The set with or without a sender, as a delivery from it may happen or not.
+fn looked_at<V: View>(view: &V, senders: NodeSet, from: NodeNo, to: NodeNo) -> NodeSet
+    requires { node_count (V.image view.now) ≤ 256 }
+    ensures { (k : ℕ) → has_node (nodes_of result) k ≡ cond (k == from.0)
+        (may_happen (V.image view.now) (V.parameters view.now) (V.state view.now) (delivery from.0 to.0)) (has_node (nodes_of senders) k) }
+{
+    if view.may(Event::Deliver { from, to }) {
+        senders.with(from)
+    } else {
+        senders.without(from)
+    }
+}

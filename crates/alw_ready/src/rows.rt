@@ -1,0 +1,72 @@
+ghost use Rattle.std.specs.Prelude.{◌≡◌, ◌<◌, ◌≤◌, slice_get, Some};
+ghost use Rattle.alw_num.specs.Weights.{digit};
+ghost use Rattle.alw_ready.specs.Rows.{row_events, row_count, no_row};
+
+use alw_msg::Event;
+use alw_num::{NodeNo, NodeSet};
+
+/// What is kept of a node: which of its main events are enabled within the limit.
+#[derive(Clone, Copy, Debug, PartialEq, Eq)]
+pub struct Row {
+    /// The node's clock leaves room for a next stamp within the limit, or every context of the
+    /// machine has halted. Where neither is so, the row has no events, whatever else it says.
+    pub in_time: bool,
+    /// An instruction is enabled.
+    pub instr: bool,
+    /// An action of the trap handler is enabled.
+    pub handle: bool,
+    /// The nodes from which a delivery is enabled.
+    pub senders: NodeSet,
+}
+
+impl Row {
+    /// A row without events.
+    pub fn none() -> Row
+        ensures { result ≡ no_row }
+    {
+        Row {
+            in_time: false,
+            instr: false,
+            handle: false,
+            senders: NodeSet { low: 0, high: 0 },
+        }
+    }
+
+    /// The number of its events.
+    pub fn count(&self) -> u16
+        ensures { result ≡ row_count self.now }
+    {
+        if self.in_time {
+            one_if(self.instr) + one_if(self.handle) + self.senders.count() as u16
+        } else {
+            0
+        }
+    }
+
+    /// Event number k of the row of a node: an instruction, an action of the handler, and deliveries
+    /// by sender.
+    pub fn nth(&self, node: NodeNo, k: u32) -> Event
+        requires { k < row_count self.now }
+        ensures { slice_get (row_events node.0 self.now) k ≡ Some result }
+    {
+        let handle = u32::from(one_if(self.instr));
+        let deliver = handle + u32::from(one_if(self.handle));
+        if k < handle {
+            Event::Instr { node }
+        } else if k < deliver {
+            Event::Handle { node }
+        } else {
+            Event::Deliver {
+                from: self.senders.nth(k - deliver),
+                to: node,
+            }
+        }
+    }
+}
+
+// 1 where a test holds, and else 0.
+fn one_if(test: bool) -> u16
+    ensures { result ≡ digit test }
+{
+    if test { 1 } else { 0 }
+}

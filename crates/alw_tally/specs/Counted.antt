@@ -1,0 +1,104 @@
+-- What one event adds to the counts, and how much that is at most.
+use Rattle.std.specs.Prelude.{ℕ, ◌+◌, ◌==◌, ◌≤◌, Bool, Option, Some, None, List, [], ◌∷◌}
+use Rattle.std.specs.List.{AllByRecursion}
+use Rattle.alw_num.specs.Weights.{digit, weigh}
+use Rattle.alw_num.specs.Maps.{passes}
+use Rattle.sparc_table.specs.declared.outcomes.Outcome.TheVariants.{Trap}
+use Rattle.alw_msg.specs.declared.messages.Kind.{Kind}
+use Rattle.alw_msg.specs.declared.messages.Kind.TheVariants as kinds
+use Rattle.alw_msg.specs.declared.messages.Msg.{Msg}
+use Rattle.alw_msg.specs.Kinds.{kind_number}
+use Rattle.alw_msg.specs.Contents.{content}
+use Rattle.alw_image.specs.declared.parts.Parts.{Parts}
+use Rattle.alw_model.specs.declared.ends.TrapAt.{TrapAt}
+use Rattle.alw_model.specs.declared.steps.Counts.{Counts}
+use Rattle.alw_model.specs.declared.steps.Did.{Did}
+use Rattle.alw_model.specs.declared.steps.Did.TheVariants.{Turn}
+use Rattle.alw_model.specs.Counts.{is_turn, is_miss, is_eviction, is_handling, is_spill, is_data, hops_between}
+use Rattle.alw_tally.specs.declared.counting.Sent.{Sent}
+use Rattle.alw_tally.specs.declared.happenings.Happened.{Happened}
+
+-- the trapping turn that an event was, if it was one, given the event's place in the journal
+abbrev pub trap_by : ℕ → Happened → Did → Option TrapAt
+trap_by entry happened (Turn slot (Trap tt)) = Some (record { entry = entry; node = happened.node.0; slot = slot; pc = happened.pc; tt = tt })
+trap_by entry happened _ = None
+
+-- a message, if there is one, brings a line to a cache
+abbrev pub brings_line : Option Msg → Bool
+brings_line taken = passes (λ msg. is_data (content msg)) taken
+
+abbrev pub is_of_kind : Kind → ℕ × Msg → Bool
+is_of_kind kind send = kind_number send.1.kind == kind_number kind
+
+-- the messages of a kind
+abbrev pub of_kind : Kind → List (ℕ × Msg) → ℕ
+of_kind kind sends = weigh (λ send. digit (is_of_kind kind send)) sends
+
+-- so many messages of each kind, and so many hops
+abbrev pub by_kinds : (Kind → ℕ) → ℕ → Sent
+by_kinds count hops = record {
+  rreq = count kinds.RREQ;
+  wreq = count kinds.WREQ;
+  repm = count kinds.REPM;
+  update = count kinds.UPDATE;
+  ackc = count kinds.ACKC;
+  rdata = count kinds.RDATA;
+  wdata = count kinds.WDATA;
+  inv = count kinds.INV;
+  busy = count kinds.BUSY;
+  hops = hops;
+}
+
+-- what a node sends, counted
+abbrev pub sent_of : Parts → ℕ → List (ℕ × Msg) → Sent
+sent_of parts from sends = by_kinds (λ kind. of_kind kind sends) (weigh (λ send. hops_between parts from send.0) sends)
+
+-- one message of a kind more
+abbrev pub with_kind : Sent → Kind → Sent
+with_kind s kinds.RREQ = record s { rreq = s.rreq + 1 }
+with_kind s kinds.WREQ = record s { wreq = s.wreq + 1 }
+with_kind s kinds.REPM = record s { repm = s.repm + 1 }
+with_kind s kinds.UPDATE = record s { update = s.update + 1 }
+with_kind s kinds.ACKC = record s { ackc = s.ackc + 1 }
+with_kind s kinds.RDATA = record s { rdata = s.rdata + 1 }
+with_kind s kinds.WDATA = record s { wdata = s.wdata + 1 }
+with_kind s kinds.INV = record s { inv = s.inv + 1 }
+with_kind s kinds.BUSY = record s { busy = s.busy + 1 }
+
+-- the counts of an event, by what it did and what it sent
+abbrev pub counts_by : Happened → Sent → Counts
+counts_by happened sent = record {
+  entries = 1;
+  turns = digit (is_turn happened.did);
+  misses = digit (is_miss happened.did);
+  evicts = digit (is_eviction happened.did);
+  rreq = sent.rreq;
+  wreq = sent.wreq;
+  repm = sent.repm;
+  update = sent.update;
+  ackc = sent.ackc;
+  rdata = sent.rdata;
+  wdata = sent.wdata;
+  inv = sent.inv;
+  busy = sent.busy;
+  hops = sent.hops;
+  handlers = digit (is_handling happened.did);
+  spills = digit (is_spill happened.did);
+  replies = digit (brings_line happened.taken);
+  used = digit happened.used;
+}
+
+-- the counts of one event
+abbrev pub counts_of_event : Parts → Happened → List (ℕ × Msg) → Counts
+counts_of_event parts happened sends = counts_by happened (sent_of parts happened.node.0 sends)
+
+-- no number is above another
+abbrev pub AreFew : ℕ → Sent → Type 0
+AreFew most s = AllByRecursion (λ count. count ≤ most) (
+    s.rreq ∷ s.wreq ∷ s.repm ∷ s.update ∷ s.ackc ∷ s.rdata ∷ s.wdata ∷ s.inv ∷ s.busy ∷ s.hops ∷ [])
+
+-- no count is above a number
+abbrev pub AreAtMost : ℕ → Counts → Type 0
+AreAtMost most c = AllByRecursion (λ count. count ≤ most) (
+    c.entries ∷ c.turns ∷ c.misses ∷ c.evicts ∷ c.rreq ∷ c.wreq ∷ c.repm ∷ c.update ∷ c.ackc ∷
+    c.rdata ∷ c.wdata ∷ c.inv ∷ c.busy ∷ c.hops ∷ c.handlers ∷ c.spills ∷ c.replies ∷ c.used ∷ [])

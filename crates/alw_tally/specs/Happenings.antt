@@ -1,0 +1,25 @@
+-- One event as a tally is told of it.
+use Rattle.std.specs.Prelude.{◌≡◌, ℕ, List}
+use Rattle.sparc_table.specs.declared.outcomes.Outcome.TheVariants.{Trap}
+use Rattle.alw_msg.specs.declared.messages.Msg.{Msg}
+use Rattle.alw_model.specs.declared.steps.Did.{Did}
+use Rattle.alw_model.specs.declared.steps.Did.TheVariants.{Turn}
+use Rattle.alw_model.specs.Contexts.{slot_at}
+use Rattle.alw_model.specs.NodeStates.{NodeState}
+use Rattle.alw_model.specs.Runs.{Moment, number_of}
+use Rattle.alw_model.specs.Counts.{uses_hold}
+use Rattle.alw_tally.specs.declared.happenings.Happened.{Happened}
+
+-- the PC is that of the slot that ran, where the event was a trapping turn
+abbrev pub HasPc : NodeState → ℕ → Did → Type 0
+HasPc before pc (Turn slot (Trap tt)) = pc ≡ (slot_at before.slots slot).regs.pc
+HasPc before pc _ = Unit {0}
+
+-- what a tally is told of an event is that of an event of a run
+pub record IsOf (happened : Happened) (sends : List (ℕ × Msg)) (moment : Moment) : Type 0 where
+  pub node : happened.node.0 ≡ number_of moment
+  pub did : happened.did ≡ moment.stepped.did
+  pub taken : happened.taken ≡ moment.taken
+  pub used : happened.used ≡ uses_hold moment.before moment.stepped.did
+  pub pc : HasPc moment.before happened.pc moment.stepped.did
+  pub sends_are : sends ≡ moment.stepped.sends

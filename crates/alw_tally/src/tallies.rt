@@ -1,0 +1,141 @@
+ghost use Rattle.std.specs.Prelude.{◌≡◌, ◌+◌, ◌≤◌, ◌++◌, [], length, option_to_list, OnOk};
+ghost use Rattle.alw_image.specs.declared.parts.Parts.{Parts};
+ghost use Rattle.alw_model.specs.Runs.{Moment};
+ghost use Rattle.alw_tally.specs.Told.{contexts_of, words_printed, told_of, told_with};
+ghost use Rattle.alw_tally.specs.Happenings.{IsOf};
+
+use crate::counting::{counts_of_event, sum_of};
+use crate::happenings::{Happened, trap_of, turn_of};
+use alw_image::Image;
+use alw_model::{Counts, TrapAt};
+use alw_msg::{Prints, Sends, Turns};
+use alw_num::{MOST_NODES, NoMemory, Roomy};
+use sparc_table::Outcome;
+use std::alloc::Global;
+use std::marker::Model;
+
+/// What a run tells, kept as it goes: the contexts that took turns, the words that they printed, all
+/// counts, and the first trapping turn.
+///
+/// Memory is asked for before an event, by `reserve`, so that the event itself needs none.
+#[derive(Debug, Drop)]
+pub struct Tally {
+    turns: Roomy<u32>,
+    prints: Roomy<(u32, u32)>,
+    counts: Counts,
+    trap: Option<TrapAt>,
+}
+
+impl Model for Tally {
+    ghost use Rattle.std.specs.Prelude.{◌-◌, ◌^◌, min};
+    ghost use Rattle.alw_tally.specs.Tallies.{Tallied, IsWithin};
+
+    ghost Value = { Tallied };
+
+    ghost view = { λ t. record {
+      told = record { turns = t.turns.list; prints = t.prints.list; counts = t.counts; trap = t.trap };
+      room = min (2 ^ 32 - 1 - t.counts.entries) (min t.turns.room t.prints.room);
+    } };
+
+    ghost invariant = { λ t. IsWithin (record { turns = t.turns.list; prints = t.prints.list; counts = t.counts; trap = t.trap }) };
+}
+
+impl Tally {
+    /// The tally of a run that hasn't begun. It takes no memory.
+    pub fn start(alloc: Global) -> Tally
+        ensures { (parts : Parts) → result.told ≡ told_of parts [] }
+    {
+        Tally {
+            turns: Roomy::empty(alloc),
+            prints: Roomy::empty(alloc),
+            counts: Counts::default(),
+            trap: None,
+        }
+    }
+
+    /// Makes room for one event more.
+    pub fn reserve(&mut self) -> Result<(), NoMemory>
+        ensures told { self.new.told ≡ self.old.told }
+        ensures ok { OnOk result (1 ≤ self.new.room) }
+        ensures room { self.old.room ≤ self.new.room }
+    {
+        if self.counts.entries == u64::from(u32::MAX) {
+            return Err(NoMemory);
+        }
+        self.turns.reserve(1)?;
+        self.prints.reserve(1)?;
+        Ok(())
+    }
+
+    /// One event more of a run of this image, with what the event sent.
+    pub fn add(&mut self, image: &Image, happened: &Happened, sends: &Sends)
+        requires room { 1 ≤ self.old.room }
+        requires few { length sends.now.messages ≤ MOST_NODES }
+        ensures told { (moment : Moment) → IsOf happened.now sends.now.messages moment → self.new.told ≡ told_with image.now self.old.told moment }
+        ensures room { self.old.room ≤ self.new.room + 1 }
+    {
+        let trap = trap_of(self.counts.entries as u32, happened);
+        self.trap = self.trap.or(trap);
+        self.counts = sum_of(&self.counts, &counts_of_event(image, happened, sends));
+        add_turn(&mut self.turns, &mut self.prints, turn_of(image, happened));
+    }
+
+    /// The contexts that took turns, in order.
+    pub fn turns(&self) -> &[u32]
+        ensures { result.now ≡ self.now.told.turns }
+    {
+        self.turns.members()
+    }
+
+    /// The words that were printed, in order, each with the context that printed it.
+    pub fn prints(&self) -> &[(u32, u32)]
+        ensures { result.now ≡ self.now.told.prints }
+    {
+        self.prints.members()
+    }
+
+    /// The counts.
+    pub fn counts(&self) -> Counts
+        ensures { result ≡ self.now.told.counts }
+    {
+        self.counts
+    }
+
+    /// The first trapping turn. None exactly where no turn trapped.
+    pub fn trap(&self) -> Option<TrapAt>
+        ensures { result ≡ self.now.told.trap }
+    {
+        self.trap
+    }
+
+    /// The turns and the prints, as lists of their own.
+    pub fn into_parts(self) -> (Turns, Prints)
+        ensures turns { result.0 ≡ self.told.turns }
+        ensures prints { result.1 ≡ self.told.prints }
+    {
+        let Tally {
+            turns,
+            prints,
+            counts: _,
+            trap: _,
+        } = self;
+        (turns.into_list(), prints.into_list())
+    }
+}
+
+// A turn more, if there is one, and the word that it printed, if it printed one.
+fn add_turn(turns: &mut Roomy<u32>, prints: &mut Roomy<(u32, u32)>, turn: Option<(u32, Outcome)>)
+    requires turn { 1 ≤ turns.old.room }
+    requires print { 1 ≤ prints.old.room }
+    ensures turns { turns.new.list ≡ turns.old.list ++ contexts_of (option_to_list turn) }
+    ensures prints { prints.new.list ≡ prints.old.list ++ words_printed (option_to_list turn) }
+    ensures turns_room { turns.old.room ≤ turns.new.room + 1 }
+    ensures prints_room { prints.old.room ≤ prints.new.room + 1 }
+{
+    if let Some((context, outcome)) = turn {
+        turns.push(context);
+        if let Outcome::Out { word } = outcome {
+            prints.push((context, word));
+        }
+    }
+}
