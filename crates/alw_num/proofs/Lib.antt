@@ -5,4 +5,3 @@ pub mod Words
 pub mod MapLaws
 pub mod Ranks
 pub mod MapLengths
-pub mod Ranks

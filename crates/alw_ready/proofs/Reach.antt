@@ -30,7 +30,8 @@ use Rattle.alw_model.specs.LimitLess.{Directory, directory_start, is_trapped, is
 use Rattle.alw_model.specs.Caches.{Copy, Cache, Transaction, set_of, copy_at, grants, granted_copy, replaced, invalidate, ended_by}
 use Rattle.alw_model.specs.Contexts.{Slot, slot_at, no_slot, running, ran, woken, wake, is_held}
 use Rattle.alw_model.specs.NodeStates.{NodeState, home_at, with_home, place_of, may, may_deliver, may_reach, may_reach_cache}
-use Rattle.alw_model.specs.NodeSteps.{Stepped, status_after, written, take_turn, miss, access, instr_by, instr, at_home, slots_after, at_cache, deliver_by, deliver, handle_by, handle_front, evict_from, event_at}
+use Rattle.alw_model.specs.ProcessorSteps.{status_after, written, slots_after}
+use Rattle.alw_model.specs.NodeSteps.{Stepped, take_turn, miss, access, instr_by, instr, at_home, at_cache, deliver_by, deliver, handle_by, handle_front, evict_from, event_at}
 use Rattle.alw_model.proofs.Journals.{and_parts}
 use Rattle.alw_lift.proofs.Instructions.{kept_is}
 use Rattle.alw_lift.proofs.Steps.{not_is}
@@ -149,10 +150,10 @@ module _ (parts : Parts) (parameters : Parameters) (number stamp : ℕ) (node : 
 
   -- a turn without a hold, which leaves this cache
   turn_keeps : (slot : ℕ) (cache : Cache) (regs : Regs) (outcome : Outcome) → not (hold_count (ran node.slots slot regs (status_after regs outcome)) == hold_count node.slots) ≡ false → ((line : ℕ) → is_guarded node.slots (replaced parameters.sets cache line) ≡ is_guarded node.slots (replaced parameters.sets node.cache line))
-      → KeepsReach parts parameters node (take_turn node slot cache regs outcome).node
+      → KeepsReach parts parameters node (take_turn parts parameters number node slot cache regs outcome).node
   turn_keeps slot cache regs outcome none guarded = record { homes = λ line. refl; held = held_ran node.slots slot regs (status_after regs outcome) (unheld node.slots slot regs (status_after regs outcome) none); guarded = guarded }
 
-  miss_keeps : (slot line : ℕ) (mode : Mode) → not (hold_count (ran node.slots slot (slot_at node.slots slot).regs (Waiting (record { 0 = line }))) == hold_count node.slots) ≡ false → KeepsReach parts parameters node (miss parts number stamp node slot line mode).node
+  miss_keeps : (slot line : ℕ) (mode : Mode) → not (hold_count (ran node.slots slot (slot_at node.slots slot).regs (Waiting (record { 0 = line }))) == hold_count node.slots) ≡ false → KeepsReach parts parameters node (miss parts parameters number stamp node slot line mode).node
   miss_keeps slot line mode none = record { homes = λ k. refl; held = held_ran node.slots slot (slot_at node.slots slot).regs (Waiting (record { 0 = line })) (unheld node.slots slot (slot_at node.slots slot).regs (Waiting (record { 0 = line })) none); guarded = λ k. refl }
 
   written_guards : (copy : Copy) (mode : Mode) (body : Line) → value_at node.cache (set_of parameters.sets copy.line) ≡ Some copy
@@ -183,7 +184,7 @@ module _ (parts : Parts) (parameters : Parameters) (number stamp : ℕ) (node : 
       turn_keeps slot node.cache after.0 after.2 narrow (λ line. refl)
 
   instr_keeps : (slot : Option ℕ) → is_wide_step node taken (instr parts parameters number stamp node slot) ≡ false → KeepsReach parts parameters node (instr parts parameters number stamp node slot).node
-  instr_keeps None narrow = same_reach
+  instr_keeps None narrow = record { homes = λ line. refl; held = λ line. refl; guarded = λ line. refl }
   instr_keeps (Some slot) narrow = need_keeps slot (need_of parts.code (slot_at node.slots slot).regs (line_count parts)) narrow
 
   -- the home table leaves a meta state
@@ -217,7 +218,7 @@ module _ (parts : Parts) (parameters : Parameters) (number stamp : ℕ) (node : 
       let b = kept_is (λ (c : Copy). c.line == line) (value_at node.cache (set_of parameters.sets line)) copy e in
       guarded_left parameters node.slots node.cache (set_of parameters.sets line) (ap (is_guarded node.slots) b.0 ∙ (ap (is_held node.slots) (eqb-true copy.line line b.1) ∙ free)) k
 
-  cache_keeps : (line : ℕ) (said : ToCache) → IsTrue (may_reach_cache parameters node line said) → brings_line said ≡ false → KeepsReach parts parameters node (at_cache parts parameters number stamp node line said).node
+  cache_keeps : (line : ℕ) (said : ToCache) → IsTrue (may_reach_cache parameters.sets node.slots node.cache line said) → brings_line said ≡ false → KeepsReach parts parameters node (at_cache parts parameters number stamp node line said).node
   cache_keeps line (RDATA body) may narrow = absurd (true≢false narrow)
   cache_keeps line (WDATA body) may narrow = absurd (true≢false narrow)
   cache_keeps line BUSY may narrow = record { homes = λ k. refl; held = held_after node.slots line (ended_by node.transactions line BUSY); guarded = λ k. refl }
@@ -240,15 +241,15 @@ module _ (parts : Parts) (parameters : Parameters) (number stamp : ℕ) (node : 
   delivery_keeps from to None may narrow = same_reach
   delivery_keeps from to (Some msg) may narrow = message_keeps msg (content msg) (and_parts _ (may_reach parts parameters node msg.line.0 (content msg)) may).1 (brought_is msg (content msg) narrow refl) narrow
 
-  packet_keeps : (rest : List Msg) (packet : Msg) (said : Content) → is_wide_step node taken (handle_by parts number stamp (record node { packets = rest }) packet said) ≡ false → KeepsReach parts parameters node (handle_by parts number stamp (record node { packets = rest }) packet said).node
+  packet_keeps : (rest : List Msg) (packet : Msg) (said : Content) → is_wide_step node taken (handle_by parts parameters number stamp (record node { packets = rest }) packet said) ≡ false → KeepsReach parts parameters node (handle_by parts parameters number stamp (record node { packets = rest }) packet said).node
   packet_keeps rest packet (ForCache said) narrow = record { homes = λ line. refl; held = λ line. refl; guarded = λ line. refl }
   packet_keeps rest packet (ForMemory said) narrow = absurd (true≢false narrow)
 
-  queue_keeps : (queue : List Msg) → is_wide_step node taken (handle_front parts number stamp node queue) ≡ false → KeepsReach parts parameters node (handle_front parts number stamp node queue).node
-  queue_keeps [] narrow = same_reach
+  queue_keeps : (queue : List Msg) → is_wide_step node taken (handle_front parts parameters number stamp node queue) ≡ false → KeepsReach parts parameters node (handle_front parts parameters number stamp node queue).node
+  queue_keeps [] narrow = record { homes = λ line. refl; held = λ line. refl; guarded = λ line. refl }
   queue_keeps (packet ∷ rest) narrow = packet_keeps rest packet (content packet) narrow
 
-  evict_keeps : (emptied : ℕ) → IsTrue (passes (λ copy. not (is_held node.slots copy.line)) (value_at node.cache emptied)) → KeepsReach parts parameters node (evict_from parts number stamp node emptied).node
+  evict_keeps : (emptied : ℕ) → IsTrue (passes (λ copy. not (is_held node.slots copy.line)) (value_at node.cache emptied)) → KeepsReach parts parameters node (evict_from parts parameters number stamp node emptied).node
   evict_keeps emptied may = record { homes = λ line. refl; held = λ line. refl; guarded = guarded_left parameters node.slots node.cache emptied (free (value_at node.cache emptied) may) }
     where
       free : (o : Option Copy) → IsTrue (passes (λ copy. not (is_held node.slots copy.line)) o) → is_guarded node.slots o ≡ false

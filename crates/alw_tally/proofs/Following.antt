@@ -31,7 +31,8 @@ use Rattle.alw_model.specs.LimitLess.{is_trapped}
 use Rattle.alw_model.specs.Caches.{Cache, Copy, Transaction, granted_copy, ended_by}
 use Rattle.alw_model.specs.Contexts.{Slot, no_slot, slot_at, running, turn_order, ran, woken, wake}
 use Rattle.alw_model.specs.NodeStates.{NodeState, home_at, stamp_of, may}
-use Rattle.alw_model.specs.NodeSteps.{Stepped, status_after, take_turn, miss, access, instr_by, instr, slots_after, at_home, at_cache, deliver_by, deliver, handle_by, handle_front, event_at, node_step}
+use Rattle.alw_model.specs.ProcessorSteps.{status_after, slots_after}
+use Rattle.alw_model.specs.NodeSteps.{Stepped, take_turn, miss, access, instr_by, instr, at_home, at_cache, deliver_by, deliver, handle_by, handle_front, event_at, node_step}
 use Rattle.alw_model.specs.Machine.{MachineState, no_node, node_at, taken_by, is_enabled, stepped_by, step}
 use Rattle.alw_model.proofs.Journals.{and_parts}
 use Rattle.alw_tally.specs.declared.remains.Remains.{Remains}
@@ -133,20 +134,20 @@ record Changes (change : Change) (before after : NodeState) : Type 0 where
   packets : packets_in after + change.goes ≡ packets_in before + change.comes
 
 module _ (parts : Parts) (parameters : Parameters) (number stamp : ℕ) (node : NodeState) where
-  turn_changes : (slot : ℕ) (cache : Cache) (regs : Regs) (outcome : Outcome) → Runs node.slots slot → let s = take_turn node slot cache regs outcome in Changes (change_by s.did) node s.node
+  turn_changes : (slot : ℕ) (cache : Cache) (regs : Regs) (outcome : Outcome) → Runs node.slots slot → let s = take_turn parts parameters number node slot cache regs outcome in Changes (change_by s.did) node s.node
   turn_changes slot cache regs outcome is = go outcome
       (ran_counts is_live node.slots slot regs (status_after regs outcome) is) (ran_counts has_trapped node.slots slot regs (status_after regs outcome) is)
     where
       go : (outcome : Outcome) → counted is_live (ran node.slots slot regs (status_after regs outcome)) + 1 ≡ counted is_live node.slots + digit (is_live (status_after regs outcome))
           → counted has_trapped (ran node.slots slot regs (status_after regs outcome)) + 0 ≡ counted has_trapped node.slots + digit (has_trapped (status_after regs outcome))
-          → let s = take_turn node slot cache regs outcome in Changes (change_by s.did) node s.node
+          → let s = take_turn parts parameters number node slot cache regs outcome in Changes (change_by s.did) node s.node
       go Halt live trapped = record { live = omega arith; trapped = omega arith; packets = omega arith }
       go (Trap type) live trapped = record { live = omega arith; trapped = omega arith; packets = omega arith }
       go Done live trapped = record { live = omega arith; trapped = omega arith; packets = omega arith }
       go (Miss line mode) live trapped = record { live = omega arith; trapped = omega arith; packets = omega arith }
       go (Out word) live trapped = record { live = omega arith; trapped = omega arith; packets = omega arith }
 
-  miss_changes : (slot line : ℕ) (mode : Mode) → Runs node.slots slot → let s = miss parts number stamp node slot line mode in Changes (change_by s.did) node s.node
+  miss_changes : (slot line : ℕ) (mode : Mode) → Runs node.slots slot → let s = miss parts parameters number stamp node slot line mode in Changes (change_by s.did) node s.node
   miss_changes slot line mode is =
       let waits = Waiting (record { 0 = line }) in
       let live = ran_counts is_live node.slots slot (slot_at node.slots slot).regs waits is in
@@ -166,7 +167,7 @@ module _ (parts : Parts) (parameters : Parameters) (number stamp : ℕ) (node : 
   nothing_changes = record { live = omega arith; trapped = omega arith; packets = omega arith }
 
   instr_changes : (o : Option ℕ) → running node.slots node.current ≡ o → let s = instr parts parameters number stamp node o in Changes (change_by s.did) node s.node
-  instr_changes None found = nothing_changes
+  instr_changes None found = record { live = omega arith; trapped = omega arith; packets = omega arith }
   instr_changes (Some slot) found = need_changes slot (need_of parts.code (slot_at node.slots slot).regs (line_count parts)) (runs node.slots node.current slot found)
 
   home_changes : (msg : Msg) (said : ToMemory) (traps : Bool) → let s = at_home parts parameters number stamp node msg said traps in Changes (change_by s.did) node s.node
@@ -190,11 +191,11 @@ module _ (parts : Parts) (parameters : Parameters) (number stamp : ℕ) (node : 
   abbrev handled : Change
   handled = record { halts = 0; traps = 0; comes = 0; goes = 1 }
 
-  packet_changes : (packet : Msg) (rest : List Msg) (c : Content) → node.packets ≡ packet ∷ rest → Changes handled node (handle_by parts number stamp (record node { packets = rest }) packet c).node
+  packet_changes : (packet : Msg) (rest : List Msg) (c : Content) → node.packets ≡ packet ∷ rest → Changes handled node (handle_by parts parameters number stamp (record node { packets = rest }) packet c).node
   packet_changes packet rest (ForCache said) is = record { live = omega arith; trapped = omega arith; packets = omega (arith, ap length is) }
   packet_changes packet rest (ForMemory said) is = record { live = omega arith; trapped = omega arith; packets = omega (arith, ap length is) }
 
-  front_changes : (packets : List Msg) → node.packets ≡ packets → is_nonempty packets ≡ true → Changes handled node (handle_front parts number stamp node packets).node
+  front_changes : (packets : List Msg) → node.packets ≡ packets → is_nonempty packets ≡ true → Changes handled node (handle_front parts parameters number stamp node packets).node
   front_changes [] is some = absurd (cc)
   front_changes (packet ∷ rest) is some = packet_changes packet rest (content packet) is
 
