@@ -84,4 +84,4 @@ run_kept params = record {
 
 pub each_kept : (command : Command) → IsKept (task_of command)
 each_kept (commands.Asm form) = asm_kept form
-each_kept (commands.Run how pointers sets limit evict form) = run_kept (record { pointers = pointers; sets = sets; limit = limit; evict = evict })
+each_kept (commands.Run how params form) = run_kept params

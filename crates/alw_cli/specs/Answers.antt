@@ -21,7 +21,7 @@ use Rattle.alw_cli.specs.Texts.{err_line}
 -- what each command is
 abbrev pub task_of : Command → Task
 task_of (commands.Asm form) = asm_task form
-task_of (commands.Run how pointers sets limit evict form) = run_task (record { pointers = pointers; sets = sets; limit = limit; evict = evict })
+task_of (commands.Run how params form) = run_task params
 
 -- the words are a command, the whole input was read, and this was answered to it
 pub record Performed (words : List (List ℕ)) (input input' out out' : Stream) (cause : Cause) (journal : List Entry) : Type 0 where

@@ -1,5 +1,5 @@
 ghost use Rattle.std.specs.Prelude.{◌≡◌, ◌≤◌, length, map, string_bytes};
-ghost use Rattle.alw_config.specs.Table.{IsWithin};
+ghost use Rattle.alw_config.specs.Choices.{IsWithin};
 ghost use Rattle.alw_cli.specs.Answers.{task_of, Answers, IsComplete, Tells};
 ghost use Rattle.alw_cli.specs.Streams.{stream_of};
 
@@ -8,7 +8,6 @@ use crate::assembling::assemble_source;
 use crate::err_lines::err_line;
 use crate::running::run_bytes;
 use alw_config::{Command, command};
-use alw_image::Params;
 use alw_io::{ReadErr, Sink, Source, read_all, write_whole};
 use std::alloc::Global;
 
@@ -78,16 +77,7 @@ fn perform<K: Sink>(alloc: Global, command: Command, bytes: &[u8], out: &mut K) 
 {
     match command {
         Command::Asm { write } => assemble_source(alloc, write, bytes, out),
-        Command::Run {
-            pointers,
-            sets,
-            limit,
-            evict,
-            ..
-        } => match Params::new(pointers, sets, limit, evict) {
-            Some(params) => run_bytes(alloc, &params, bytes, out),
-            None => unreachable!(),
-        },
+        Command::Run { params, .. } => run_bytes(alloc, &params, bytes, out),
     }
 }
 
