@@ -1,3 +1,4 @@
 pub mod Listing
+pub mod Tasks
 pub mod Answering
 pub mod Completing

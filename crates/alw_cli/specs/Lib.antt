@@ -1,3 +1,7 @@
 pub mod Texts
-pub mod Endings
+pub mod Streams
+pub mod Statuses
+pub mod Tasks
+pub mod Assembling
+pub mod Running
 pub mod Answers

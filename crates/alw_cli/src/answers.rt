@@ -1,4 +1,5 @@
 ghost use Rattle.std.specs.Prelude.{◌≡◌, []};
+ghost use Rattle.alw_cli.specs.Statuses.{status_of};
 
 use alw_config::WordErr;
 use alw_image::ImageErr;
@@ -41,21 +42,46 @@ pub struct Done {
     pub cause: Cause,
     pub journal: Journal,
     pub merged: u32,
+    ghost of_cause: { status ≡ status_of cause },
 }
 
 impl Done {
     /// An answer without a run.
-    pub fn without(alloc: Global, status: u8, cause: Cause) -> Done
-        ensures status { result.status ≡ status }
+    pub fn without(alloc: Global, cause: Cause) -> Done
         ensures cause { result.cause ≡ cause }
         ensures journal { result.journal ≡ [] }
         ensures merged { result.merged ≡ 0 }
     {
+        Done::after(cause, Journal::empty(alloc))
+    }
+
+    /// The answer to a run with this journal.
+    pub fn after(cause: Cause, journal: Journal) -> Done
+        ensures cause { result.cause ≡ cause }
+        ensures journal { result.journal ≡ journal }
+        ensures merged { result.merged ≡ 0 }
+    {
         Done {
-            status,
+            status: status_of(&cause),
             cause,
-            journal: Journal::empty(alloc),
+            journal,
             merged: 0,
         }
+    }
+}
+
+// The exit status of a cause.
+fn status_of(cause: &Cause) -> u8
+    ensures { result ≡ status_of cause.now }
+{
+    match cause {
+        Cause::Fine => 0,
+        Cause::Words(_) => 2,
+        Cause::Input(_) => 3,
+        Cause::Trapped(_) => 4,
+        Cause::Limit(_) => 5,
+        Cause::ReadFault => 6,
+        Cause::WriteFault => 7,
+        Cause::NoMemory => 8,
     }
 }

@@ -1,5 +1,6 @@
 ghost use Rattle.std.specs.Prelude.{◌≡◌, ◌≤◌, length, OnOk, OnErr, IfOk};
-ghost use Rattle.alw_cli.specs.Answers.{AsmAnswer, end_of};
+ghost use Rattle.alw_cli.specs.Assembling.{AsmAnswer};
+ghost use Rattle.alw_cli.specs.Streams.{stream_of};
 ghost use Rattle.alw_cli.specs.Texts.{assembled_text};
 
 use crate::answers::{Cause, Done, InputErr, MOST_INPUT};
@@ -15,21 +16,21 @@ use std::alloc::Global;
 /// Assembles a source, and writes its image or listing.
 pub fn assemble_source<K: Sink>(alloc: Global, form: AsmForm, source: &[u8], out: &mut K) -> Done
     requires { length source.now ≤ MOST_INPUT }
-    ensures answer { AsmAnswer form source.now (end_of (K.held out.old) (K.faults out.old)) (end_of (K.held out.new) (K.faults out.new)) result.cause result.status result.journal }
+    ensures answer { AsmAnswer form source.now (stream_of (K.held out.old) (K.faults out.old)) (stream_of (K.held out.new) (K.faults out.new)) result.cause result.journal }
     ensures out_count { K.faults out.old ≤ K.faults out.new }
     ensures merged { result.merged ≡ 0 }
 {
     let assembled = match assemble(alloc, source) {
         Ok(assembled) => assembled,
-        Err(AsmErr::NoMemory) => return Done::without(alloc, 8, Cause::NoMemory),
-        Err(fault) => return Done::without(alloc, 3, Cause::Input(InputErr::Asm(fault))),
+        Err(AsmErr::NoMemory) => return Done::without(alloc, Cause::NoMemory),
+        Err(fault) => return Done::without(alloc, Cause::Input(InputErr::Asm(fault))),
     };
     let Ok(text) = text_of(alloc, form, &assembled) else {
-        return Done::without(alloc, 8, Cause::NoMemory);
+        return Done::without(alloc, Cause::NoMemory);
     };
     match write_whole(out, text.bytes()) {
-        Ok(()) => Done::without(alloc, 0, Cause::Fine),
-        Err(_) => Done::without(alloc, 7, Cause::WriteFault),
+        Ok(()) => Done::without(alloc, Cause::Fine),
+        Err(_) => Done::without(alloc, Cause::WriteFault),
     }
 }
 

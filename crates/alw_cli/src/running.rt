@@ -1,7 +1,8 @@
 ghost use Rattle.std.specs.Prelude.{◌≡◌, ◌≤◌, length};
 ghost use Rattle.alw_image.specs.Parameters.{AreParameters};
-ghost use Rattle.alw_cli.specs.Answers.{RunAnswer, end_of};
-ghost use Rattle.alw_cli.specs.Endings.{status_of, cause_of};
+ghost use Rattle.alw_cli.specs.Running.{RunAnswer};
+ghost use Rattle.alw_cli.specs.Statuses.{cause_of};
+ghost use Rattle.alw_cli.specs.Streams.{stream_of};
 
 use crate::answers::{Cause, Done, InputErr, MOST_INPUT};
 use alw_image::{Image, ImageErr, Params, read_image};
@@ -14,20 +15,20 @@ use std::alloc::Global;
 pub fn run_bytes<K: Sink>(alloc: Global, params: &Params, bytes: &[u8], out: &mut K) -> Done
     requires few { length bytes.now ≤ MOST_INPUT }
     requires allowed { AreParameters params.now }
-    ensures answer { RunAnswer params.now bytes.now (end_of (K.held out.old) (K.faults out.old)) (end_of (K.held out.new) (K.faults out.new)) result.cause result.status result.journal }
+    ensures answer { RunAnswer params.now bytes.now (stream_of (K.held out.old) (K.faults out.old)) (stream_of (K.held out.new) (K.faults out.new)) result.cause result.journal }
     ensures out_count { K.faults out.old ≤ K.faults out.new }
     ensures merged { result.merged ≡ 0 }
 {
     let image = match read_image(alloc, bytes) {
         Ok(image) => image,
-        Err(ImageErr::NoMemory) => return Done::without(alloc, 8, Cause::NoMemory),
-        Err(fault) => return Done::without(alloc, 3, Cause::Input(InputErr::Image(fault))),
+        Err(ImageErr::NoMemory) => return Done::without(alloc, Cause::NoMemory),
+        Err(fault) => return Done::without(alloc, Cause::Input(InputErr::Image(fault))),
     };
     if let Some(at) = not_solo(&image) {
-        return Done::without(alloc, 3, Cause::Input(InputErr::NotBuilt(at)));
+        return Done::without(alloc, Cause::Input(InputErr::NotBuilt(at)));
     }
     let Ok(run) = run_solo(alloc, &image, params) else {
-        return Done::without(alloc, 8, Cause::NoMemory);
+        return Done::without(alloc, Cause::NoMemory);
     };
     let Run {
         journal,
@@ -35,27 +36,22 @@ pub fn run_bytes<K: Sink>(alloc: Global, params: &Params, bytes: &[u8], out: &mu
         ended,
     } = run;
     let Ok(text) = report_run(alloc, &image, params, &journal, prints, ended) else {
-        return Done::without(alloc, 8, Cause::NoMemory);
+        return Done::without(alloc, Cause::NoMemory);
     };
-    let (status, cause) = match write_whole(out, text.bytes()) {
-        Ok(()) => ended_by(ended),
-        Err(_) => (7, Cause::WriteFault),
+    let cause = match write_whole(out, text.bytes()) {
+        Ok(()) => cause_of(ended),
+        Err(_) => Cause::WriteFault,
     };
-    Done {
-        status,
-        cause,
-        journal,
-        merged: 0,
-    }
+    Done::after(cause, journal)
 }
 
-// The status and the cause of a run's end.
-fn ended_by(ended: Ended) -> (u8, Cause)
-    ensures { result ≡ (status_of ended, cause_of ended) }
+// The cause of a run's end.
+fn cause_of(ended: Ended) -> Cause
+    ensures { result ≡ cause_of ended }
 {
     match ended {
-        Ended::Halted => (0, Cause::Fine),
-        Ended::Trapped(at) => (4, Cause::Trapped(at)),
-        Ended::Limit(event) => (5, Cause::Limit(event)),
+        Ended::Halted => Cause::Fine,
+        Ended::Trapped(at) => Cause::Trapped(at),
+        Ended::Limit(event) => Cause::Limit(event),
     }
 }

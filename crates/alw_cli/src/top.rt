@@ -1,13 +1,13 @@
 ghost use Rattle.std.specs.Prelude.{◌≡◌, ◌≤◌, length, map, string_bytes};
-ghost use Rattle.alw_config.specs.Table.{IsWithin};
-ghost use Rattle.alw_cli.specs.Answers.{AnswerTo, Answers, IsComplete, Tells, end_of};
+ghost use Rattle.alw_config.specs.Choices.{IsWithin};
+ghost use Rattle.alw_cli.specs.Answers.{task_of, Answers, IsComplete, Tells};
+ghost use Rattle.alw_cli.specs.Streams.{stream_of};
 
 use crate::answers::{Cause, Done, InputErr, MOST_INPUT};
 use crate::assembling::assemble_source;
 use crate::err_lines::err_line;
 use crate::running::run_bytes;
 use alw_config::{Command, command};
-use alw_image::Params;
 use alw_io::{ReadErr, Sink, Source, read_all, write_whole};
 use std::alloc::Global;
 
@@ -15,8 +15,9 @@ use std::alloc::Global;
 /// image that it is, and writes the image, listing or report to `out`. A refusal, a fault of the
 /// outside and want of memory have a line on `err`.
 ///
-/// Status 0 is an assembled source or a halted run, 2 refused words, 3 a refused input, 4 a trapped
-/// run, 5 a run at its limit, 6 a read fault, 7 a write fault and 8 want of memory.
+/// The status follows from the cause: 0 is an assembled source or a halted run, 2 refused words, 3 a
+/// refused input, 4 a trapped run, 5 a run at its limit, 6 a read fault, 7 a write fault and 8 want of
+/// memory.
 pub fn alewife<S: Source, K: Sink, E: Sink>(
     alloc: Global,
     words: &[String],
@@ -25,14 +26,14 @@ pub fn alewife<S: Source, K: Sink, E: Sink>(
     err: &mut E,
 ) -> Done
     ensures answers { Answers (map string_bytes words.now)
-        (end_of (S.left input.old) (S.faults input.old)) (end_of (S.left input.new) (S.faults input.new))
-        (end_of (K.held out.old) (K.faults out.old)) (end_of (K.held out.new) (K.faults out.new))
-        result.cause result.status result.journal }
+        (stream_of (S.left input.old) (S.faults input.old)) (stream_of (S.left input.new) (S.faults input.new))
+        (stream_of (K.held out.old) (K.faults out.old)) (stream_of (K.held out.new) (K.faults out.new))
+        result.cause result.journal }
     ensures complete { IsComplete (map string_bytes words.now)
-        (end_of (S.left input.old) (S.faults input.old)) (end_of (S.left input.new) (S.faults input.new))
-        (end_of (K.held out.old) (K.faults out.old)) (end_of (K.held out.new) (K.faults out.new))
-        result.status }
-    ensures err { Tells (end_of (E.held err.old) (E.faults err.old)) (end_of (E.held err.new) (E.faults err.new)) result.cause }
+        (stream_of (S.left input.old) (S.faults input.old)) (stream_of (S.left input.new) (S.faults input.new))
+        (stream_of (K.held out.old) (K.faults out.old)) (stream_of (K.held out.new) (K.faults out.new))
+        result.cause }
+    ensures err { Tells (stream_of (E.held err.old) (E.faults err.old)) (stream_of (E.held err.new) (E.faults err.new)) result.cause }
     ensures input_count { S.faults input.old ≤ S.faults input.new }
     ensures out_count { K.faults out.old ≤ K.faults out.new }
     ensures err_count { E.faults err.old ≤ E.faults err.new }
@@ -46,22 +47,22 @@ pub fn alewife<S: Source, K: Sink, E: Sink>(
 // The same without the line on `err`.
 fn answer<S: Source, K: Sink>(alloc: Global, words: &[String], input: &mut S, out: &mut K) -> Done
     ensures answers { Answers (map string_bytes words.now)
-        (end_of (S.left input.old) (S.faults input.old)) (end_of (S.left input.new) (S.faults input.new))
-        (end_of (K.held out.old) (K.faults out.old)) (end_of (K.held out.new) (K.faults out.new))
-        result.cause result.status result.journal }
+        (stream_of (S.left input.old) (S.faults input.old)) (stream_of (S.left input.new) (S.faults input.new))
+        (stream_of (K.held out.old) (K.faults out.old)) (stream_of (K.held out.new) (K.faults out.new))
+        result.cause result.journal }
     ensures input_count { S.faults input.old ≤ S.faults input.new }
     ensures out_count { K.faults out.old ≤ K.faults out.new }
     ensures merged { result.merged ≡ 0 }
 {
     let command = match command(words) {
         Ok(command) => command,
-        Err(e) => return Done::without(alloc, 2, Cause::Words(e)),
+        Err(e) => return Done::without(alloc, Cause::Words(e)),
     };
     let bytes = match read_all(alloc, input, MOST_INPUT) {
         Ok(bytes) => bytes,
-        Err(ReadErr::Failed) => return Done::without(alloc, 6, Cause::ReadFault),
-        Err(ReadErr::TooLong) => return Done::without(alloc, 3, Cause::Input(InputErr::TooLong)),
-        Err(ReadErr::NoMemory) => return Done::without(alloc, 8, Cause::NoMemory),
+        Err(ReadErr::Failed) => return Done::without(alloc, Cause::ReadFault),
+        Err(ReadErr::TooLong) => return Done::without(alloc, Cause::Input(InputErr::TooLong)),
+        Err(ReadErr::NoMemory) => return Done::without(alloc, Cause::NoMemory),
     };
     perform(alloc, command, bytes.bytes(), out)
 }
@@ -70,28 +71,19 @@ fn answer<S: Source, K: Sink>(alloc: Global, words: &[String], input: &mut S, ou
 fn perform<K: Sink>(alloc: Global, command: Command, bytes: &[u8], out: &mut K) -> Done
     requires within { IsWithin command }
     requires few { length bytes.now ≤ MOST_INPUT }
-    ensures answer { AnswerTo command bytes.now (end_of (K.held out.old) (K.faults out.old)) (end_of (K.held out.new) (K.faults out.new)) result.cause result.status result.journal }
+    ensures answer { (task_of command).Answers bytes.now (stream_of (K.held out.old) (K.faults out.old)) (stream_of (K.held out.new) (K.faults out.new)) result.cause result.journal }
     ensures out_count { K.faults out.old ≤ K.faults out.new }
     ensures merged { result.merged ≡ 0 }
 {
     match command {
         Command::Asm { write } => assemble_source(alloc, write, bytes, out),
-        Command::Run {
-            pointers,
-            sets,
-            limit,
-            evict,
-            ..
-        } => match Params::new(pointers, sets, limit, evict) {
-            Some(params) => run_bytes(alloc, &params, bytes, out),
-            None => unreachable!(),
-        },
+        Command::Run { params, .. } => run_bytes(alloc, &params, bytes, out),
     }
 }
 
 // Writes the line of an answer.
 fn put_err_line<E: Sink>(err: &mut E, cause: &Cause)
-    ensures tells { Tells (end_of (E.held err.old) (E.faults err.old)) (end_of (E.held err.new) (E.faults err.new)) cause.now }
+    ensures tells { Tells (stream_of (E.held err.old) (E.faults err.old)) (stream_of (E.held err.new) (E.faults err.new)) cause.now }
     ensures err_count { E.faults err.old ≤ E.faults err.new }
 {
     let line = err_line(cause);

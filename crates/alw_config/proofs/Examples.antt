@@ -1,13 +1,11 @@
 -- Words written out: where they are refused, and what they ask for.
-use Rattle.std.proofs.Common.{◌≡◌, ℕ, zero, suc, ◌<◌, Bool, true, false, [], ◌∷◌, codes, refl, arith}
+use Rattle.std.proofs.Common.{◌≡◌, ℕ, zero, suc, ◌<◌, Bool, true, false, List, [], ◌∷◌, codes, refl, arith}
 use Rattle.std.specs.Prelude.{Some}
 use Rattle.std.specs.Fmt.{digits}
 use Rattle.alw_config.specs.declared.commands.Command.TheVariants.{Asm, Run}
 use Rattle.alw_config.specs.declared.commands.How.TheVariants.{Seed}
-use Rattle.alw_config.specs.declared.commands.AsmForm.TheVariants.{Listing}
+use Rattle.alw_config.specs.declared.commands.AsmForm.TheVariants.{Image, Listing}
 use Rattle.alw_config.specs.declared.commands.Form.TheVariants.{Report}
-use Rattle.alw_config.specs.Values.{asm_forms, asm_form_of, form_of}
-use Rattle.alw_config.specs.Table.{commands, asm_row, run_row, asm_write_row, seed_row, pointers_row, sets_row, limit_row, evict_row, write_row}
 use Rattle.alw_config.specs.Places.{IsFirst, IsRefusedAt, is_bad, asked}
 
 -- the first place that passes a test is 2
@@ -22,30 +20,61 @@ at_two test a b here = record { here = here; none_before = before }
 no_words : IsRefusedAt [] 0
 no_words = record { here = refl; none_before = λ j l. absurd (omega arith) }
 
-six_sets : IsRefusedAt (codes "run" ∷ codes "--sets" ∷ codes "6" ∷ []) 2
-unfolding digits commands asm_row run_row seed_row pointers_row sets_row limit_row evict_row write_row
-six_sets = at_two _ refl refl refl
-
 no_seed : IsRefusedAt (codes "run" ∷ codes "--seed" ∷ []) 2
-unfolding digits commands asm_row run_row seed_row pointers_row sets_row limit_row evict_row write_row
+unfolding digits
 no_seed = at_two _ refl refl refl
 
 leading_zero : IsRefusedAt (codes "run" ∷ codes "--seed" ∷ codes "01" ∷ []) 2
-unfolding digits commands asm_row run_row seed_row pointers_row sets_row limit_row evict_row write_row
+unfolding digits
 leading_zero = at_two _ refl refl refl
 
 twice : is_bad (codes "asm" ∷ codes "--write" ∷ codes "listing" ∷ codes "--write" ∷ codes "image" ∷ []) 3 ≡ true
-unfolding commands asm_row run_row asm_write_row asm_forms
 twice = refl
 
 once : is_bad (codes "asm" ∷ codes "--write" ∷ codes "listing" ∷ codes "--write" ∷ codes "image" ∷ []) 2 ≡ false
-unfolding commands asm_row run_row asm_write_row asm_forms
 once = refl
 
+-- ---- what is asked for
+
+image : asked (codes "asm" ∷ []) ≡ Some (Asm Image)
+image = refl
+
 listing : asked (codes "asm" ∷ codes "--write" ∷ codes "listing" ∷ []) ≡ Some (Asm Listing)
-unfolding commands asm_row run_row asm_write_row asm_form_of
 listing = refl
 
-some_options : asked (codes "run" ∷ codes "--sets" ∷ codes "8" ∷ codes "--seed" ∷ codes "18446744073709551615" ∷ []) ≡ Some (Run (Seed 18446744073709551615) 4 8 32768 0 Report)
-unfolding commands asm_row run_row seed_row pointers_row sets_row limit_row evict_row write_row form_of
-some_options = refl
+defaults : asked (codes "run" ∷ []) ≡ Some (Run (Seed 0) (record { pointers = 4; sets = 256; limit = 32768; evict = 0 }) Report)
+defaults = refl
+
+all_options : asked (codes "run" ∷ codes "--write" ∷ codes "report" ∷ codes "--evict" ∷ codes "255" ∷ codes "--limit" ∷ codes "1048576" ∷ codes "--sets" ∷ codes "4096"
+    ∷ codes "--pointers" ∷ codes "8" ∷ codes "--seed" ∷ codes "18446744073709551615" ∷ [])
+    ≡ Some (Run (Seed 18446744073709551615) (record { pointers = 8; sets = 4096; limit = 1048576; evict = 255 }) Report)
+unfolding digits
+all_options = refl
+
+-- ---- values at the ends of their ranges, and past them
+
+abbrev is_bad_of : List ℕ → List ℕ → Bool
+is_bad_of option value = is_bad (codes "run" ∷ option ∷ value ∷ []) 2
+
+seeds : (is_bad_of (codes "--seed") (codes "0") ≡ false) × (is_bad_of (codes "--seed") (codes "18446744073709551616") ≡ true)
+unfolding digits
+seeds = (refl, refl)
+
+pointers : (is_bad_of (codes "--pointers") (codes "0") ≡ true) × (is_bad_of (codes "--pointers") (codes "1") ≡ false)
+    × (is_bad_of (codes "--pointers") (codes "9") ≡ true)
+unfolding digits
+pointers = (refl, refl, refl)
+
+sets : (is_bad_of (codes "--sets") (codes "2") ≡ true) × (is_bad_of (codes "--sets") (codes "4") ≡ false)
+    × (is_bad_of (codes "--sets") (codes "6") ≡ true) × (is_bad_of (codes "--sets") (codes "8192") ≡ true)
+unfolding digits
+sets = (refl, refl, refl, refl)
+
+limits : (is_bad_of (codes "--limit") (codes "0") ≡ true) × (is_bad_of (codes "--limit") (codes "1") ≡ false)
+    × (is_bad_of (codes "--limit") (codes "1048577") ≡ true)
+unfolding digits
+limits = (refl, refl, refl)
+
+evictions : (is_bad_of (codes "--evict") (codes "0") ≡ false) × (is_bad_of (codes "--evict") (codes "256") ≡ true)
+unfolding digits
+evictions = (refl, refl)

@@ -1,6 +1,7 @@
+pub mod Allowed
 mod Examples
 pub mod Laws
-pub mod Lookups
+pub mod Made
 pub mod Spelled
 pub mod Stops
 pub mod UnderWay

@@ -1,11 +1,11 @@
 -- What is bad of a place behind pairs.
-use Rattle.std.proofs.Common.{◌≡◌, ◌≢◌, ℕ, suc, ◌+◌, ◌-◌, ◌*◌, ◌%◌, ◌≤◌, ◌||◌, ◌==◌, Bool, true, false, List, [], ◌∷◌, ◌++◌, length, refl, ap, ◌∙◌, arith}
-use Rattle.std.specs.Prelude.{Some, is_some, is_none, slice_get}
+use Rattle.std.proofs.Common.{◌≡◌, ◌≢◌, ℕ, suc, ◌+◌, ◌-◌, ◌*◌, ◌%◌, ◌≤◌, ◌==◌, Bool, true, false, List, [], ◌∷◌, ◌++◌, length, refl, ap, ◌∙◌, arith}
+use Rattle.std.specs.Prelude.{Some, slice_get}
 use Rattle.std.proofs.Math.Seq.{take-append_seam}
 use Rattle.std.proofs.lemmas.Bool.Decides.{nat_tests}
 use Rattle.std.proofs.lemmas.Option.{slice_get_past}
-use Rattle.alw_config.specs.Table.{OptionRow, option_row, value_behind}
-use Rattle.alw_config.specs.Places.{is_bad_option, is_no_value}
+use Rattle.alw_config.specs.Table.{Options}
+use Rattle.alw_config.specs.Places.{is_bad_option, is_bad_name, is_bad_value}
 
 -- what follows a front stands at its length
 get_behind : {X : Type 0} (front back : List X) (i : ℕ) → slice_get (front ++ back) (length front + i) ≡ slice_get back i
@@ -13,23 +13,24 @@ get_behind {X} [] back i = let e : length {A = X} [] + i ≡ i = omega arith in 
 get_behind (x ∷ front) back i = let e : suc (length front) + i ≡ suc (length front + i) = omega arith in rw e (get_behind front back i)
 
 -- behind pairs a name stands
-pub bad_name : (options : List OptionRow) (done : List (List ℕ)) (c : ℕ) (word : List ℕ) (left : List (List ℕ)) → length done ≡ 2 * c
-    → is_bad_option options (done ++ word ∷ left) (length done) ≡ (is_none (option_row options word) || is_some (value_behind word done))
+pub bad_name : (options : Options) (done : List (List ℕ)) (c : ℕ) (word : List ℕ) (left : List (List ℕ)) → length done ≡ 2 * c
+    → is_bad_option options (done ++ word ∷ left) (length done) ≡ is_bad_name options done word
 bad_name options done c word left even =
     let place : (length done % 2 == 0) ≡ true = grind (arith, nat_tests) in
-    let here : slice_get (done ++ word ∷ left) (length done) ≡ Some word = let e : length done ≡ length done + 0 = omega arith in ap (slice_get (done ++ word ∷ left)) e ∙ get_behind done (word ∷ left) 0 in
+    let here : slice_get (done ++ word ∷ left) (length done) ≡ Some word = let e : length done ≡ length done + 0 = omega arith in
+    ap (slice_get (done ++ word ∷ left)) e ∙ get_behind done (word ∷ left) 0 in
     rw (place, here, take-append_seam done (word ∷ left))
 
 -- and then a value
-pub bad_value : (options : List OptionRow) (done : List (List ℕ)) (c : ℕ) (word : List ℕ) (left : List (List ℕ)) → length done ≡ 2 * c
-    → is_bad_option options (done ++ word ∷ left) (length done + 1) ≡ is_no_value (option_row options word) (slice_get left 0)
+pub bad_value : (options : Options) (done : List (List ℕ)) (c : ℕ) (word : List ℕ) (left : List (List ℕ)) → length done ≡ 2 * c
+    → is_bad_option options (done ++ word ∷ left) (length done + 1) ≡ is_bad_value options word (slice_get left 0)
 bad_value options done c word left even =
     let place : ((length done + 1) % 2 == 0) ≡ false = grind (arith, nat_tests) in
     let back : length done + 1 - 1 ≡ length done + 0 = omega arith in
     rw (place, back, get_behind done (word ∷ left) 0, get_behind done (word ∷ left) 1)
 
 -- behind the last pair nothing is bad
-pub right_behind : (options : List OptionRow) (words : List (List ℕ)) (c i : ℕ) → length words ≡ 2 * c → length words ≤ i → is_bad_option options words i ≡ false
+pub right_behind : (options : Options) (words : List (List ℕ)) (c i : ℕ) → length words ≡ 2 * c → length words ≤ i → is_bad_option options words i ≡ false
 right_behind options words c i even past = go (i % 2 == 0) refl
   where
     go : (b : Bool) → (i % 2 == 0) ≡ b → is_bad_option options words i ≡ false

@@ -1,167 +1,204 @@
 -- The pairs of an option and its value that are read, and what is left of the words.
-use Rattle.std.proofs.Common.{◌≡◌, ℕ, ◌+◌, ◌-◌, ◌*◌, ◌<◌, ◌≤◌, ◌||◌, true, false, List, [], ◌∷◌, ◌++◌, map, length, refl, sym, ap, ◌∙◌, ⊎_elim, arith, append_assoc, length-append}
-use Rattle.std.specs.Prelude.{Option, None, Some, is_some, is_none, slice_get}
-use Rattle.std.proofs.lemmas.Bool.{cases_lt, false_from_ne_true}
+use Rattle.std.proofs.Common.{◌≡◌, ◌≢◌, ℕ, ◌+◌, ◌-◌, ◌*◌, ◌<◌, ◌≤◌, ◌||◌, ◌==◌, Bool, true, false, cond, List, [], ◌∷◌, ◌++◌, map, length, refl, sym, subst, ap, ◌∙◌, ⊎_elim, arith, append_assoc, length-append}
+use Rattle.std.specs.Prelude.{Option, None, Some, is_some, slice_get, slice_index_or, slice_set, option_and_then, bytes_eq}
+use Rattle.std.specs.Option.{option_map_or}
+use Rattle.std.proofs.lemmas.Bool.{cases_lt, eq-eqb, ne_eqb}
 use Rattle.std.proofs.lemmas.List.{append-nil}
-use Rattle.alw_config.specs.declared.options.Name.{Name}
-use Rattle.alw_config.specs.declared.options.Name.TheVariants as names
-use Rattle.alw_config.specs.declared.options.Choice.{Choice}
-use Rattle.alw_config.specs.declared.options.Choice.TheVariants.{Seed, Pointers, Sets, Limit, Evict, AsmWrite, Write}
-use Rattle.alw_config.specs.declared.options.Chosen.{Chosen}
-use Rattle.alw_config.specs.Table.{OptionRow, option_row, value_behind}
-use Rattle.alw_config.specs.Places.{IsRefusedBehind, is_bad_option, is_no_value}
-use Rattle.alw_config.specs.Choices.{row_of_name, row_of, IsOption, is_chosen, with_value, chosen_by, no_choice, AreGiven}
-use Rattle.alw_config.proofs.Lookups.{is_chosen-by, chosen_by-more}
+use Rattle.std.proofs.lemmas.Grind.{common_steps}
+use Rattle.alw_num.proofs.Weigh.{is_node}
+use Rattle.alw_config.specs.declared.rows.Meaning.{Meaning}
+use Rattle.alw_config.specs.declared.rows.Value.{Value}
+use Rattle.alw_config.specs.declared.rows.TheConstants.{MOST_CHOICES}
+use Rattle.alw_config.specs.Values.{row_of, value_of}
+use Rattle.alw_config.specs.Table.{Options, makes, value_behind, is_made, made}
+use Rattle.alw_config.specs.Places.{IsRefusedBehind, is_bad_option, is_bad_name, is_bad_value}
+use Rattle.alw_config.specs.Choices.{HavePlaces, AreMade}
+use Rattle.alw_config.proofs.Made.{is_made-more, made-last, made-before, count, count-le, count-set, is_none}
 use Rattle.alw_config.proofs.Stops.{bad_name, bad_value, right_behind}
 
--- 1 where it is given
-abbrev pub one_if : {A : Type 0} → Option A → ℕ
-one_if None = 0
-one_if (Some x) = 1
-
--- how many options are given
-abbrev pub count : Chosen → ℕ
-count chosen = one_if chosen.seed + one_if chosen.pointers + one_if chosen.sets + one_if chosen.limit + one_if chosen.evict + one_if chosen.asm_write + one_if chosen.write
-
-pub record IsUnderWay (name : Name) (words left : List (List ℕ)) (chosen : Chosen) (at : ℕ) : Type 0 where
+pub record IsUnderWay (options : Options) (words left : List (List ℕ)) (chosen : List (Option Value)) (at : ℕ) : Type 0 where
   pub done : List (List ℕ)
   pub parts : words ≡ done ++ left
   pub place : at ≡ length done + 1
   pub pairs : length done ≡ 2 * count chosen
-  pub right : (i : ℕ) → i < length done → is_bad_option (row_of_name name).options words i ≡ false
-  pub given : chosen ≡ chosen_by name done
+  pub right : (i : ℕ) → i < length done → is_bad_option options words i ≡ false
+  pub sized : length chosen ≡ MOST_CHOICES
+  pub made_so : (k : ℕ) → k < MOST_CHOICES → slice_index_or chosen k None ≡ made options k done
+  pub is_made_so : (k : ℕ) → k < MOST_CHOICES → is_some (slice_index_or chosen k None) ≡ is_made options k done
 
-one_if_le : {A : Type 0} (o : Option A) → one_if o ≤ 1
-one_if_le None = omega arith
-one_if_le (Some x) = omega arith
-
-one_if_none : {A : Type 0} (o : Option A) → is_some o ≡ false → one_if o ≡ 0
-one_if_none None e = refl
-one_if_none (Some x) e = absurd cc
-
--- there are seven options, so that no place is far
-pub near : (name : Name) (words left : List (List ℕ)) (chosen : Chosen) (at : ℕ) → IsUnderWay name words left chosen at → at ≤ 15
-near name words left chosen at way =
-    omega (arith, way.place, way.pairs, one_if_le chosen.seed, one_if_le chosen.pointers, one_if_le chosen.sets, one_if_le chosen.limit, one_if_le chosen.evict, one_if_le chosen.asm_write, one_if_le chosen.write)
-
-one_more : (choice : Choice) (value : List ℕ) (chosen : Chosen) → is_chosen choice chosen ≡ false → count (with_value choice value chosen) ≡ count chosen + 1
-one_more Seed value chosen e = omega (arith, one_if_none chosen.seed e)
-one_more Pointers value chosen e = omega (arith, one_if_none chosen.pointers e)
-one_more Sets value chosen e = omega (arith, one_if_none chosen.sets e)
-one_more Limit value chosen e = omega (arith, one_if_none chosen.limit e)
-one_more Evict value chosen e = omega (arith, one_if_none chosen.evict e)
-one_more AsmWrite value chosen e = omega (arith, one_if_none chosen.asm_write e)
-one_more Write value chosen e = omega (arith, one_if_none chosen.write e)
-
-pub begins : (name : Name) (words : List (List ℕ)) → IsUnderWay name words words no_choice 1
-unfolding chosen_by
-begins name words = record {
+pub begins : (options : Options) (words : List (List ℕ)) (chosen : List (Option Value)) → length chosen ≡ MOST_CHOICES → count chosen ≡ 0
+    → ((k : ℕ) → k < MOST_CHOICES → slice_index_or chosen k None ≡ None) → IsUnderWay options words words chosen 1
+begins options words chosen sized none each = record {
   done = [];
   parts = refl;
   place = refl;
-  pairs = refl;
+  pairs = omega (arith, none);
   right = λ i l. absurd (omega arith);
-  given = at_start name;
+  sized = sized;
+  made_so = each;
+  is_made_so = λ k l. ap is_some (each k l);
 }
-  where
-    at_start : (name : Name) → no_choice ≡ chosen_by name []
-    at_start names.Asm = refl
-    at_start names.Run = refl
 
--- refused at a name
-stops : (name : Name) (words : List (List ℕ)) (word : List ℕ) (left : List (List ℕ)) (chosen : Chosen) (at : ℕ) → (way : IsUnderWay name words (word ∷ left) chosen at)
-    → (is_none (option_row (row_of_name name).options word) || is_some (value_behind word way.done)) ≡ true → IsRefusedBehind (row_of_name name).options words at
-stops name words word left chosen at way bad =
-    let place : at - 1 ≡ length way.done = omega (arith, way.place) in
-    record {
-      behind = omega (arith, way.place);
-      first = rw place (record {
-        here = rw way.parts (bad_name (row_of_name name).options way.done (count chosen) word left way.pairs ∙ bad);
-        none_before = way.right;
-      });
-    }
+-- no place is far, since few choices are left
+pub near : (options : Options) (words left : List (List ℕ)) (chosen : List (Option Value)) (at : ℕ) → IsUnderWay options words left chosen at → at ≤ 2 * MOST_CHOICES + 1
+near options words left chosen at way = omega (arith, way.place, way.pairs, way.sized, count-le chosen)
 
-pub unknown : (name : Name) (words : List (List ℕ)) (word : List ℕ) (left : List (List ℕ)) (chosen : Chosen) (at : ℕ) → IsUnderWay name words (word ∷ left) chosen at
-    → option_row (row_of_name name).options word ≡ None → IsRefusedBehind (row_of_name name).options words at
-unknown name words word left chosen at way none = stops name words word left chosen at way (rw none)
+-- what a value behind a known option is
+behind_is : (options : Options) (word value : List ℕ) (meaning : Meaning) → row_of options word ≡ Some meaning → value_behind options word value ≡ value_of meaning.kind value
+behind_is options word value meaning known = ap (option_and_then (λ (m : Meaning). value_of m.kind value)) known
 
--- whether the option is chosen is whether it is given before
-given_before : (name : Name) (words : List (List ℕ)) (word : List ℕ) (left : List (List ℕ)) (chosen : Chosen) (at : ℕ) (choice : Choice) → (way : IsUnderWay name words (word ∷ left) chosen at)
-    → IsOption name word choice → is_some (value_behind word way.done) ≡ is_chosen choice chosen
-given_before name words word left chosen at choice way option =
-    ap (λ w. is_some (value_behind w way.done)) option.spelled ∙ sym (is_chosen-by name choice way.done option.belongs) ∙ ap (is_chosen choice) (sym way.given)
+module _ (options : Options) (words : List (List ℕ)) (word : List ℕ) (left : List (List ℕ)) (chosen : List (Option Value)) (at : ℕ) (way : IsUnderWay options words (word ∷ left) chosen at) where
+  -- refused at a name
+  stops : is_bad_name options way.done word ≡ true → IsRefusedBehind options words at
+  stops bad =
+      let place : at - 1 ≡ length way.done = omega (arith, way.place) in
+      record {
+        behind = omega (arith, way.place);
+        first = rw place (record {
+          here = rw way.parts (bad_name options way.done (count chosen) word left way.pairs ∙ bad);
+          none_before = way.right;
+        });
+      }
 
-pub again : (name : Name) (words : List (List ℕ)) (word : List ℕ) (left : List (List ℕ)) (chosen : Chosen) (at : ℕ) (choice : Choice) → IsUnderWay name words (word ∷ left) chosen at
-    → IsOption name word choice → is_chosen choice chosen ≡ true → IsRefusedBehind (row_of_name name).options words at
-again name words word left chosen at choice way option twice =
-    stops name words word left chosen at way (rw (option.row, given_before name words word left chosen at choice way option ∙ twice))
+  pub unknown : row_of options word ≡ None → IsRefusedBehind options words at
+  unknown none = stops (ap (λ (row : Option Meaning). option_map_or (λ (meaning : Meaning). is_made options meaning.choice way.done) row true) none)
 
--- a name that isn't bad
-named : (name : Name) (words : List (List ℕ)) (word : List ℕ) (left : List (List ℕ)) (chosen : Chosen) (at : ℕ) (choice : Choice) → (way : IsUnderWay name words (word ∷ left) chosen at)
-    → IsOption name word choice → is_chosen choice chosen ≡ false → (i : ℕ) → i < length way.done + 1 → is_bad_option (row_of_name name).options words i ≡ false
-named name words word left chosen at choice way option fresh i l = ⊎_elim (way.right i) here (cases_lt i (length way.done))
-  where
-    here : length way.done ≤ i → is_bad_option (row_of_name name).options words i ≡ false
-    here past =
-        let same : i ≡ length way.done = omega arith in
-        rw (same, way.parts, bad_name (row_of_name name).options way.done (count chosen) word left way.pairs, option.row, given_before name words word left chosen at choice way option ∙ fresh)
+  module _ (meaning : Meaning) (known : row_of options word ≡ Some meaning) (within : meaning.choice < MOST_CHOICES) where
+    -- a name is bad where its choice is made
+    name_is : is_bad_name options way.done word ≡ is_some (slice_index_or chosen meaning.choice None)
+    name_is = ap (λ (row : Option Meaning). option_map_or (λ (m : Meaning). is_made options m.choice way.done) row true) known ∙ sym (way.is_made_so meaning.choice within)
 
--- refused at a value
-pub unvalued : (name : Name) (words : List (List ℕ)) (word : List ℕ) (left : List (List ℕ)) (chosen : Chosen) (at : ℕ) (choice : Choice) → IsUnderWay name words (word ∷ left) chosen at
-    → IsOption name word choice → is_chosen choice chosen ≡ false → is_no_value (Some (row_of choice)) (slice_get left 0) ≡ true → IsRefusedBehind (row_of_name name).options words (at + 1)
-unvalued name words word left chosen at choice way option fresh bad =
-    let place : at + 1 - 1 ≡ length way.done + 1 = omega (arith, way.place) in
-    record {
-      behind = omega arith;
-      first = rw place (record {
-        here = rw (way.parts, bad_value (row_of_name name).options way.done (count chosen) word left way.pairs, option.row) bad;
-        none_before = named name words word left chosen at choice way option fresh;
-      });
-    }
+    pub again : is_some (slice_index_or chosen meaning.choice None) ≡ true → IsRefusedBehind options words at
+    again twice = stops (name_is ∙ twice)
 
-pub goes_on : (name : Name) (words : List (List ℕ)) (word value : List ℕ) (left : List (List ℕ)) (chosen more : Chosen) (at : ℕ) (choice : Choice) → IsUnderWay name words (word ∷ value ∷ left) chosen at
-    → IsOption name word choice → is_chosen choice chosen ≡ false → (row_of choice).allows value ≡ true → more ≡ with_value choice value chosen → IsUnderWay name words left more (at + 2)
-goes_on name words word value left chosen more at choice way option fresh allowed grown = record {
-  done = way.done ++ word ∷ value ∷ [];
+    module _ (fresh : is_some (slice_index_or chosen meaning.choice None) ≡ false) where
+      -- a name that isn't bad
+      named : (i : ℕ) → i < length way.done + 1 → is_bad_option options words i ≡ false
+      named i l = ⊎_elim (way.right i) here (cases_lt i (length way.done))
+        where
+          here : length way.done ≤ i → is_bad_option options words i ≡ false
+          here past =
+              let same : i ≡ length way.done = omega arith in
+              rw (same, way.parts) (bad_name options way.done (count chosen) word left way.pairs ∙ name_is ∙ fresh)
+
+      -- refused at a value
+      at_value : is_bad_value options word (slice_get left 0) ≡ true → IsRefusedBehind options words (at + 1)
+      at_value bad =
+          let place : at + 1 - 1 ≡ length way.done + 1 = omega (arith, way.place) in
+          record {
+            behind = omega arith;
+            first = rw place (record {
+              here = rw way.parts (bad_value options way.done (count chosen) word left way.pairs ∙ bad);
+              none_before = named;
+            });
+          }
+
+      pub missing : slice_get left 0 ≡ None → IsRefusedBehind options words (at + 1)
+      missing none = at_value (ap (is_bad_value options word) none)
+
+      pub disallowed : (value : List ℕ) → slice_get left 0 ≡ Some value → value_of meaning.kind value ≡ None → IsRefusedBehind options words (at + 1)
+      disallowed value first none = at_value (ap (is_bad_value options word) first ∙ rw (behind_is options word value meaning known, none) refl)
+
+-- which choice it makes
+makes_is : (options : Options) (k : ℕ) (word : List ℕ) (meaning : Meaning) → row_of options word ≡ Some meaning → makes options k word ≡ (meaning.choice == k)
+makes_is options k word meaning known = ap (λ (row : Option Meaning). option_map_or (λ (m : Meaning). m.choice == k) row false) known
+
+-- a list with one place set
+set_same : (chosen : List (Option Value)) (k : ℕ) (o : Option Value) → k < length chosen → slice_index_or (slice_set chosen k o) k None ≡ o
+set_same chosen k o l = grind (arith, common_steps)
+
+set_other : (chosen : List (Option Value)) (k j : ℕ) (o : Option Value) → j ≢ k → slice_index_or (slice_set chosen k o) j None ≡ slice_index_or chosen j None
+set_other chosen k j o other = grind (arith, common_steps)
+
+set_sized : (chosen : List (Option Value)) (k : ℕ) (o : Option Value) → length (slice_set chosen k o) ≡ length chosen
+set_sized chosen k o = grind (arith, common_steps)
+
+pub goes_on : (options : Options) (words : List (List ℕ)) (word value : List ℕ) (left : List (List ℕ)) (chosen : List (Option Value)) (at : ℕ) → IsUnderWay options words (word ∷ value ∷ left) chosen at
+    → (meaning : Meaning) → row_of options word ≡ Some meaning → meaning.choice < MOST_CHOICES → is_some (slice_index_or chosen meaning.choice None) ≡ false → (v : Value) → value_of meaning.kind value ≡ Some v
+    → IsUnderWay options words left (slice_set chosen meaning.choice (Some v)) (at + 2)
+goes_on options words word value left chosen at way meaning known within fresh v allowed = record {
+  done = more;
   parts = way.parts ∙ sym (append_assoc way.done (word ∷ value ∷ []) left);
   place = omega (arith, way.place, longer);
-  pairs = rw grown (omega (arith, way.pairs, longer, one_more choice value chosen fresh));
-  right = λ i l. ⊎_elim (named name words word (value ∷ left) chosen at choice way option fresh i) (last i l) (cases_lt i (length way.done + 1));
-  given = grown ∙ ap (with_value choice value) way.given ∙ sym (ap (λ w. chosen_by name (way.done ++ w ∷ value ∷ [])) option.spelled ∙ chosen_by-more name choice way.done (count chosen) value way.pairs option.belongs none);
+  pairs = omega (arith, way.pairs, longer, count-set chosen meaning.choice v (omega (arith, way.sized)) (is_none _ fresh));
+  right = λ i l. ⊎_elim (named options words word (value ∷ left) chosen at way meaning known within fresh i) (last i l) (cases_lt i (length way.done + 1));
+  sized = set_sized chosen meaning.choice (Some v) ∙ way.sized;
+  made_so = λ k l. is_node _ k meaning.choice (λ same. subst (λ (j : ℕ). slice_index_or now j None ≡ made options j more) (sym same) made_here) (made_there k l);
+  is_made_so = λ k l. is_node _ k meaning.choice (λ same. subst (λ (j : ℕ). is_some (slice_index_or now j None) ≡ is_made options j more) (sym same) is_made_here) (is_made_there k l);
 }
   where
-    longer : length (way.done ++ word ∷ value ∷ []) ≡ length way.done + 2
+    more : List (List ℕ)
+    more = way.done ++ word ∷ value ∷ []
+
+    now : List (Option Value)
+    now = slice_set chosen meaning.choice (Some v)
+
+    longer : length more ≡ length way.done + 2
     longer = length-append way.done (word ∷ value ∷ [])
 
-    last : (i : ℕ) → i < length (way.done ++ word ∷ value ∷ []) → length way.done + 1 ≤ i → is_bad_option (row_of_name name).options words i ≡ false
+    last : (i : ℕ) → i < length more → length way.done + 1 ≤ i → is_bad_option options words i ≡ false
     last i l past =
         let same : i ≡ length way.done + 1 = omega (arith, longer) in
-        rw (same, way.parts, bad_value (row_of_name name).options way.done (count chosen) word (value ∷ left) way.pairs, option.row, allowed)
+        let right : is_bad_value options word (Some value) ≡ false = rw (behind_is options word value meaning known, allowed) refl in
+        rw (same, way.parts) (bad_value options way.done (count chosen) word (value ∷ left) way.pairs ∙ right)
 
-    nothing : (o : Option (List ℕ)) → is_some o ≡ false → o ≡ None
-    nothing None e = refl
-    nothing (Some x) e = absurd cc
+    here : slice_index_or now meaning.choice None ≡ Some v
+    here = set_same chosen meaning.choice (Some v) (omega (arith, way.sized))
 
-    none : value_behind (row_of choice).name way.done ≡ None
-    none = nothing _ (sym (is_chosen-by name choice way.done option.belongs) ∙ ap (is_chosen choice) (sym way.given) ∙ fresh)
+    makes_here : makes options meaning.choice word ≡ true
+    makes_here = makes_is options meaning.choice word meaning known ∙ eq-eqb meaning.choice meaning.choice refl
 
-pub ends : (name : Name) (words : List (List ℕ)) (chosen : Chosen) (at : ℕ) → IsUnderWay name words [] chosen at
-    → AreGiven name words chosen
-ends name words chosen at way = record {
-  right = λ i. ⊎_elim (way.right i) (λ past. right_behind (row_of_name name).options words (count chosen) i (omega (arith, way.pairs, ap length whole)) (omega (arith, ap length whole))) (cases_lt i (length way.done));
-  given = way.given ∙ ap (chosen_by name) (sym whole);
+    none : is_made options meaning.choice way.done ≡ false
+    none = sym (way.is_made_so meaning.choice within) ∙ fresh
+
+    made_here : slice_index_or now meaning.choice None ≡ made options meaning.choice more
+    made_here = here ∙ sym (made-last options meaning.choice word value way.done (count chosen) way.pairs none makes_here ∙ behind_is options word value meaning known ∙ allowed)
+
+    is_made_here : is_some (slice_index_or now meaning.choice None) ≡ is_made options meaning.choice more
+    is_made_here = ap is_some here ∙ sym (is_made-more options meaning.choice word value way.done (count chosen) way.pairs ∙ rw (none, makes_here) refl)
+
+    makes_there : (k : ℕ) → k ≢ meaning.choice → makes options k word ≡ false
+    makes_there k other = makes_is options k word meaning known ∙ ne_eqb meaning.choice k (λ same. other (sym same))
+
+    made_there : (k : ℕ) → k < MOST_CHOICES → k ≢ meaning.choice → slice_index_or now k None ≡ made options k more
+    made_there k l other = set_other chosen meaning.choice k (Some v) other ∙ way.made_so k l ∙ sym (made-before options k word value way.done (count chosen) way.pairs (makes_there k other))
+
+    or_false : (b : Bool) → (b || false) ≡ b
+    or_false true = refl
+    or_false false = refl
+
+    is_made_there : (k : ℕ) → k < MOST_CHOICES → k ≢ meaning.choice → is_some (slice_index_or now k None) ≡ is_made options k more
+    is_made_there k l other =
+        ap is_some (set_other chosen meaning.choice k (Some v) other) ∙ way.is_made_so k l
+        ∙ sym (is_made-more options k word value way.done (count chosen) way.pairs ∙ ap (λ (b : Bool). is_made options k way.done || b) (makes_there k other) ∙ or_false (is_made options k way.done))
+
+pub ends : (options : Options) (words : List (List ℕ)) (chosen : List (Option Value)) (at : ℕ) → IsUnderWay options words [] chosen at → AreMade options words chosen
+ends options words chosen at way = record {
+  right = λ i. ⊎_elim (way.right i) (λ past. right_behind options words (count chosen) i (omega (arith, way.pairs, ap length whole)) (omega (arith, ap length whole))) (cases_lt i (length way.done));
+  made_so = λ k l. way.made_so k l ∙ ap (made options k) (sym whole);
 }
   where
     whole : words ≡ way.done
     whole = way.parts ∙ append-nil way.done
 
--- no word is left, or one that the option doesn't allow
-pub missing : {X : Type 0} (f : X → List ℕ) (xs : List X) (row : OptionRow) → length xs ≡ 0 → is_no_value (Some row) (slice_get (map f xs) 0) ≡ true
-missing f [] row e = refl
-missing f (x ∷ xs) row e = absurd (omega (arith, e))
+-- ---- from the code's words
 
-pub disallowed : {X : Type 0} (f : X → List ℕ) (xs : List X) (x : X) (rest : List X) (row : OptionRow) → xs ≡ x ∷ rest → (row.allows (f x) ≡ true → ⊥) → is_no_value (Some row) (slice_get (map f xs) 0) ≡ true
-disallowed f xs x rest row parts refused = rw (parts, false_from_ne_true _ refused)
+-- each option that is found has a place
+pub place_within : (options : Options) (word : List ℕ) (meaning : Meaning) → HavePlaces options → row_of options word ≡ Some meaning → meaning.choice < MOST_CHOICES
+place_within [] word meaning places known = absurd (cc)
+place_within (row ∷ rest) word meaning places known = go (bytes_eq row.0 word) known (place_within rest word meaning places.1)
+  where
+    go : (b : Bool) → cond b (Some row.1) (row_of rest word) ≡ Some meaning → (row_of rest word ≡ Some meaning → meaning.choice < MOST_CHOICES) → meaning.choice < MOST_CHOICES
+    go true found later = let same : row.1 ≡ meaning = cc in subst (λ (m : Meaning). m.choice < MOST_CHOICES) same places.0
+    go false found later = later found
+
+-- no word is left, or a first one
+pub first_missing : {X : Type 0} (f : X → List ℕ) (xs : List X) → length xs ≡ 0 → slice_get (map f xs) 0 ≡ None
+first_missing f [] e = refl
+first_missing f (x ∷ xs) e = absurd (omega (arith, e))
+
+pub first_is : {X : Type 0} (f : X → List ℕ) (xs : List X) (x : X) (rest : List X) → xs ≡ x ∷ rest → slice_get (map f xs) 0 ≡ Some (f x)
+first_is f xs x rest parts = rw parts refl
 
 pub no_word : {X : Type 0} (f : X → List ℕ) (xs : List X) → length xs ≡ 0 → map f xs ≡ []
 no_word f [] e = refl

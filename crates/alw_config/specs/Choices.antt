@@ -1,107 +1,67 @@
--- How the program holds the options that are given.
-use Rattle.std.specs.Prelude.{ℕ, ◌≡◌, ◌≤◌, ⊤, Bool, false, IsTrue, ◌==◌, List, Option, None, Some, is_some, IfSome, option_map, unwrap_or}
-use Rattle.std.specs.List.{list_any}
+-- How the program holds the choices that options make.
+use Rattle.std.specs.Prelude.{◌≡◌, ℕ, suc, ◌<◌, ◌==◌, ◌&&◌, nat_le, Bool, true, false, ⊤, IsTrue, List, [], ◌∷◌, slice_index_or, unwrap_or, Option, None, IfSome}
+use Rattle.std.specs.List.{AllByRecursion, list_any}
+use Rattle.alw_image.specs.Parameters.{AreParameters, set_counts}
 use Rattle.alw_config.specs.declared.commands.Command.{Command}
-use Rattle.alw_config.specs.declared.commands.Command.TheVariants as commands
-use Rattle.alw_config.specs.declared.commands.How.TheVariants as hows
-use Rattle.alw_config.specs.declared.commands.AsmForm.{AsmForm}
-use Rattle.alw_config.specs.declared.commands.AsmForm.TheVariants.{Image}
-use Rattle.alw_config.specs.declared.commands.Form.{Form}
-use Rattle.alw_config.specs.declared.commands.Form.TheVariants.{Report}
-use Rattle.alw_config.specs.declared.options.Name.{Name}
-use Rattle.alw_config.specs.declared.options.Name.TheVariants as names
-use Rattle.alw_config.specs.declared.options.Choice.{Choice}
-use Rattle.alw_config.specs.declared.options.Choice.TheVariants.{Seed, Pointers, Sets, Limit, Evict, AsmWrite, Write}
-use Rattle.alw_config.specs.declared.options.Chosen.{Chosen}
-use Rattle.alw_config.specs.Values.{number_of, set_counts, asm_form_of, form_of}
+use Rattle.alw_config.specs.declared.commands.Command.TheVariants as command
+use Rattle.alw_config.specs.declared.rows.Meaning.{Meaning}
+use Rattle.alw_config.specs.declared.rows.Value.{Value}
+use Rattle.alw_config.specs.declared.rows.Value.TheVariants as values
+use Rattle.alw_config.specs.declared.rows.Kind.{Kind}
+use Rattle.alw_config.specs.declared.rows.Kind.TheVariants.{Seed, Between, SetCount, AsmForm, Form}
+use Rattle.alw_config.specs.declared.rows.TheConstants.{MOST_CHOICES}
+use Rattle.alw_config.specs.Table.{Options, made}
 use Rattle.alw_config.specs.Places.{is_bad_option}
-use Rattle.alw_config.specs.Table.{OptionRow, CommandRow, value_behind, option_row, asm_row, run_row, seed_row, pointers_row, sets_row, limit_row, evict_row, asm_write_row, write_row}
 
-abbrev pub row_of_name : Name → CommandRow
-row_of_name names.Asm = asm_row
-row_of_name names.Run = run_row
+-- each option's choice has a place
+abbrev pub HavePlaces : Options → Type 0
+HavePlaces options = AllByRecursion (λ row. row.1.choice < MOST_CHOICES) options
 
-abbrev pub row_of : Choice → OptionRow
-row_of Seed = seed_row
-row_of Pointers = pointers_row
-row_of Sets = sets_row
-row_of Limit = limit_row
-row_of Evict = evict_row
-row_of AsmWrite = asm_write_row
-row_of Write = write_row
+-- no place behind the name is bad, and the choices are made so
+pub record AreMade (options : Options) (words : List (List ℕ)) (chosen : List (Option Value)) : Type 0 where
+  pub right : (i : ℕ) → is_bad_option options words i ≡ false
+  pub made_so : (k : ℕ) → k < MOST_CHOICES → slice_index_or chosen k None ≡ made options k words
 
--- the command has the option
-abbrev pub Belongs : Name → Choice → Type 0
-Belongs names.Asm AsmWrite = ⊤
-Belongs names.Asm _ = ⊥
-Belongs names.Run AsmWrite = ⊥
-Belongs names.Run _ = ⊤
+-- a value is of a kind
+abbrev pub is_of : Kind → Value → Bool
+is_of Seed (values.How how) = true
+is_of (Between least most) (values.Number n) = nat_le least n && nat_le n most
+is_of SetCount (values.Number n) = list_any (λ count. n == count) set_counts
+is_of AsmForm (values.AsmForm form) = true
+is_of Form (values.Form form) = true
+is_of _ _ = false
 
--- a word names an option that the command has
-pub record IsOption (name : Name) (word : List ℕ) (choice : Choice) : Type 0 where
-  pub row : option_row (row_of_name name).options word ≡ Some (row_of choice)
-  pub spelled : word ≡ (row_of choice).name
-  pub belongs : Belongs name choice
+-- a value is of the kind of an option that makes this choice
+abbrev pub is_allowed : Options → ℕ → Value → Bool
+is_allowed options choice value = list_any (λ row. row.1.choice == choice && is_of row.1.kind value) options
 
-abbrev pub no_choice : Chosen
-no_choice = record { seed = None; pointers = None; sets = None; limit = None; evict = None; asm_write = None; write = None }
+-- so is each value that makes a choice
+abbrev pub AreAllowed : Options → List (Option Value) → Type 0
+AreAllowed options chosen = (k : ℕ) → k < MOST_CHOICES → IfSome (slice_index_or chosen k None) (λ value. IsTrue (is_allowed options k value))
 
--- the option is given
-abbrev pub is_chosen : Choice → Chosen → Bool
-is_chosen Seed chosen = is_some chosen.seed
-is_chosen Pointers chosen = is_some chosen.pointers
-is_chosen Sets chosen = is_some chosen.sets
-is_chosen Limit chosen = is_some chosen.limit
-is_chosen Evict chosen = is_some chosen.evict
-is_chosen AsmWrite chosen = is_some chosen.asm_write
-is_chosen Write chosen = is_some chosen.write
+-- the choices from one on, each as it is made, or else its default
+abbrev pub values_by : ℕ → List (Option Value) → List Value → List Value
+values_by k chosen [] = []
+values_by k chosen (default ∷ rest) = unwrap_or (slice_index_or chosen k None) default ∷ values_by (suc k) chosen rest
 
--- the same with the option's value
-abbrev pub with_value : Choice → List ℕ → Chosen → Chosen
-with_value Seed word chosen = record chosen { seed = Some (number_of word) }
-with_value Pointers word chosen = record chosen { pointers = Some (number_of word) }
-with_value Sets word chosen = record chosen { sets = Some (number_of word) }
-with_value Limit word chosen = record chosen { limit = Some (number_of word) }
-with_value Evict word chosen = record chosen { evict = Some (number_of word) }
-with_value AsmWrite word chosen = record chosen { asm_write = Some (asm_form_of word) }
-with_value Write word chosen = record chosen { write = Some (form_of word) }
+-- what a value is
+abbrev pub IsNumber : Value → Type 0
+IsNumber (values.Number n) = ⊤
+IsNumber _ = ⊥
 
--- the form that is given, where the command is of its kind
-abbrev pub asm_write_by : Name → List (List ℕ) → Option AsmForm
-asm_write_by names.Asm words = option_map asm_form_of (value_behind asm_write_row.name words)
-asm_write_by names.Run words = None
+abbrev pub IsHow : Value → Type 0
+IsHow (values.How how) = ⊤
+IsHow _ = ⊥
 
-abbrev pub write_by : Name → List (List ℕ) → Option Form
-write_by names.Asm words = None
-write_by names.Run words = option_map form_of (value_behind write_row.name words)
+abbrev pub IsAsmForm : Value → Type 0
+IsAsmForm (values.AsmForm form) = ⊤
+IsAsmForm _ = ⊥
 
--- what is given by the words behind a command's name
-unfoldable pub chosen_by : Name → List (List ℕ) → Chosen
-chosen_by name words = record {
-  seed = option_map number_of (value_behind seed_row.name words);
-  pointers = option_map number_of (value_behind pointers_row.name words);
-  sets = option_map number_of (value_behind sets_row.name words);
-  limit = option_map number_of (value_behind limit_row.name words);
-  evict = option_map number_of (value_behind evict_row.name words);
-  asm_write = asm_write_by name words;
-  write = write_by name words;
-}
+abbrev pub IsForm : Value → Type 0
+IsForm (values.Form form) = ⊤
+IsForm _ = ⊥
 
--- no place behind the name is bad, and these values are given
-pub record AreGiven (name : Name) (words : List (List ℕ)) (chosen : Chosen) : Type 0 where
-  pub right : (i : ℕ) → is_bad_option (row_of_name name).options words i ≡ false
-  pub given : chosen ≡ chosen_by name words
-
--- the command with these values and the other options' defaults
-abbrev pub command_by : Name → Chosen → Command
-command_by names.Asm chosen = commands.Asm (unwrap_or chosen.asm_write Image)
-command_by names.Run chosen = commands.Run (hows.Seed (unwrap_or chosen.seed 0)) (unwrap_or chosen.pointers 4) (unwrap_or chosen.sets 256) (unwrap_or chosen.limit 32768) (unwrap_or chosen.evict 0) (unwrap_or chosen.write Report)
-
--- each number that is given is within its range
-pub record AreWithin (chosen : Chosen) : Type 0 where
-  pub some_pointer : IfSome chosen.pointers (λ n. 1 ≤ n)
-  pub most_pointers : IfSome chosen.pointers (λ n. n ≤ 8)
-  pub set_count : IfSome chosen.sets (λ s. IsTrue (list_any (λ n. s == n) set_counts))
-  pub some_limit : IfSome chosen.limit (λ n. 1 ≤ n)
-  pub most_limit : IfSome chosen.limit (λ n. n ≤ 1048576)
-  pub most_evict : IfSome chosen.evict (λ n. n ≤ 255)
+-- a run's parameters are parameters
+abbrev pub IsWithin : Command → Type 0
+IsWithin (command.Asm write) = ⊤
+IsWithin (command.Run how params write) = AreParameters params

@@ -1,95 +1,62 @@
--- The commands, each with its options, and what words without a bad place ask for.
-use Rattle.std.specs.Prelude.{ℕ, ◌≤◌, ⊤, Bool, IsTrue, ◌==◌, List, [], ◌∷◌, codes, bytes_eq, Option, None, Some, find, unwrap_or, option_map, if◌then◌else◌}
-use Rattle.std.specs.List.{list_any}
+-- What words without a bad place ask for, by the tables of commands and options. A command leaves choices, numbered from 0, and an option makes
+-- one of them, by a value of its kind.
+use Rattle.std.specs.Prelude.{ℕ, suc, ◌==◌, ◌||◌, Bool, false, List, [], ◌∷◌, map, Option, None, Some, unwrap_or, option_and_then, if◌then◌else◌}
+use Rattle.std.specs.Option.{option_map_or}
 use Rattle.alw_config.specs.declared.commands.Command.{Command}
-use Rattle.alw_config.specs.declared.commands.Command.TheVariants.{Asm, Run}
-use Rattle.alw_config.specs.declared.commands.How.TheVariants.{Seed}
-use Rattle.alw_config.specs.declared.commands.AsmForm.TheVariants.{Image}
-use Rattle.alw_config.specs.declared.commands.Form.TheVariants.{Report}
-use Rattle.alw_config.specs.Values.{number_of, is_number, is_set_count, set_counts, is_one_of, asm_forms, asm_form_of, forms, form_of}
+use Rattle.alw_config.specs.declared.commands.Command.TheVariants as command
+use Rattle.alw_config.specs.declared.rows.Value.{Value}
+use Rattle.alw_config.specs.declared.rows.Value.TheVariants.{Number, How, AsmForm, Form}
+use Rattle.alw_config.specs.declared.rows.Name.{Name}
+use Rattle.alw_config.specs.declared.rows.Name.TheVariants.{Asm, Run}
+use Rattle.alw_config.specs.declared.rows.Meaning.{Meaning}
+use Rattle.alw_config.specs.declared.rows.TheConstants.{COMMANDS, ASM_OPTIONS, ASM_DEFAULTS, RUN_OPTIONS, RUN_DEFAULTS}
+use Rattle.alw_config.specs.Values.{row_of, value_of}
 
--- an option: its name, and the words that it allows as its value
-pub record OptionRow : Type 0 where
-  pub name : List ℕ
-  pub allows : List ℕ → Bool
+-- the commands, by their names
+abbrev pub commands : List (List ℕ × Name)
+commands = map (λ row. (row.0.now, row.1)) COMMANDS
 
--- a command: its name, its options, and what the words behind its name ask for
-pub record CommandRow : Type 0 where
-  pub name : List ℕ
-  pub options : List OptionRow
-  pub reads : List (List ℕ) → Command
+-- options, by their names
+abbrev pub Options : Type 0
+Options = List (List ℕ × Meaning)
 
--- the option's value in the words behind a command's name, where it is given
-abbrev pub value_behind : List ℕ → List (List ℕ) → Option (List ℕ)
-value_behind name [] = None
-value_behind name (option ∷ []) = None
-value_behind name (option ∷ value ∷ rest) = if bytes_eq option name then Some value else value_behind name rest
+-- a command's options, and its choices where no option makes them
+abbrev pub options_of : Name → Options
+options_of Asm = map (λ row. (row.0.now, row.1)) ASM_OPTIONS
+options_of Run = map (λ row. (row.0.now, row.1)) RUN_OPTIONS
 
--- what the option's value stands for, or else the default
-abbrev pub value_or : {A : Type 0} → (List ℕ → A) → OptionRow → List (List ℕ) → A → A
-value_or meaning option words default = unwrap_or (option_map meaning (value_behind option.name words)) default
+abbrev pub defaults_of : Name → List Value
+defaults_of Asm = ASM_DEFAULTS
+defaults_of Run = RUN_DEFAULTS
 
-unfoldable pub asm_write_row : OptionRow
-asm_write_row = record { name = codes "--write"; allows = is_one_of asm_forms }
+-- a word is an option that makes this choice
+abbrev pub makes : Options → ℕ → List ℕ → Bool
+makes options choice word = option_map_or (λ (meaning : Meaning). meaning.choice == choice) (row_of options word) false
 
-unfoldable pub seed_row : OptionRow
-seed_row = record { name = codes "--seed"; allows = is_number 0 18446744073709551615 }
+-- what a value stands for behind an option
+abbrev pub value_behind : Options → List ℕ → List ℕ → Option Value
+value_behind options option word = option_and_then (λ (meaning : Meaning). value_of meaning.kind word) (row_of options option)
 
-unfoldable pub pointers_row : OptionRow
-pointers_row = record { name = codes "--pointers"; allows = is_number 1 8 }
+-- the words behind a command's name, an option and its value in turn, make this choice
+abbrev pub is_made : Options → ℕ → List (List ℕ) → Bool
+is_made options choice [] = false
+is_made options choice (option ∷ []) = false
+is_made options choice (option ∷ word ∷ rest) = makes options choice option || is_made options choice rest
 
-unfoldable pub sets_row : OptionRow
-sets_row = record { name = codes "--sets"; allows = is_set_count }
+-- what they make it by
+abbrev pub made : Options → ℕ → List (List ℕ) → Option Value
+made options choice [] = None
+made options choice (option ∷ []) = None
+made options choice (option ∷ word ∷ rest) = if makes options choice option then value_behind options option word else made options choice rest
 
-unfoldable pub limit_row : OptionRow
-limit_row = record { name = codes "--limit"; allows = is_number 1 1048576 }
+-- the choices in their order from one on, each as it is made, or else its default
+abbrev pub values_from : ℕ → Options → List Value → List (List ℕ) → List Value
+values_from choice options [] words = []
+values_from choice options (default ∷ rest) words = unwrap_or (made options choice words) default ∷ values_from (suc choice) options rest words
 
-unfoldable pub evict_row : OptionRow
-evict_row = record { name = codes "--evict"; allows = is_number 0 255 }
-
-unfoldable pub write_row : OptionRow
-write_row = record { name = codes "--write"; allows = is_one_of forms }
-
-unfoldable pub asm_row : CommandRow
-asm_row = record {
-  name = codes "asm";
-  options = asm_write_row ∷ [];
-  reads = λ words. Asm (value_or asm_form_of asm_write_row words Image);
-}
-
-unfoldable pub run_row : CommandRow
-run_row = record {
-  name = codes "run";
-  options = seed_row ∷ pointers_row ∷ sets_row ∷ limit_row ∷ evict_row ∷ write_row ∷ [];
-  reads = λ words. Run
-      (Seed (value_or number_of seed_row words 0))
-      (value_or number_of pointers_row words 4)
-      (value_or number_of sets_row words 256)
-      (value_or number_of limit_row words 32768)
-      (value_or number_of evict_row words 0)
-      (value_or form_of write_row words Report);
-}
-
-unfoldable pub commands : List CommandRow
-commands = asm_row ∷ run_row ∷ []
-
--- the command of a name
-abbrev pub command_row : List ℕ → Option CommandRow
-command_row word = find (λ row. bytes_eq word row.name) commands
-
--- the option of a name, of a command's options
-abbrev pub option_row : List OptionRow → List ℕ → Option OptionRow
-option_row options word = find (λ row. bytes_eq word row.name) options
-
--- a run's numbers are each within its range
-pub record AreRunOptions (p s l e : ℕ) : Type 0 where
-  pub some_pointer : 1 ≤ p
-  pub pointers : p ≤ 8
-  pub sets : IsTrue (list_any (λ n. s == n) set_counts)
-  pub some_limit : 1 ≤ l
-  pub limit : l ≤ 1048576
-  pub evict : e ≤ 255
-
-abbrev pub IsWithin : Command → Type 0
-IsWithin (Asm write) = ⊤
-IsWithin (Run how pointers sets limit evict write) = AreRunOptions pointers sets limit evict
+-- the command with these choices
+abbrev pub command_of : Name → List Value → Option Command
+command_of Asm (AsmForm write ∷ []) = Some (command.Asm write)
+command_of Run (How how ∷ Number pointers ∷ Number sets ∷ Number limit ∷ Number evict ∷ Form write ∷ []) =
+    Some (command.Run how (record { pointers = pointers; sets = sets; limit = limit; evict = evict }) write)
+command_of _ _ = None

@@ -1,42 +1,45 @@
--- The words that options allow as their values, and what they stand for.
-use Rattle.std.specs.Prelude.{ℕ, ◌&&◌, ◌==◌, Bool, List, [], ◌∷◌, nat_le, codes, decimal, bytes_eq, if◌then◌else◌}
+-- The words that options take as their values, and what each stands for.
+use Rattle.std.specs.Prelude.{ℕ, ◌&&◌, ◌==◌, Bool, List, [], ◌∷◌, map, nat_le, decimal, bytes_eq, if◌then◌else◌, Option, None, Some, option_map}
 use Rattle.std.specs.List.{list_any}
 use Rattle.std.specs.Str.Parse.{digits_value}
+use Rattle.alw_image.specs.Parameters.{set_counts}
 use Rattle.alw_config.specs.declared.commands.AsmForm.{AsmForm}
-use Rattle.alw_config.specs.declared.commands.AsmForm.TheVariants.{Image, Listing}
 use Rattle.alw_config.specs.declared.commands.Form.{Form}
-use Rattle.alw_config.specs.declared.commands.Form.TheVariants.{Report}
+use Rattle.alw_config.specs.declared.commands.How.TheVariants as hows
+use Rattle.alw_config.specs.declared.rows.Value.{Value}
+use Rattle.alw_config.specs.declared.rows.Value.TheVariants as values
+use Rattle.alw_config.specs.declared.rows.Kind.{Kind}
+use Rattle.alw_config.specs.declared.rows.Kind.TheVariants as kinds
+use Rattle.alw_config.specs.declared.rows.TheConstants.{ASM_FORMS, FORMS}
+
+-- what a name stands for in a table: by the first row that has it
+abbrev pub row_of : {X : Type 0} → List (List ℕ × X) → List ℕ → Option X
+row_of [] name = None
+row_of (row ∷ rest) name = if bytes_eq row.0 name then Some row.1 else row_of rest name
+
+-- what is written
+abbrev pub asm_forms : List (List ℕ × AsmForm)
+asm_forms = map (λ row. (row.0.now, row.1)) ASM_FORMS
+
+abbrev pub forms : List (List ℕ × Form)
+forms = map (λ row. (row.0.now, row.1)) FORMS
 
 -- the number whose decimal digits a word is
 abbrev pub number_of : List ℕ → ℕ
 number_of word = digits_value 10 word
 
--- the word is the one spelling of a number within the bounds: its decimal digits, without leading zeros
-abbrev pub is_number : ℕ → ℕ → List ℕ → Bool
-is_number low high word = nat_le low (number_of word) && nat_le (number_of word) high && bytes_eq word (decimal (number_of word))
+-- the word is the one spelling of a number: its decimal digits, without leading zeros
+abbrev pub is_decimal : List ℕ → Bool
+is_decimal word = bytes_eq word (decimal (number_of word))
 
--- the powers of two from 4 to 4096
-abbrev pub set_counts : List ℕ
-set_counts = 4 ∷ 8 ∷ 16 ∷ 32 ∷ 64 ∷ 128 ∷ 256 ∷ 512 ∷ 1024 ∷ 2048 ∷ 4096 ∷ []
+-- the number that a word spells, where it passes a test
+abbrev pub number_if : (ℕ → Bool) → List ℕ → Option ℕ
+number_if test word = if is_decimal word && test (number_of word) then Some (number_of word) else None
 
--- the word spells one of them
-abbrev pub is_set_count : List ℕ → Bool
-is_set_count word = is_number 4 4096 word && list_any (λ n. number_of word == n) set_counts
-
--- the word is one of a list
-abbrev pub is_one_of : List (List ℕ) → List ℕ → Bool
-is_one_of names word = list_any (λ name. bytes_eq word name) names
-
--- what an assembled source is written as
-unfoldable pub asm_forms : List (List ℕ)
-asm_forms = codes "image" ∷ codes "listing" ∷ []
-
-unfoldable pub asm_form_of : List ℕ → AsmForm
-asm_form_of word = if bytes_eq word (codes "listing") then Listing else Image
-
--- what a run is written as
-unfoldable pub forms : List (List ℕ)
-forms = codes "report" ∷ []
-
-unfoldable pub form_of : List ℕ → Form
-form_of word = Report
+-- what a word stands for as a value of a kind: None where it is none
+abbrev pub value_of : Kind → List ℕ → Option Value
+value_of kinds.Seed word = option_map (λ n. values.How (hows.Seed n)) (number_if (λ n. nat_le 0 n && nat_le n 18446744073709551615) word)
+value_of (kinds.Between least most) word = option_map values.Number (number_if (λ n. nat_le least n && nat_le n most) word)
+value_of kinds.SetCount word = option_map values.Number (number_if (λ n. list_any (λ count. n == count) set_counts) word)
+value_of kinds.AsmForm word = option_map values.AsmForm (row_of asm_forms word)
+value_of kinds.Form word = option_map values.Form (row_of forms word)

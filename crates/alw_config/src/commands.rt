@@ -1,5 +1,7 @@
 //! What the command words ask for.
 
+use alw_image::Params;
+
 /// What the simulator is asked to do.
 #[derive(Clone, Copy, Debug, PartialEq, Eq)]
 pub enum Command {
@@ -7,15 +9,10 @@ pub enum Command {
     Asm {
         write: AsmForm,
     },
-    /// Runs an image on a machine with these parameters, each within its range: hardware pointers
-    /// of a directory entry (1 to 8), sets of a cache (a power of two, 4 to 4096), the greatest stamp
-    /// of an event (1 to 1,048,576), and how often of 256 an eviction is tried (0 to 255).
+    /// Runs an image on a machine with these parameters.
     Run {
         how: How,
-        pointers: u8,
-        sets: u32,
-        limit: u32,
-        evict: u8,
+        params: Params,
         write: Form,
     },
 }

@@ -2,8 +2,9 @@
 #![tactic(auto)]
 
 mod commands;
-mod numbers;
+mod lookups;
 mod options;
+mod rows;
 mod words;
 
 pub use commands::{AsmForm, Command, Form, How, WordErr};

@@ -1,206 +1,148 @@
-ghost use Rattle.std.specs.Prelude.{◌≡◌, map, string_bytes, IsTrue, IfOk, IfSome, SomeIff, MatchOption, MatchResult};
-ghost use Rattle.alw_config.specs.Values.{asm_forms, asm_form_of, forms, form_of, is_one_of};
-ghost use Rattle.alw_config.specs.Table.{option_row, IsWithin};
+ghost use Rattle.std.specs.Prelude.{◌≡◌, ◌<◌, length, map, string_bytes, slice_index_or, unwrap_or, IsTrue, MatchResult, None, Some};
+ghost use Rattle.alw_config.specs.declared.rows.Value.TheVariants as values;
+ghost use Rattle.alw_config.specs.Table.{options_of, defaults_of, command_of};
 ghost use Rattle.alw_config.specs.Places.{IsRefusedBehind};
-ghost use Rattle.alw_config.specs.Choices.{row_of_name, row_of, IsOption, is_chosen, with_value, AreGiven, command_by, AreWithin, no_choice};
+ghost use Rattle.alw_config.specs.Choices.{HavePlaces, AreMade, AreAllowed, IsWithin, is_allowed, values_by, IsNumber, IsHow, IsAsmForm, IsForm};
 
 use crate::commands::{AsmForm, Command, Form, How, WordErr};
-use crate::numbers::{number_within, set_count};
+use crate::lookups::row_of;
+use crate::rows::{
+    ASM_DEFAULTS, ASM_OPTIONS, MOST_CHOICES, Meaning, Name, RUN_DEFAULTS, RUN_OPTIONS, Row, Value,
+};
+use alw_image::Params;
 
-// The commands.
-#[derive(Clone, Copy)]
-pub(crate) enum Name {
-    Asm,
-    Run,
-}
+// What each choice of a command is made by.
+pub(crate) type Chosen = [Option<Value>; MOST_CHOICES];
 
-// The options of all commands. `--write` is one for each kind of value that it takes.
-#[derive(Clone, Copy)]
-pub(crate) enum Choice {
-    Seed,
-    Pointers,
-    Sets,
-    Limit,
-    Evict,
-    AsmWrite,
-    Write,
-}
-
-// The values of the options that are given.
-#[derive(Clone, Copy)]
-pub(crate) struct Chosen {
-    seed: Option<u64>,
-    pointers: Option<u8>,
-    sets: Option<u32>,
-    limit: Option<u32>,
-    evict: Option<u8>,
-    asm_write: Option<AsmForm>,
-    write: Option<Form>,
-}
-
-// The values of the command's options, from the words behind its name, or the first refused place.
-pub(crate) fn options(name: Name, words: &[String]) -> Result<Chosen, WordErr>
-    ensures cases { MatchResult result (AreGiven name (map string_bytes words.now))
-        (λ e. IsRefusedBehind (row_of_name name).options (map string_bytes words.now) e.at) }
-    ensures within { IfOk result AreWithin }
+// The choices that the words behind a command's name make, or the first refused place.
+pub(crate) fn chosen(options: &[Row<Meaning>], words: &[String]) -> Result<Chosen, WordErr>
+    requires places { HavePlaces (map (λ row. (row.0.now, row.1)) options.now) }
+    ensures { MatchResult result (AreMade (map (λ row. (row.0.now, row.1)) options.now) (map string_bytes words.now))
+        (λ e. IsRefusedBehind (map (λ row. (row.0.now, row.1)) options.now) (map string_bytes words.now) e.at) }
 {
-    let mut chosen = Chosen::none();
+    let mut chosen = [None; MOST_CHOICES];
     let mut rest = words;
     let mut at = 1;
     'pairs: while let Some((option, behind)) = rest.split_first() {
-        let Some(choice) = choice_of(name, option.as_str()) else {
+        let Some(meaning) = row_of(options, option.as_str().as_bytes()) else {
             return Err(WordErr { at });
         };
-        if chosen.has(choice) {
+        if chosen[meaning.choice].is_some() {
             return Err(WordErr { at });
         }
         let value_at = at + 1;
-        let Some((value, behind)) = behind.split_first() else {
+        let Some((word, behind)) = behind.split_first() else {
             return Err(WordErr { at: value_at });
         };
-        let Some(more) = chosen.with(choice, value.as_str()) else {
+        let Some(value) = meaning.kind.value(word.as_str().as_bytes()) else {
             return Err(WordErr { at: value_at });
         };
-        chosen = more;
+        chosen[meaning.choice] = Some(value);
         rest = behind;
         at += 2;
     }
     Ok(chosen)
 }
 
-// The option of this name that the command has.
-#[tactic(auto, unfolding(crate::specs::Table::asm_row, crate::specs::Table::run_row, crate::specs::Table::asm_write_row, crate::specs::Table::seed_row, crate::specs::Table::pointers_row, crate::specs::Table::sets_row, crate::specs::Table::limit_row, crate::specs::Table::evict_row, crate::specs::Table::write_row))]
-fn choice_of(name: Name, word: &str) -> Option<Choice>
-    ensures { MatchOption result (option_row (row_of_name name).options word.now ≡ None)
-        (IsOption name word.now) }
-{
-    match name {
-        Name::Asm => match word {
-            "--write" => Some(Choice::AsmWrite),
-            _ => None,
-        },
-        Name::Run => match word {
-            "--seed" => Some(Choice::Seed),
-            "--pointers" => Some(Choice::Pointers),
-            "--sets" => Some(Choice::Sets),
-            "--limit" => Some(Choice::Limit),
-            "--evict" => Some(Choice::Evict),
-            "--write" => Some(Choice::Write),
-            _ => None,
-        },
-    }
-}
-
-impl Chosen {
-    // No option is given.
-    fn none() -> Chosen
-        ensures { result ≡ no_choice }
+impl Name {
+    // The command's options.
+    pub(crate) fn options(self) -> &'static [Row<Meaning>]
+        ensures { map (λ row. (row.0.now, row.1)) result.now ≡ options_of self }
     {
-        Chosen {
-            seed: None,
-            pointers: None,
-            sets: None,
-            limit: None,
-            evict: None,
-            asm_write: None,
-            write: None,
+        match self {
+            Name::Asm => &ASM_OPTIONS,
+            Name::Run => &RUN_OPTIONS,
         }
     }
 
-    // Whether the option is given.
-    fn has(&self, choice: Choice) -> bool
-        ensures { result ≡ is_chosen choice self.now }
+    // The default of a choice.
+    fn default(self, choice: usize) -> Value
+        requires { choice < length (defaults_of self) }
+        ensures { result ≡ slice_index_or (defaults_of self) choice (values.Number 0) }
     {
-        match choice {
-            Choice::Seed => self.seed.is_some(),
-            Choice::Pointers => self.pointers.is_some(),
-            Choice::Sets => self.sets.is_some(),
-            Choice::Limit => self.limit.is_some(),
-            Choice::Evict => self.evict.is_some(),
-            Choice::AsmWrite => self.asm_write.is_some(),
-            Choice::Write => self.write.is_some(),
+        match self {
+            Name::Asm => ASM_DEFAULTS[choice],
+            Name::Run => RUN_DEFAULTS[choice],
         }
     }
 
-    // The options with one more value. None exactly where the option doesn't allow it.
-    #[tactic(auto, unfolding(crate::specs::Table::asm_write_row, crate::specs::Table::seed_row, crate::specs::Table::pointers_row, crate::specs::Table::sets_row, crate::specs::Table::limit_row, crate::specs::Table::evict_row, crate::specs::Table::write_row))]
-    fn with(self, choice: Choice, value: &str) -> Option<Chosen>
-        ensures cases { SomeIff result (IsTrue ((row_of choice).allows value.now))
-            (with_value choice value.now self) }
-        ensures within { IfSome result (λ chosen. AreWithin self → AreWithin chosen) }
+    // What makes a choice of the command: an option's value, or else the default.
+    fn value(self, chosen: &Chosen, choice: usize) -> Value
+        requires allowed { AreAllowed (options_of self) chosen.now }
+        requires choice { choice < length (defaults_of self) }
+        ensures value { result ≡ unwrap_or (slice_index_or chosen.now choice None) (slice_index_or (defaults_of self) choice (values.Number 0)) }
+        ensures allowed { IsTrue (is_allowed (options_of self) choice result) }
     {
-        Some(match choice {
-            Choice::Seed => Chosen {
-                seed: Some(number_within(value, 0, u64::MAX)?),
-                ..self
-            },
-            Choice::Pointers => Chosen {
-                pointers: Some(number_within(value, 1, 8)? as u8),
-                ..self
-            },
-            Choice::Sets => Chosen {
-                sets: Some(set_count(value)?),
-                ..self
-            },
-            Choice::Limit => Chosen {
-                limit: Some(number_within(value, 1, 1_048_576)? as u32),
-                ..self
-            },
-            Choice::Evict => Chosen {
-                evict: Some(number_within(value, 0, 255)? as u8),
-                ..self
-            },
-            Choice::AsmWrite => Chosen {
-                asm_write: Some(asm_form(value)?),
-                ..self
-            },
-            Choice::Write => Chosen {
-                write: Some(form(value)?),
-                ..self
-            },
-        })
+        let default = self.default(choice);
+        chosen[choice].unwrap_or(default)
     }
 
-    // The command with these values, and with the default of each option that isn't given.
-    pub(crate) fn command(self, name: Name) -> Command
-        ensures value { result ≡ command_by name self }
-        ensures within { AreWithin self → IsWithin result }
+    // The command with these choices, and with the default of each that isn't made.
+    pub(crate) fn command(self, chosen: &Chosen) -> Command
+        requires { AreAllowed (options_of self) chosen.now }
+        ensures command { command_of self (values_by 0 chosen.now (defaults_of self)) ≡ Some result }
+        ensures within { IsWithin result }
     {
-        match name {
+        match self {
             Name::Asm => Command::Asm {
-                write: self.asm_write.unwrap_or(AsmForm::Image),
+                write: self.value(chosen, 0).asm_form(),
             },
             Name::Run => Command::Run {
-                how: How::Seed(self.seed.unwrap_or(0)),
-                pointers: self.pointers.unwrap_or(4),
-                sets: self.sets.unwrap_or(256),
-                limit: self.limit.unwrap_or(32_768),
-                evict: self.evict.unwrap_or(0),
-                write: self.write.unwrap_or(Form::Report),
+                how: self.value(chosen, 0).how(),
+                params: Params::of(
+                    self.value(chosen, 1).number() as u8,
+                    self.value(chosen, 2).number() as u32,
+                    self.value(chosen, 3).number() as u32,
+                    self.value(chosen, 4).number() as u8,
+                ),
+                write: self.value(chosen, 5).form(),
             },
         }
     }
 }
 
-// The form of this name that an assembled source is written in.
-#[tactic(auto, unfolding(crate::specs::Values::asm_forms, crate::specs::Values::asm_form_of))]
-fn asm_form(word: &str) -> Option<AsmForm>
-    ensures { SomeIff result (IsTrue (is_one_of asm_forms word.now)) (asm_form_of word.now) }
-{
-    match word {
-        "image" => Some(AsmForm::Image),
-        "listing" => Some(AsmForm::Listing),
-        _ => None,
+impl Value {
+    // The number that it is.
+    fn number(self) -> u64
+        requires { IsNumber self }
+        ensures { self ≡ values.Number result }
+    {
+        match self {
+            Value::Number(number) => number,
+            _ => unreachable!(),
+        }
     }
-}
 
-// The form of this name that a run is written in.
-#[tactic(auto, unfolding(crate::specs::Values::forms, crate::specs::Values::form_of))]
-fn form(word: &str) -> Option<Form>
-    ensures { SomeIff result (IsTrue (is_one_of forms word.now)) (form_of word.now) }
-{
-    match word {
-        "report" => Some(Form::Report),
-        _ => None,
+    // The order of a run's events that it is.
+    fn how(self) -> How
+        requires { IsHow self }
+        ensures { self ≡ values.How result }
+    {
+        match self {
+            Value::How(how) => how,
+            _ => unreachable!(),
+        }
+    }
+
+    // The form of an assembled source that it is.
+    fn asm_form(self) -> AsmForm
+        requires { IsAsmForm self }
+        ensures { self ≡ values.AsmForm result }
+    {
+        match self {
+            Value::AsmForm(form) => form,
+            _ => unreachable!(),
+        }
+    }
+
+    // The form of a run that it is.
+    fn form(self) -> Form
+        requires { IsForm self }
+        ensures { self ≡ values.Form result }
+    {
+        match self {
+            Value::Form(form) => form,
+            _ => unreachable!(),
+        }
     }
 }

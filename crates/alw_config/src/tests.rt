@@ -1,4 +1,5 @@
 use crate::*;
+use alw_image::Params;
 use std::alloc::Global;
 use std::test::Fail;
 
@@ -17,15 +18,14 @@ fn asked(alloc: Global, line: &str) -> Result<Result<Command, WordErr>, Fail> {
     Ok(command(&words))
 }
 
-// A run with the defaults of all options but one.
-const DEFAULT_RUN: Command = Command::Run {
-    how: How::Seed(0),
-    pointers: 4,
-    sets: 256,
-    limit: 32_768,
-    evict: 0,
-    write: Form::Report,
-};
+// A run with a seed and parameters.
+fn run(seed: u64, params: Params) -> Command {
+    Command::Run {
+        how: How::Seed(seed),
+        params,
+        write: Form::Report,
+    }
+}
 
 #[test]
 fn defaults(rt: HostRuntime) -> Result<(), Fail> {
@@ -36,7 +36,10 @@ fn defaults(rt: HostRuntime) -> Result<(), Fail> {
             write: AsmForm::Image
         })
     );
-    assert_eq!(rt; asked(alloc, "run")?, Ok(DEFAULT_RUN));
+    assert_eq!(rt;
+        asked(alloc, "run")?,
+        Ok(run(0, Params::of(4, 256, 32_768, 0)))
+    );
     Ok(())
 }
 
@@ -61,27 +64,14 @@ fn options_of_asm(rt: HostRuntime) -> Result<(), Fail> {
 #[test]
 fn options_of_run(rt: HostRuntime) -> Result<(), Fail> {
     let alloc = rt.alloc();
-    let all = Command::Run {
-        how: How::Seed(u64::MAX),
-        pointers: 8,
-        sets: 4096,
-        limit: 1_048_576,
-        evict: 255,
-        write: Form::Report,
-    };
     let line =
         "run --write report --evict 255 --limit 1048576 --sets 4096 --pointers 8 --seed 18446744073709551615";
-    assert_eq!(rt; asked(alloc, line)?, Ok(all));
-    let least = Command::Run {
-        how: How::Seed(0),
-        pointers: 1,
-        sets: 4,
-        limit: 1,
-        evict: 0,
-        write: Form::Report,
-    };
+    assert_eq!(rt;
+        asked(alloc, line)?,
+        Ok(run(u64::MAX, Params::of(8, 4096, 1_048_576, 255)))
+    );
     let line = "run --seed 0 --pointers 1 --sets 4 --limit 1 --evict 0";
-    assert_eq!(rt; asked(alloc, line)?, Ok(least));
+    assert_eq!(rt; asked(alloc, line)?, Ok(run(0, Params::of(1, 4, 1, 0))));
     Ok(())
 }
 

@@ -1,14 +1,19 @@
--- The status and the cause of a run's end.
+-- The exit status of each cause, and the cause of a run's end.
 use Rattle.std.specs.Prelude.{ℕ}
 use Rattle.alw_model.specs.declared.ends.Ended.{Ended}
 use Rattle.alw_model.specs.declared.ends.Ended.TheVariants.{Halted, Trapped, Limit}
 use Rattle.alw_cli.specs.declared.answers.Cause.{Cause}
 use Rattle.alw_cli.specs.declared.answers.Cause.TheVariants as cause
 
-abbrev pub status_of : Ended → ℕ
-status_of Halted = 0
-status_of (Trapped at) = 4
-status_of (Limit event) = 5
+abbrev pub status_of : Cause → ℕ
+status_of cause.Fine = 0
+status_of (cause.Words e) = 2
+status_of (cause.Input fault) = 3
+status_of (cause.Trapped at) = 4
+status_of (cause.Limit event) = 5
+status_of cause.ReadFault = 6
+status_of cause.WriteFault = 7
+status_of cause.NoMemory = 8
 
 abbrev pub cause_of : Ended → Cause
 cause_of Halted = cause.Fine

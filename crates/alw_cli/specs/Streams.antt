@@ -1,0 +1,43 @@
+-- A source or a sink before and after a call: what was taken of the one, and put to the other.
+use Rattle.std.specs.Prelude.{ℕ, ◌<◌, ◌≤◌, Option, List, length}
+use Rattle.std.specs.Io.KnownBytes.{Appends, Consumes, IsAtEnd, Keeps}
+use Rattle.alw_io.specs.Outside.{Rose, AppendsPart}
+use Rattle.alw_cli.specs.declared.answers.TheConstants.{MOST_INPUT}
+
+-- a source or a sink at one moment: the bytes that it tells of its rest or contents, and its fault count
+pub record Stream : Type 0 where
+  pub known : Option (List ℕ)
+  pub faults : ℕ
+
+abbrev pub stream_of : Option (List ℕ) → ℕ → Stream
+stream_of known faults = record { known = known; faults = faults }
+
+-- the bytes are the whole rest of a source
+abbrev pub ReadsAll : Stream → Stream → List ℕ → Type 0
+ReadsAll before after bytes = Consumes before.known after.known bytes × IsAtEnd after.known × (length bytes ≤ MOST_INPUT)
+
+-- nothing is taken of a source, or put to a sink
+abbrev pub Stays : Stream → Stream → Type 0
+Stays before after = Keeps before.known after.known
+
+-- some bytes were taken, no more than an input may have; or more than that
+pub record TookSome (before after : Stream) : Type 0 where
+  pub taken : List ℕ
+  pub read : Consumes before.known after.known taken
+  pub few : length taken ≤ MOST_INPUT
+
+pub record TookTooMany (before after : Stream) : Type 0 where
+  pub taken : List ℕ
+  pub read : Consumes before.known after.known taken
+  pub many : MOST_INPUT < length taken
+
+-- a sink gained the whole text, or a front of it, and then its count rose
+abbrev pub Gained : Stream → Stream → List ℕ → Type 0
+Gained before after text = Appends before.known after.known text
+
+abbrev pub GainedPart : Stream → Stream → List ℕ → Type 0
+GainedPart before after text = AppendsPart before.known after.known text × Rose before.faults after.faults
+
+-- the count didn't rise
+abbrev pub HadNoFault : Stream → Stream → Type 0
+HadNoFault before after = Rose before.faults after.faults → ⊥

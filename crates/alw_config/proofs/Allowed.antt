@@ -1,0 +1,105 @@
+-- What makes a choice is of the kind of an option that makes it.
+use Rattle.std.proofs.Common.{◌≡◌, ℕ, zero, suc, ◌<◌, ◌≤◌, ◌||◌, ◌&&◌, ◌==◌, nat_le, Bool, true, false, cond, List, [], ◌∷◌, length, refl, sym, ap, subst, ◌∙◌, arith}
+use Rattle.std.specs.Prelude.{Option, None, Some, IfSome, IsTrue, slice_index_or, unwrap_or, option_map, option_and_then, bytes_eq}
+use Rattle.std.specs.Option.{option_map_or}
+use Rattle.std.specs.List.{list_any}
+use Rattle.alw_image.specs.Parameters.{set_counts}
+use Rattle.alw_config.specs.declared.commands.AsmForm.{AsmForm}
+use Rattle.alw_config.specs.declared.commands.Form.{Form}
+use Rattle.alw_config.specs.declared.commands.How.{How}
+use Rattle.alw_config.specs.declared.commands.How.TheVariants as hows
+use Rattle.alw_config.specs.declared.rows.Meaning.{Meaning}
+use Rattle.alw_config.specs.declared.rows.Name.{Name}
+use Rattle.alw_config.specs.declared.rows.Name.TheVariants as names
+use Rattle.alw_config.specs.declared.rows.Kind.{Kind}
+use Rattle.alw_config.specs.declared.rows.Kind.TheVariants as kinds
+use Rattle.alw_config.specs.declared.rows.Value.{Value}
+use Rattle.alw_config.specs.declared.rows.Value.TheVariants as values
+use Rattle.alw_config.specs.declared.rows.TheConstants.{MOST_CHOICES}
+use Rattle.alw_config.specs.Values.{row_of, asm_forms, forms, number_if, value_of}
+use Rattle.alw_config.specs.Table.{Options, options_of, defaults_of, makes, value_behind, made}
+use Rattle.alw_config.specs.Choices.{AreMade, is_of, is_allowed, AreAllowed}
+use Rattle.alw_config.proofs.Spelled.{passed_if}
+
+-- ---- of a kind
+
+number_of_kind : (test : ℕ → Bool) (word : List ℕ) (v : Value) (P : Value → Bool) → ((n : ℕ) → P (values.Number n) ≡ test n) → option_map values.Number (number_if test word) ≡ Some v → P v ≡ true
+number_of_kind test word v P is found = go (number_if test word) refl found
+  where
+    go : (o : Option ℕ) → number_if test word ≡ o → option_map values.Number o ≡ Some v → P v ≡ true
+    go None e none = absurd (cc)
+    go (Some n) e some = let same : values.Number n ≡ v = cc in subst (λ (u : Value). P u ≡ true) same (is n ∙ passed_if test word n e)
+
+mapped : {A : Type 0} (f : A → Value) (o : Option A) (v : Value) (P : Value → Bool) → ((a : A) → P (f a) ≡ true) → option_map f o ≡ Some v → P v ≡ true
+mapped f None v P is found = absurd (cc)
+mapped f (Some a) v P is found = let same : f a ≡ v = cc in subst (λ (u : Value). P u ≡ true) same (is a)
+
+value_of_kind : (kind : Kind) (word : List ℕ) (v : Value) → value_of kind word ≡ Some v → is_of kind v ≡ true
+value_of_kind kinds.Seed word v found = mapped _ _ v (is_of kinds.Seed) (λ a. refl) found
+value_of_kind (kinds.Between least most) word v found = number_of_kind (λ n. nat_le least n && nat_le n most) word v (is_of (kinds.Between least most)) (λ n. refl) found
+value_of_kind kinds.SetCount word v found = number_of_kind (λ n. list_any (λ count. n == count) set_counts) word v (is_of kinds.SetCount) (λ n. refl) found
+value_of_kind kinds.AsmForm word v found = mapped values.AsmForm (row_of asm_forms word) v (is_of kinds.AsmForm) (λ a. refl) found
+value_of_kind kinds.Form word v found = mapped values.Form (row_of forms word) v (is_of kinds.Form) (λ a. refl) found
+
+-- ---- of a choice
+
+or_true : (b : Bool) → (b || true) ≡ true
+or_true true = refl
+or_true false = refl
+
+row_allowed : (options : Options) (k : ℕ) (word : List ℕ) (meaning : Meaning) (v : Value) → row_of options word ≡ Some meaning → (meaning.choice == k) ≡ true → is_of meaning.kind v ≡ true → is_allowed options k v ≡ true
+row_allowed [] k word meaning v known this of = absurd (cc)
+row_allowed (row ∷ rest) k word meaning v known this of = go (bytes_eq row.0 word) known (λ later. row_allowed rest k word meaning v later this of)
+  where
+    go : (b : Bool) → cond b (Some row.1) (row_of rest word) ≡ Some meaning → (row_of rest word ≡ Some meaning → is_allowed rest k v ≡ true)
+        → ((row.1.choice == k && is_of row.1.kind v) || is_allowed rest k v) ≡ true
+    go true found more = let same : row.1 ≡ meaning = cc in rw (same, this, of) refl
+    go false found more = rw (more found) (or_true (row.1.choice == k && is_of row.1.kind v))
+
+made_allowed : (options : Options) (k : ℕ) (words : List (List ℕ)) (v : Value) → made options k words ≡ Some v → is_allowed options k v ≡ true
+made_allowed options k [] v found = absurd (cc)
+made_allowed options k (x ∷ []) v found = absurd (cc)
+made_allowed options k (x ∷ y ∷ rest) v found = go (row_of options x) refl found (made_allowed options k rest v)
+  where
+    go : (row : Option Meaning) → row_of options x ≡ row
+        → cond (option_map_or (λ (m : Meaning). m.choice == k) row false) (option_and_then (λ (m : Meaning). value_of m.kind y) row) (made options k rest) ≡ Some v
+        → (made options k rest ≡ Some v → is_allowed options k v ≡ true) → is_allowed options k v ≡ true
+    go None e later more = more later
+    go (Some m) e this more = here (m.choice == k) refl this
+      where
+        here : (b : Bool) → (m.choice == k) ≡ b → cond b (value_of m.kind y) (made options k rest) ≡ Some v → is_allowed options k v ≡ true
+        here true same value = row_allowed options k x m v e same (value_of_kind m.kind y v value)
+        here false other later = more later
+
+-- what the words make is allowed
+pub chosen_allowed : (options : Options) (words : List (List ℕ)) (chosen : List (Option Value)) → AreMade options words chosen → AreAllowed options chosen
+chosen_allowed options words chosen all k l = go (slice_index_or chosen k None) (sym (all.made_so k l))
+  where
+    go : (o : Option Value) → made options k words ≡ o → IfSome o (λ value. IsTrue (is_allowed options k value))
+    go None e = tt
+    go (Some v) e = made_allowed options k words v e
+
+-- and so is each default
+defaults_allowed : (name : Name) (k : ℕ) → k < length (defaults_of name) → is_allowed (options_of name) k (slice_index_or (defaults_of name) k (values.Number 0)) ≡ true
+defaults_allowed names.Asm zero l = refl
+defaults_allowed names.Asm (suc k) l = absurd (omega arith)
+defaults_allowed names.Run zero l = refl
+defaults_allowed names.Run (suc zero) l = refl
+defaults_allowed names.Run (suc (suc zero)) l = refl
+defaults_allowed names.Run (suc (suc (suc zero))) l = refl
+defaults_allowed names.Run (suc (suc (suc (suc zero)))) l = refl
+defaults_allowed names.Run (suc (suc (suc (suc (suc zero))))) l = refl
+defaults_allowed names.Run (suc (suc (suc (suc (suc (suc k)))))) l = absurd (omega arith)
+
+pub few_defaults : (name : Name) → length (defaults_of name) ≤ MOST_CHOICES
+few_defaults names.Asm = omega arith
+few_defaults names.Run = omega arith
+
+pub value_allowed : (name : Name) (chosen : List (Option Value)) (k : ℕ) → AreAllowed (options_of name) chosen → k < length (defaults_of name)
+    → IsTrue (is_allowed (options_of name) k (unwrap_or (slice_index_or chosen k None) (slice_index_or (defaults_of name) k (values.Number 0))))
+value_allowed name chosen k allowed l = go (slice_index_or chosen k None) (allowed k (omega (arith, few_defaults name)))
+  where
+    go : (o : Option Value) → IfSome o (λ value. IsTrue (is_allowed (options_of name) k value))
+        → IsTrue (is_allowed (options_of name) k (unwrap_or o (slice_index_or (defaults_of name) k (values.Number 0))))
+    go None is = defaults_allowed name k l
+    go (Some v) is = is

@@ -1,0 +1,62 @@
+ghost use Rattle.std.specs.Prelude.{◌≡◌, ◌≤◌, map, nat_le, ◌==◌, ◌&&◌, option_map};
+ghost use Rattle.std.specs.List.{list_any};
+ghost use Rattle.alw_image.specs.Parameters.{set_counts};
+ghost use Rattle.alw_config.specs.declared.rows.Value.TheVariants as values;
+ghost use Rattle.alw_config.specs.declared.commands.How.TheVariants as hows;
+ghost use Rattle.alw_config.specs.Values.{row_of, number_if, value_of, asm_forms, forms};
+
+use crate::commands::How;
+use crate::rows::{ASM_FORMS, FORMS, Kind, Row, Value};
+use alw_image::SET_COUNTS;
+use alw_text::decimal;
+
+// What a name stands for in a table. None exactly where no row has it.
+pub(crate) fn row_of<T: Copy>(rows: &[Row<T>], name: &[u8]) -> Option<T>
+    ensures { result ≡ row_of (map (λ row. (row.0.now, row.1)) rows.now) name.now }
+{
+    for (spelling, meaning) in rows {
+        if *spelling == name {
+            return Some(*meaning);
+        }
+    }
+    None
+}
+
+impl Kind {
+    // What a word stands for as a value of this kind. None exactly where it is none.
+    pub(crate) fn value(self, word: &[u8]) -> Option<Value>
+        ensures { result ≡ value_of self word.now }
+    {
+        match self {
+            Kind::Seed => Some(Value::How(How::Seed(number_between(word, 0, u64::MAX)?))),
+            Kind::Between(least, most) => Some(Value::Number(number_between(word, least, most)?)),
+            Kind::SetCount => Some(Value::Number(set_count(word)?)),
+            Kind::AsmForm => Some(Value::AsmForm(row_of(&ASM_FORMS, word)?)),
+            Kind::Form => Some(Value::Form(row_of(&FORMS, word)?)),
+        }
+    }
+}
+
+// The number of a range that a word spells.
+fn number_between(word: &[u8], least: u64, most: u64) -> Option<u64>
+    ensures { result ≡ number_if (λ n. nat_le least n && nat_le n most) word.now }
+{
+    let number = decimal(word)?;
+    if least <= number && number <= most {
+        Some(number)
+    } else {
+        None
+    }
+}
+
+// The number of sets that a word spells.
+fn set_count(word: &[u8]) -> Option<u64>
+    ensures { result ≡ number_if (λ n. list_any (λ count. n == count) set_counts) word.now }
+{
+    let number = number_between(word, 4, 4096)?;
+    if SET_COUNTS.contains(&(number as u32)) {
+        Some(number)
+    } else {
+        None
+    }
+}

@@ -1,0 +1,129 @@
+//! The tables of command words: each row is a name, and what it stands for.
+
+use crate::commands::{AsmForm, Form, How};
+use alw_image::{MOST_LIMIT, MOST_POINTERS};
+
+// A row of a table: a name, and what it stands for.
+pub(crate) type Row<T> = (&'static [u8], T);
+
+// The commands.
+#[derive(Clone, Copy)]
+pub(crate) enum Name {
+    Asm,
+    Run,
+}
+
+// What an option stands for. A command leaves choices, numbered from 0: an option makes one of them, by a
+// value of its kind. Of the options that make the same choice one alone is given.
+#[derive(Clone, Copy)]
+pub(crate) struct Meaning {
+    pub(crate) choice: usize,
+    pub(crate) kind: Kind,
+}
+
+// Which words an option takes as its value.
+#[derive(Clone, Copy)]
+pub(crate) enum Kind {
+    // A number of 64 bits in decimal, from which a schedule is drawn.
+    Seed,
+    // The numbers from one to another, both included, in decimal.
+    Between(u64, u64),
+    // The numbers of sets that a cache can have, in decimal.
+    SetCount,
+    // The names of `ASM_FORMS`.
+    AsmForm,
+    // The names of `FORMS`.
+    Form,
+}
+
+// What a choice is made by.
+#[derive(Clone, Copy)]
+pub(crate) enum Value {
+    Number(u64),
+    How(How),
+    AsmForm(AsmForm),
+    Form(Form),
+}
+
+// The most choices that a command leaves.
+pub(crate) const MOST_CHOICES: usize = 6;
+
+// The commands, by their names.
+pub(crate) const COMMANDS: [Row<Name>; 2] = [(b"asm", Name::Asm), (b"run", Name::Run)];
+
+// What an assembled source is written as.
+pub(crate) const ASM_FORMS: [Row<AsmForm>; 2] = [
+    (b"image", AsmForm::Image),
+    (b"listing", AsmForm::Listing),
+];
+
+// What a run is written as.
+pub(crate) const FORMS: [Row<Form>; 1] = [(b"report", Form::Report)];
+
+// The options of `asm`.
+pub(crate) const ASM_OPTIONS: [Row<Meaning>; 1] = [(
+    b"--write",
+    Meaning {
+        choice: 0,
+        kind: Kind::AsmForm,
+    },
+)];
+
+// What `asm` chooses where no option does.
+pub(crate) const ASM_DEFAULTS: [Value; 1] = [Value::AsmForm(AsmForm::Image)];
+
+// The options of `run`.
+pub(crate) const RUN_OPTIONS: [Row<Meaning>; 6] = [
+    (
+        b"--seed",
+        Meaning {
+            choice: 0,
+            kind: Kind::Seed,
+        },
+    ),
+    (
+        b"--pointers",
+        Meaning {
+            choice: 1,
+            kind: Kind::Between(1, MOST_POINTERS as u64),
+        },
+    ),
+    (
+        b"--sets",
+        Meaning {
+            choice: 2,
+            kind: Kind::SetCount,
+        },
+    ),
+    (
+        b"--limit",
+        Meaning {
+            choice: 3,
+            kind: Kind::Between(1, MOST_LIMIT as u64),
+        },
+    ),
+    (
+        b"--evict",
+        Meaning {
+            choice: 4,
+            kind: Kind::Between(0, 255),
+        },
+    ),
+    (
+        b"--write",
+        Meaning {
+            choice: 5,
+            kind: Kind::Form,
+        },
+    ),
+];
+
+// What `run` chooses where no option does.
+pub(crate) const RUN_DEFAULTS: [Value; 6] = [
+    Value::How(How::Seed(0)),
+    Value::Number(4),
+    Value::Number(256),
+    Value::Number(32_768),
+    Value::Number(0),
+    Value::Form(Form::Report),
+];
