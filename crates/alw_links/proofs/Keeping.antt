@@ -1,5 +1,6 @@
 -- What the links keep beside the messages, at the start and once one link has another list.
-use Rattle.std.proofs.Common.{◌≡◌, ℕ, zero, suc, ◌+◌, ◌-◌, ◌*◌, ◌<◌, ◌≤◌, ◌==◌, nat_lt, Bool, true, false, cond, ◌&&◌, List, [], ◌∷◌, ◌++◌, length, replicate, get_or, set, refl, sym, ap, ◌∙◌, arith}
+use Rattle.std.proofs.Common.{◌≡◌, ℕ, zero, suc, ◌+◌, ◌-◌, ◌*◌, ◌<◌, ◌≤◌, ◌==◌, nat_lt, Bool, true, false, cond, ◌&&◌, List, [], ◌∷◌, ◌++◌, length, replicate}
+use Rattle.std.proofs.Common.{get_or, set, refl, sym, ap, ◌∙◌, arith}
 use Rattle.std.proofs.lemmas.Bool.{eq-eqb, ne_eqb, lt-ltb}
 use Rattle.std.proofs.lemmas.List.{get_or-set_same, get_or-set_other, get_or-replicate, length-replicate, length-set, length_push}
 use Rattle.alw_num.specs.declared.node_sets.NodeSet.{NodeSet}
@@ -36,7 +37,8 @@ starts nodes few = record {
   few_nodes = few;
   links_are = length-replicate (nodes * nodes) [];
   senders_are = length-replicate nodes nobody;
-  sent_by = λ from to l. (λ i. has_node (nodes_of (get_or-replicate nodes to nobody nobody l i)) from) ∙ (has-nobody from ∙ nothing (nat_lt from nodes) _ (link-start (nodes * nodes) (place_of nodes from to)));
+  sent_by = λ from to l. (λ i. has_node (nodes_of (get_or-replicate nodes to nobody nobody l i)) from)
+      ∙ (has-nobody from ∙ nothing (nat_lt from nodes) _ (link-start (nodes * nodes) (place_of nodes from to)));
   counted = in_flight-start (nodes * nodes);
   few = omega arith;
 }
@@ -100,7 +102,8 @@ module _ (nodes : ℕ) (links : List (List Msg)) (senders : List NodeSet) (spare
   sends msg now left is f t spent added =
       let old = link_of nodes links from to in
       changes (old ++ msg ∷ []) now left (count + 1) is f t (omega (arith, length_push old msg)) (omega (arith, length_push old msg)) (λ k.
-      (λ i. has_node (added i) k) ∙ (has-add (nodes_of (get_or senders to nobody)) from k ∙ ap (λ b. cond (k == from) b (has_node (nodes_of (get_or senders to nobody)) k)) (sym (nonempty_push old msg))))
+      (λ i. has_node (added i) k) ∙ (has-add (nodes_of (get_or senders to nobody)) from k
+      ∙ ap (λ b. cond (k == from) b (has_node (nodes_of (get_or senders to nobody)) k)) (sym (nonempty_push old msg))))
 
   -- of a link that had a message the head was taken, and its sender stays where the link has another
   pub takes : (now : NodeSet) (left : List Msg) (more : Bool) → IsTraffic nodes links senders spare count → from < nodes → to < nodes
@@ -116,6 +119,7 @@ module _ (nodes : ℕ) (links : List (List Msg)) (senders : List NodeSet) (spare
       (λ i. has_node (told i) k) ∙ (stays more k was ∙ ap (λ b. cond (k == from) b (has_node (nodes_of (get_or senders to nobody)) k)) others))
     where
       stays : (more : Bool) (k : ℕ) → has_node (nodes_of (get_or senders to nobody)) from ≡ true
-          → has_node (cond more (nodes_of (get_or senders to nobody)) (drop_node (nodes_of (get_or senders to nobody)) from)) k ≡ cond (k == from) more (has_node (nodes_of (get_or senders to nobody)) k)
+          → has_node (cond more (nodes_of (get_or senders to nobody)) (drop_node (nodes_of (get_or senders to nobody)) from)) k
+          ≡ cond (k == from) more (has_node (nodes_of (get_or senders to nobody)) k)
       stays false k was = has-drop (nodes_of (get_or senders to nobody)) from k
       stays true k was = is_node _ k from (λ same. rw (eq-eqb k from same, same, was) refl) (λ other. rw (ne_eqb k from other) refl)

@@ -1,5 +1,6 @@
 -- What a link has once a message has been sent or taken, what several sends come to, and when nothing is on the way.
-use Rattle.std.proofs.Common.{◌≡◌, ℕ, zero, suc, ◌+◌, ◌*◌, ◌<◌, ◌≤◌, ◌==◌, cond, not, ◌&&◌, List, [], ◌∷◌, ◌++◌, length, get_or, set, drop, slice_get, Some, refl, ap, ◌∙◌, arith}
+use Rattle.std.proofs.Common.{◌≡◌, ℕ, zero, suc, ◌+◌, ◌*◌, ◌<◌, ◌≤◌, ◌==◌, cond, not, ◌&&◌, List, [], ◌∷◌, ◌++◌, length, get_or, set, drop, slice_get, Some}
+use Rattle.std.proofs.Common.{refl, ap, ◌∙◌, arith}
 use Rattle.std.specs.List.{list_any}
 use Rattle.std.proofs.lemmas.Bool.{eq-eqb, ne_eqb}
 use Rattle.std.proofs.lemmas.List.{get_or-set_same, get_or-set_other, length-set, drop_more, get_or_read}
@@ -29,14 +30,16 @@ module _ (nodes : ℕ) where
       let fits : place_of nodes from to < length links = rw size (place_below from to f t) in
       read fits ∙ ap (λ c. cond c link (link_of nodes links a b)) (same_place a b from to l t)
     where
-      read : place_of nodes from to < length links → link_of nodes (set links (place_of nodes from to) link) a b ≡ cond (place_of nodes a b == place_of nodes from to) link (link_of nodes links a b)
+      read : place_of nodes from to < length links → link_of nodes (set links (place_of nodes from to) link) a b
+          ≡ cond (place_of nodes a b == place_of nodes from to) link (link_of nodes links a b)
       read fits = is_node _ (place_of nodes a b) (place_of nodes from to)
           (λ same. rw (eq-eqb _ _ same, same) (get_or-set_same links (place_of nodes from to) link [] fits))
           (λ other. rw (ne_eqb _ _ other) (get_or-set_other links (place_of nodes from to) (place_of nodes a b) link [] other))
 
   -- a link after a send
   pub link_sent : (links : List (List Msg)) (from to : ℕ) (msg : Msg) (a b : ℕ) → from < nodes → to < nodes → b < nodes → length links ≡ nodes * nodes
-      → link_of nodes (links_with nodes links from to msg) a b ≡ cond (a == from && (b == to)) (link_of nodes links from to ++ msg ∷ []) (link_of nodes links a b)
+      → link_of nodes (links_with nodes links from to msg) a b ≡ cond (a == from && (b == to)) (link_of nodes links from to ++ msg ∷ [])
+      (link_of nodes links a b)
   link_sent links from to msg = link_set links from to (link_of nodes links from to ++ msg ∷ [])
 
   -- a link after a take
@@ -56,11 +59,13 @@ module _ (nodes : ℕ) where
   pub with_all_more : (links : List (List Msg)) (from : ℕ) (sends : List (ℕ × Msg)) (i : ℕ) (send : ℕ × Msg) → i < length sends → slice_get sends i ≡ Some send
       → links_with_all nodes links from (drop i sends) ≡ links_with_all nodes (links_with nodes links from send.0 send.1) from (drop (i + 1) sends)
   with_all_more links from sends i send l e =
-      ap (links_with_all nodes links from) (drop_more sends i send l ∙ ap (λ (first : ℕ × Msg). first ∷ drop (i + 1) sends) (get_or_from_slice_get sends i send send e))
+      ap (links_with_all nodes links from) (drop_more sends i send l ∙ ap (λ (first : ℕ × Msg). first ∷ drop (i + 1) sends)
+      (get_or_from_slice_get sends i send send e))
 
 -- ---- the number of messages on the way
 
-pub in_flight-set : (links : List (List Msg)) (i : ℕ) (link : List Msg) → i < length links → in_flight (set links i link) + length (get_or links i []) ≡ in_flight links + length link
+pub in_flight-set : (links : List (List Msg)) (i : ℕ) (link : List Msg) → i < length links → in_flight (set links i link) + length (get_or links i [])
+    ≡ in_flight links + length link
 in_flight-set [] i link l = absurd (omega arith)
 in_flight-set (first ∷ rest) zero link l = omega arith
 in_flight-set (first ∷ rest) (suc i) link l = omega (arith, in_flight-set rest i link (omega arith))
@@ -76,5 +81,6 @@ pub in_flight-at : (links : List (List Msg)) (i : ℕ) → i < length links → 
 in_flight-at links i l = omega (arith, in_flight-set links i [] l)
 
 -- a link whose list is there to read, and has a message
-pub some_at : (links : List (List Msg)) (i : ℕ) (link : List Msg) → i < length links → link ≡ get_or links i link → 0 < length link → 1 ≤ length (get_or links i [])
+pub some_at : (links : List (List Msg)) (i : ℕ) (link : List Msg) → i < length links → link ≡ get_or links i link → 0 < length link
+    → 1 ≤ length (get_or links i [])
 some_at links i link l e some = omega (arith, ap length (get_or_read links i link l e []))

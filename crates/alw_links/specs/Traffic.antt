@@ -1,10 +1,12 @@
--- The messages on the way between the nodes of a machine: one link for each ordered pair of nodes, a node with itself too, first in, first out (after Lamport 1978).
+-- The messages on the way between the nodes of a machine: one link for each ordered pair of nodes, a node with itself too, first in, first out (after Lamport
+-- 1978).
 use Rattle.std.specs.Prelude.{ℕ, ◌+◌, ◌-◌, ◌*◌, List, [], ◌∷◌, ◌++◌, length, slice_index_or, slice_set}
 use Rattle.alw_num.specs.Weights.{digit, weigh}
 use Rattle.alw_msg.specs.declared.messages.Msg.{Msg}
 use Rattle.alw_msg.specs.Lists.{is_nonempty, behind}
 
--- the number of nodes, the number of messages more that there is room for, and what each link has, its head first; the link of (from, to) has the place from * nodes + to
+-- the number of nodes, the number of messages more that there is room for, and what each link has, its head first; the link of (from, to) has the place from
+-- * nodes + to
 pub record Traffic : Type 0 where
   pub nodes : ℕ
   pub room : ℕ

@@ -9,7 +9,7 @@ mod turns;
 
 pub use contexts::Status;
 pub use events::{Entry, Event, Journal, Prints, Words};
-pub use messages::{Kind, Msg};
+pub use messages::{Kind, Msg, MsgList};
 pub use sends::Sends;
 pub use turns::{Stretches, Turns, stretches, stretches_are_longest};
 

@@ -1,7 +1,7 @@
 ghost use Rattle.std.specs.Prelude.{◌≡◌};
 ghost use Rattle.alw_msg.specs.Kinds.{to_memory, has_body};
 
-use alw_num::{Line, LineNo, NodeNo};
+use alw_num::{Line, LineNo, NodeNo, Sequence};
 
 /// The kinds of message. To memory go RREQ, WREQ, REPM, UPDATE and ACKC; to a cache go RDATA,
 /// WDATA, INV and BUSY (ASPLOS 1991, table of protocol messages).
@@ -47,3 +47,6 @@ pub struct Msg {
     pub stamp: u32,
     pub body: Line,
 }
+
+/// Messages in order, those of a link or of a pair of nodes.
+pub type MsgList = Sequence<Msg>;

@@ -7,5 +7,6 @@ abbrev pub invariant-loop-i : goal.invariant-loop-i
 invariant-loop-i l = record {
   nodes : l.self.nodes ≡ l.fn.self.nodes;
   room : l.self.room + l.i ≡ l.fn.self.room;
-  links : links_with_all l.self.nodes l.self.links l.from.0 (drop l.i l.sends.messages) ≡ links_with_all l.fn.self.nodes l.fn.self.links l.from.0 l.sends.messages;
+  links : links_with_all l.self.nodes l.self.links l.from.0 (drop l.i l.sends.messages)
+      ≡ links_with_all l.fn.self.nodes l.fn.self.links l.from.0 l.sends.messages;
 }

@@ -11,7 +11,8 @@ use Rattle.alw_links.proofs.links.Links.take.Goals as goal
 pub overflow_sub-self : goal.overflow_sub-self
 overflow_sub-self c =
     let size = ap (λ (t : Traffic). t.nodes) c.self.view_is in
-    let fits : c.place-at.result < length c.self.inside.links.items = omega (arith, c.self.invariant.links_are, place_below c.self.inside.nodes c.args.from.0 c.args.to.0 (omega arith) (omega arith)) in
+    let fits : c.place-at.result < length c.self.inside.links.items = omega
+    (arith, c.self.invariant.links_are, place_below c.self.inside.nodes c.args.from.0 c.args.to.0 (omega arith) (omega arith)) in
     let some = some_at c.self.inside.links.items c.place-at.result c.index.result.now fits c.index.ensures (c.in_ok-msg.ensures.variant.0 refl) in
     omega (arith, in_flight-at c.self.inside.links.items c.place-at.result fits)
 
@@ -20,7 +21,8 @@ invariant_of-self c =
     let size = ap (λ (t : Traffic). t.nodes) c.self.view_is in
     let from : c.args.from.0 < c.self.inside.nodes = omega arith in
     let to : c.args.to.0 < c.self.inside.nodes = omega arith in
-    let fits : c.place-at.result < length c.self.inside.links.items = omega (arith, c.self.invariant.links_are, place_below c.self.inside.nodes c.args.from.0 c.args.to.0 from to) in
+    let fits : c.place-at.result < length c.self.inside.links.items = omega
+    (arith, c.self.invariant.links_are, place_below c.self.inside.nodes c.args.from.0 c.args.to.0 from to) in
     let some = some_at c.self.inside.links.items c.place-at.result c.index.result.now fits c.index.ensures (c.in_ok-msg.ensures.variant.0 refl) in
     let read = get_or_read c.self.inside.senders.items c.args.to.0 c.index-senders.result.now (omega arith) c.index-senders.ensures nobody in
     let told = c.senders_left.ensures ∙ ap (λ (s : NodeSet). cond c.pop-more.result (nodes_of s) (drop_node (nodes_of s) c.args.from.0)) read in

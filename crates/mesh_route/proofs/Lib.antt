@@ -1,0 +1,10 @@
+pub mod Paths
+pub mod Steps
+pub mod Stops
+pub mod Loads
+pub mod QueuePlaces
+pub mod Carrying
+pub mod Arriving
+pub mod Passing
+pub mod Runs
+pub mod Moves

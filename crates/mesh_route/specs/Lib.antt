@@ -1,0 +1,4 @@
+pub mod Routes
+pub mod Meshes
+pub mod Deliveries
+pub mod Keeping
