@@ -9,7 +9,7 @@ use Rattle.alw_model.specs.Ends.{IsEnd}
 use Rattle.alw_model.specs.Headline.{IsCoherentRun}
 use Rattle.alw_model.proofs.Journals.{legal_take}
 use Rattle.alw_coherence.proofs.FlatStarts.{flat_view_is, turns_are_ready, prints_are}
-use Rattle.alw_coherence.proofs.FullMaps.{home_is_full_map}
+use Rattle.alw_coherence.proofs.FullMaps.{always_full_maps}
 
 pub coherent_run : (parts : Parts) (parameters : Parameters) → 1 ≤ parameters.pointers → (journal : List Entry) → IsLegal parts parameters journal →
     (ended : Ended) → IsEnd parts parameters journal ended → IsCoherentRun parts parameters journal ended
@@ -19,5 +19,5 @@ coherent_run parts parameters some journal legal ended end = record {
   flat = λ n. flat_view_is parts parameters some (take n journal) (legal_take parts parameters n journal legal);
   ready = turns_are_ready parts parameters some journal legal;
   prints = prints_are parts parameters some journal legal;
-  homes = λ n line exists. home_is_full_map parts parameters some line exists (take n journal) (legal_take parts parameters n journal legal);
+  homes = λ n. always_full_maps parts parameters some (take n journal) (legal_take parts parameters n journal legal);
 }
