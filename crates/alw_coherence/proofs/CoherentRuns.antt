@@ -17,7 +17,7 @@ use Rattle.alw_model.specs.Ends.{IsEnd}
 use Rattle.alw_model.specs.Headline.{IsCoherentRun}
 use Rattle.alw_model.proofs.Journals.{legal_take}
 use Rattle.alw_coherence.proofs.FlatStarts.{flat_view_is, turns_are_ready, prints_are}
-use Rattle.alw_coherence.proofs.FullMaps.{home_is_full_map}
+use Rattle.alw_coherence.proofs.FullMaps.{always_full_maps}
 
 -- lines with the same values list the same words
 same_listed : (one other : ℕ → Line) (a n : ℕ) → ((i : ℕ) → i < n → one (a + i) ≡ other (a + i)) →
@@ -54,5 +54,5 @@ coherent_run parts parameters some journal legal ended end = record {
   ready = turns_are_ready parts parameters some journal legal;
   prints = prints_are parts parameters some journal legal;
   memory = listed_is_flat parts parameters some journal legal;
-  homes = λ n line exists. home_is_full_map parts parameters some line exists (take n journal) (legal_take parts parameters n journal legal);
+  homes = λ n. always_full_maps parts parameters some (take n journal) (legal_take parts parameters n journal legal);
 }

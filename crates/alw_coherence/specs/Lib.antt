@@ -3,3 +3,4 @@ pub mod FlatRuns
 pub mod Endings
 pub mod Machines
 pub mod Holds
+pub mod Replies

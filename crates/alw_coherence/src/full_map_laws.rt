@@ -11,6 +11,7 @@ ghost use Rattle.alw_coherence.specs.Values.{AfterEveryJournal};
 
 /// After every legal journal the home of each line (H joined with S, state, counter and body) is the
 /// full map's entry that acted on the same messages in the same order (ASPLOS 1991, sections 3 and 4).
+#[tactic(auto, using(crate::proofs::FullMaps::always_full_maps))]
 pub fn homes_are_full_maps()
     ensures { AfterEveryJournal (λ parts parameters journal machine. (line : ℕ) → line < line_count parts →
         full_map_of (entry_of parts machine line) ≡ full_map_after parts parameters journal line) }
@@ -18,6 +19,7 @@ pub fn homes_are_full_maps()
 
 /// So pointers, traps and the rest of the machine don't matter to a home: whatever the parameters,
 /// two journals in which it acted on the same messages leave it the same.
+#[tactic(auto, using(crate::proofs::FullMaps::same_home))]
 pub fn same_messages_same_home()
     ensures { (parts : Parts) → (one other : Parameters) → 1 ≤ one.pointers → 1 ≤ other.pointers → (first second : List Entry) → IsLegal parts one first → IsLegal parts other second →
         (line : ℕ) → line < line_count parts → acted_messages parts one first line ≡ acted_messages parts other second line →

@@ -125,7 +125,8 @@ module _ (parts : Parts) (parameters : Parameters) (s : MachineState) (standing 
       down_here = ap (λ h. downs k (left_at parts s from n f here standing.links msg e h n)) (home_is same) ∙ ap (downs k) (left_here parts s from n f here standing.links msg e);
     }
 
-    down_is : k ≡ l → (line_node parts parameters s k n).down ≡ said ∷ rest_down
+    -- the message is the first that comes of its line
+    pub down_is : k ≡ l → (line_node parts parameters s k n).down ≡ said ∷ rest_down
     down_is same = ap (λ h. downs k (link_at parts s h n)) (home_is same) ∙ (ap (downs k) (split_front (link_at parts s from n) msg e)
         ∙ (λ x. cond (eq-eqb l k (sym same) x) (reply_in (is x)) [] ++ rest_down))
 

@@ -147,6 +147,31 @@ module _ (parts : Parts) (parameters : Parameters) (s : MachineState) (standing 
   pub trap_follows : Follows (node_count parts) (line_of parts parameters s k) [] (line_of parts parameters (next_machine parts parameters s n trap_node links [] k) k)
   trap_follows = stays _ _ _ (other_line parts parameters s n trap_node links stamp l [] k (line_of parts parameters s k).home old_up trap_keeps (λ j. no_sends (l == k)) refl (λ j m. refl))
 
+  -- ---- where no packet waits
+
+  abbrev rest : List ToMemory
+  rest = ups k (behind (link_at parts s from n))
+
+  home_is : k ≡ l → h ≡ n
+  home_is same = ap (home_node parts) same ∙ at_home_is
+
+  entry_is_of : entry_of parts s l ≡ entry
+  entry_is_of = ap (λ a. home_at parts (node_at s a) l) at_home_is
+
+  module _ (free : is_in_progress entry.meta ≡ false) where
+    -- no packet of the line waits
+    none_waits : k ≡ l → (j : ℕ) → ups k (sent_by j (node_at s h).packets) ≡ []
+    none_waits same j = none_sent k j (node_at s h).packets
+        (ap (λ a. length (ups a (packets_at parts s a))) same
+        ∙ ((standing.each (home_node parts l) (home_below parts l lines)).pending l lines refl
+        ∙ ap (λ (d : Directory). digit (is_in_progress d.meta)) entry_is_of ∙ ap digit free))
+
+    -- so the message is the first of its sender's
+    pub front_up : k ≡ l → ((line_of parts parameters s k).node from).up ≡ said ∷ rest
+    front_up same = ap (λ (u : LineNode). u.up) (old_part parts parameters s from k f)
+        ∙ ((λ x. none_waits same from x ++ ups k (link_at parts s from (home_is same x)))
+        ∙ (ap (ups k) (split_front (link_at parts s from n) msg e) ∙ (λ x. cond (eq-eqb l k (sym same) x) (request_in (is x)) [] ++ rest)))
+
   -- ---- hardware acts
 
   module _ (calm : is_trapped parameters.pointers entry msg.src.0 said ≡ false) (free : is_in_progress entry.meta ≡ false) (points : (j : ℕ) → has_node (full_map_of entry).pointers j ≡ true → j < node_count parts) where
@@ -155,9 +180,6 @@ module _ (parts : Parts) (parameters : Parameters) (s : MachineState) (standing 
 
     abbrev hardware_node : NodeState
     hardware_node = (clocked stamp (at_home parts parameters n stamp node msg said false)).node
-
-    entry_is_of : entry_of parts s l ≡ entry
-    entry_is_of = ap (λ a. home_at parts (node_at s a) l) at_home_is
 
     alike : ActsAlike entry msg.src.0 said hardware
     alike = hardware_acts parameters.pointers entry msg.src.0 said (subst (λ (d : Directory). IsSound parameters.pointers d) entry_is_of ((standing.each (home_node parts l) (home_below parts l lines)).entries l lines refl)) calm free
@@ -186,27 +208,13 @@ module _ (parts : Parts) (parameters : Parameters) (s : MachineState) (standing 
       down = λ j m. downs_are h j m;
     }
 
-    abbrev rest : List ToMemory
-    rest = ups k (behind (link_at parts s from n))
-
-    home_is : k ≡ l → h ≡ n
-    home_is same = ap (home_node parts) same ∙ at_home_is
-
-    -- no packet of the line waits
-    none_waits : k ≡ l → (j : ℕ) → ups k (sent_by j (node_at s h).packets) ≡ []
-    none_waits same j = none_sent k j (node_at s h).packets (ap (λ a. length (ups a (packets_at parts s a))) same ∙ ((standing.each (home_node parts l) (home_below parts l lines)).pending l lines refl ∙ ap (λ (d : Directory). digit (is_in_progress d.meta)) entry_is_of ∙ ap digit free))
-
-    front_up : k ≡ l → ((line_of parts parameters s k).node from).up ≡ said ∷ rest
-    front_up same = ap (λ (u : LineNode). u.up) (old_part parts parameters s from k f)
-        ∙ ((λ x. none_waits same from x ++ ups k (link_at parts s from (home_is same x)))
-        ∙ (ap (ups k) (split_front (link_at parts s from n) msg e) ∙ (λ x. cond (eq-eqb l k (sym same) x) (request_in (is x)) [] ++ rest)))
-
     abbrev new_up : ℕ → List ToMemory
     new_up j = cond (j == from) rest (old_up j)
 
     up_taken : k ≡ l → (j : ℕ) → j < node_count parts → ups k (sent_by j (node_at s h).packets) ++ ups k (left j h) ≡ new_up j
     up_taken same j m = is_node _ j from
-        (λ mine. (λ x. none_waits same j x ++ ups k (left (mine x) (home_is same x))) ∙ (ap (ups k) (left_here parts s from n f here standing.links msg e) ∙ ap (λ b. cond b rest (old_up j)) (sym (eq-eqb j from mine))))
+        (λ mine. (λ x. none_waits free same j x ++ ups k (left (mine x) (home_is same x)))
+        ∙ (ap (ups k) (left_here parts s from n f here standing.links msg e) ∙ ap (λ b. cond b rest (old_up j)) (sym (eq-eqb j from mine))))
         (λ other. ap (λ (c : List Msg). ups k (sent_by j (node_at s h).packets) ++ ups k c) (left_from_other parts s from n f here standing.links msg e j h (home_below parts k exists) other) ∙ ap (λ b. cond b rest (old_up j)) (sym (ne_eqb j from other)))
 
     acts_as : k ≡ l → ◌≡◌ {A = Home × Sends} (full_map_of hardware.0, hardware.1) (act (line_of parts parameters s k).home from said)
@@ -219,7 +227,7 @@ module _ (parts : Parts) (parameters : Parameters) (s : MachineState) (standing 
           f,
           acted_line parts parameters s n hardware_node links stamp l hardware.1 k (full_map_of hardware.0) new_up
               (hardware_keeps (full_map_of hardware.0) new_up (ap (λ b. cond b (full_map_of hardware.0) (line_of parts parameters s k).home) (eq-eqb k l same)) (up_taken same)) (sym same) from rest f (λ j. refl)
-              ∙ acts_step (line_of parts parameters s k) from rest said (full_map_of hardware.0, hardware.1) (front_up same) (acts_as same),
+              ∙ acts_step (line_of parts parameters s k) from rest said (full_map_of hardware.0, hardware.1) (front_up free same) (acts_as same),
         ))
         (λ other. other_line parts parameters s n hardware_node links stamp l hardware.1 k (line_of parts parameters s k).home old_up
         (hardware_keeps (line_of parts parameters s k).home old_up (ap (λ b. cond b (full_map_of hardware.0) (line_of parts parameters s k).home) (ne_eqb k l other))
@@ -228,7 +236,13 @@ module _ (parts : Parts) (parameters : Parameters) (s : MachineState) (standing 
 
 -- ---- the handler acts
 
-module _ (parts : Parts) (parameters : Parameters) (s : MachineState) (standing : IsStanding parts parameters s) (n : ℕ) (here : n < node_count parts) (stamp k : ℕ) (exists : k < line_count parts) (packet : Msg) (waiting : List Msg) (queue : (node_at s n).packets ≡ packet ∷ waiting) (packed : IsPacket parts n packet) (said : ToMemory) (is : content packet ≡ ForMemory said) (points : (j : ℕ) → has_node (full_map_of (home_at parts (node_at s n) packet.line.0)).pointers j ≡ true → j < node_count parts) where
+module _ (parts : Parts) (parameters : Parameters) (s : MachineState) (standing : IsStanding parts parameters s) (n : ℕ) (here : n < node_count parts)
+    (stamp k : ℕ) (exists : k < line_count parts) (packet : Msg) (waiting : List Msg) (queue : (node_at s n).packets ≡ packet ∷ waiting)
+    (packed : IsPacket parts n packet) (said : ToMemory) (is : content packet ≡ ForMemory said) where
+  -- the pointers of its entry are nodes
+  abbrev PointsExist : Type 0
+  PointsExist = (j : ℕ) → has_node (full_map_of (home_at parts (node_at s n) packet.line.0)).pointers j ≡ true → j < node_count parts
+
   abbrev line : ℕ
   line = packet.line.0
 
@@ -254,8 +268,12 @@ module _ (parts : Parts) (parameters : Parameters) (s : MachineState) (standing 
   left_waiting : (part : List Msg → List ToMemory) → part waiting ≡ part (packet ∷ waiting) → part (cond (at == n) handled_node (node_at s at)).packets ≡ part (node_at s at).packets
   left_waiting part same = kept_part (λ u. part u.packets) (node_at s) n handled_node at (same ∙ ap part (sym queue))
 
-  handled_keeps : (next : Home) (up : ℕ → List ToMemory) → cond (k == line) (full_map_of after.0) (line_of parts parameters s k).home ≡ next → ((j : ℕ) → j < node_count parts → ups k (sent_by j (cond (at == n) handled_node (node_at s at)).packets) ++ ups k (link_at parts s j at) ≡ up j) → side.Keeps parts parameters s n handled_node s.links stamp line after.1 k next up
-  handled_keeps next up is_next is_up = record {
+  handled_keeps : PointsExist →
+      (next : Home) (up : ℕ → List ToMemory) → cond (k == line) (full_map_of after.0) (line_of parts parameters s k).home ≡ next →
+      ((j : ℕ) → j < node_count parts →
+      ups k (sent_by j (cond (at == n) handled_node (node_at s at)).packets) ++ ups k (link_at parts s j at) ≡ up j) →
+      side.Keeps parts parameters s n handled_node s.links stamp line after.1 k next up
+  handled_keeps points next up is_next is_up = record {
     fits = rw standing.nodes here;
     here = here;
     home = home_below parts k exists;
@@ -276,7 +294,7 @@ module _ (parts : Parts) (parameters : Parameters) (s : MachineState) (standing 
   rest_up = ups k (sent_by source_node waiting) ++ ups k (link_at parts s source_node at)
 
   -- the packet is the front message of its sender
-  packet_first : k ≡ line → ((line_of parts parameters s k).node source_node).up ≡ said ∷ rest_up
+  pub packet_first : k ≡ line → ((line_of parts parameters s k).node source_node).up ≡ said ∷ rest_up
   packet_first same = ap (λ (u : LineNode). u.up) (old_part parts parameters s source_node k packed.source)
       ∙ (ap (λ (q : List Msg). ups k (sent_by source_node q) ++ ups k (link_at parts s source_node at)) ((λ x. (node_at s (at_is same x)).packets) ∙ queue)
       ∙ (ap (λ b. ups k (cond b (packet ∷ sent_by source_node waiting) (sent_by source_node waiting)) ++ ups k (link_at parts s source_node at)) (eq-eqb source_node source_node refl)
@@ -303,15 +321,22 @@ module _ (parts : Parts) (parameters : Parameters) (s : MachineState) (standing 
       go true = ups_without k packet (sent_by j waiting) (other_request k packet other)
       go false = refl
 
-  pub handler_follows : Follows (node_count parts) (line_of parts parameters s k) (about k line (Acts source_node)) (line_of parts parameters (next_machine parts parameters s n handled_node s.links (to_caches n stamp line after.1) k) k)
-  handler_follows = takes_about (node_count parts) (line_of parts parameters s k) (line_of parts parameters (next_machine parts parameters s n handled_node s.links (to_caches n stamp line after.1) k) k) k line (Acts source_node)
+  pub handler_follows : PointsExist →
+      Follows (node_count parts) (line_of parts parameters s k) (about k line (Acts source_node))
+      (line_of parts parameters (next_machine parts parameters s n handled_node s.links (to_caches n stamp line after.1) k) k)
+  handler_follows points =
+      takes_about (node_count parts) (line_of parts parameters s k)
+      (line_of parts parameters (next_machine parts parameters s n handled_node s.links (to_caches n stamp line after.1) k) k) k line (Acts source_node)
       (λ same. (
         packed.source,
         acted_line parts parameters s n handled_node s.links stamp line after.1 k (full_map_of after.0) up_after
-            (handled_keeps (full_map_of after.0) up_after (ap (λ b. cond b (full_map_of after.0) (line_of parts parameters s k).home) (eq-eqb k line same)) (up_handled same)) (sym same) source_node rest_up packed.source (λ j. refl)
+            (handled_keeps points (full_map_of after.0) up_after
+            (ap (λ b. cond b (full_map_of after.0) (line_of parts parameters s k).home) (eq-eqb k line same)) (up_handled same))
+            (sym same) source_node rest_up packed.source (λ j. refl)
             ∙ acts_step (line_of parts parameters s k) source_node rest_up said (full_map_of after.0, after.1) (packet_first same) (handles_as same),
       ))
       (λ other. other_line parts parameters s n handled_node s.links stamp line after.1 k (line_of parts parameters s k).home was_up
-      (handled_keeps (line_of parts parameters s k).home was_up (ap (λ b. cond b (full_map_of after.0) (line_of parts parameters s k).home) (ne_eqb k line other))
+      (handled_keeps points (line_of parts parameters s k).home was_up
+      (ap (λ b. cond b (full_map_of after.0) (line_of parts parameters s k).home) (ne_eqb k line other))
       (λ j m. ap (λ (u : List ToMemory). u ++ ups k (link_at parts s j at)) (left_waiting (λ q. ups k (sent_by j q)) (not_in_packet other j))))
       (λ j. ap (λ b. cond b (sent_to j after.1) []) (ne_eqb line k (λ is. other (sym is)))) refl (λ j m. refl))

@@ -13,3 +13,4 @@ pub mod Destinations
 pub mod Places
 pub mod HomeEvents
 pub mod Steps
+pub mod Acted

@@ -5,4 +5,4 @@
 
 mod events_followed;
 
-pub use events_followed::lines_follow;
+pub use events_followed::{lines_follow, messages_keep_their_order};

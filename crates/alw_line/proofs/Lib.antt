@@ -10,4 +10,5 @@ pub mod Steps
 pub mod Tests
 pub mod Clauses
 pub mod Consequences
+pub mod Acted
 pub mod Always
