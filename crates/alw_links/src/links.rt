@@ -160,6 +160,15 @@ impl Links {
         link.iter().nth(i as usize).copied()
     }
 
+    /// The messages of a link, its head first.
+    pub fn link(&self, from: NodeNo, to: NodeNo) -> &LinkedList<Msg>
+        requires from { from.0 < self.now.nodes }
+        requires to { to.0 < self.now.nodes }
+        ensures { result.now ≡ link_in self.now from.0 to.0 }
+    {
+        &self.links[place(self.nodes, from, to)]
+    }
+
     /// The nodes with something on the way to a node.
     pub fn senders(&self, to: NodeNo) -> NodeSet
         requires { to.0 < self.now.nodes }

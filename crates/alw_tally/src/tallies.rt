@@ -1,4 +1,4 @@
-ghost use Rattle.std.specs.Prelude.{◌≡◌, ◌+◌, ◌≤◌, ◌++◌, [], length, option_to_list, OnOk};
+ghost use Rattle.std.specs.Prelude.{◌≡◌, ◌+◌, ◌<◌, ◌≤◌, ◌^◌, ◌++◌, [], length, option_to_list, OnOk};
 ghost use Rattle.alw_image.specs.declared.parts.Parts.{Parts};
 ghost use Rattle.alw_model.specs.Runs.{Moment};
 ghost use Rattle.alw_tally.specs.Told.{contexts_of, words_printed, told_of, told_with};
@@ -82,14 +82,16 @@ impl Tally {
 
     /// The contexts that took turns, in order.
     pub fn turns(&self) -> &[u32]
-        ensures { result.now ≡ self.now.told.turns }
+        ensures turns { result.now ≡ self.now.told.turns }
+        ensures few { length result.now < 2 ^ 32 }
     {
         self.turns.members()
     }
 
     /// The words that were printed, in order, each with the context that printed it.
     pub fn prints(&self) -> &[(u32, u32)]
-        ensures { result.now ≡ self.now.told.prints }
+        ensures prints { result.now ≡ self.now.told.prints }
+        ensures few { length result.now < 2 ^ 32 }
     {
         self.prints.members()
     }

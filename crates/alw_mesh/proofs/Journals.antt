@@ -1,0 +1,215 @@
+-- A machine's journal, and one event more.
+use Rattle.std.proofs.Common.{◌≡◌, ℕ, ◌+◌, ◌*◌, ◌<◌, ◌≤◌, ◌&&◌, Bool, true, false, not, IsTrue, List, [], ◌∷◌, ◌++◌, length, filter, refl, sym, ap, subst, ◌∙◌, arith}
+use Rattle.std.proofs.lemmas.Nat.{mul-le}
+use Rattle.alw_msg.specs.declared.messages.Msg.{Msg}
+use Rattle.alw_msg.specs.declared.events.Event.{Event}
+use Rattle.alw_msg.specs.declared.events.Entry.{Entry}
+use Rattle.alw_msg.specs.Events.{node_of}
+use Rattle.alw_msg.specs.Sending.{Sending}
+use Rattle.alw_image.specs.declared.parts.Parts.{Parts}
+use Rattle.alw_image.specs.Images.{IsImage, node_count}
+use Rattle.alw_image.specs.Parameters.{Parameters, AreParameters}
+use Rattle.alw_model.specs.Machine.{MachineState, machine_start, state, has_halted, taken_by, node_at, stamp_at, is_enabled, is_within_limit, step, stepped_by, main_events, IsNext, IsLegal}
+use Rattle.alw_model.specs.Runs.{Moment, moment_of, moments}
+use Rattle.alw_model.proofs.Journals.{and_parts, state_push, legal_push, moments_push}
+use Rattle.alw_lift.specs.Links.{GoBelow}
+use Rattle.alw_lift.proofs.Steps.{enabled_is}
+use Rattle.alw_order.proofs.Aimed.{sends_below}
+use Rattle.alw_order.proofs.Reached.{state_aimed}
+use Rattle.alw_coherence.proofs.Bound.{sets_range}
+use Rattle.alw_coherence.proofs.RunFacts.{always_bounded, always_halted}
+use Rattle.alw_tally.specs.declared.happenings.Happened.{Happened}
+use Rattle.alw_tally.specs.Remaining.{remains_of, AreFew}
+use Rattle.alw_tally.specs.Told.{Told, told_of, told_with}
+use Rattle.alw_tally.specs.Tallies.{Tallied}
+use Rattle.alw_tally.specs.Happenings as tellings
+use Rattle.alw_tally.proofs.Telling.{told_entry}
+use Rattle.alw_ready.specs.declared.changes.Happened as changes
+use Rattle.alw_ready.specs.declared.rows.Row.{Row}
+use Rattle.alw_ready.specs.Rows.{events_of}
+use Rattle.alw_ready.specs.Fits.{may_happen, RowsFit}
+use Rattle.alw_ready.specs.Changes.{is_wide, is_wide_event, IsTold}
+use Rattle.alw_ready.proofs.MainEvents.{filter_main}
+use Rattle.alw_mesh.specs.declared.stepping.Happening.{Happening}
+use Rattle.alw_mesh.specs.Grids.{Grid, grid_start, Happens}
+use Rattle.alw_mesh.specs.Histories.{History, state_of, entry_of, grown, stamps_of, may_be_next, IsRun, sent_last, last_sends}
+use Rattle.alw_mesh.specs.Keeping.{IsMachine}
+use Rattle.alw_mesh.specs.Ends.{next_events}
+use Rattle.alw_mesh.proofs.OneNode.{few_nodes}
+use Rattle.alw_mesh.proofs.Remaining.{remains_few}
+
+-- no machine's journal comes near 2^32 entries
+pub journal_fits : (h : History) → IsRun h → length h.journal < 4294967295
+journal_fits h run =
+    let nodes = few_nodes h.image run.image in
+    let sets = mul-le (node_count h.image) h.parameters.sets 256 4096 nodes (sets_range h.parameters run.parameters).1 in
+    let lines = mul-le (node_count h.image) h.image.per_node 256 4096 nodes run.image.per_node.1 in
+    omega (arith, always_bounded h.image run.image h.parameters run.parameters h.journal run.legal, run.fits)
+
+-- one event more sends what it sends
+sent_push : (run : List Moment) (moment : Moment) → sent_last (run ++ moment ∷ []) ≡ moment.stepped.sends
+sent_push [] moment = refl
+sent_push (first ∷ []) moment = refl
+sent_push (first ∷ next ∷ rest) moment = sent_push (next ∷ rest) moment
+
+-- what a tally is told more
+abbrev pub Adds : Parts → Tallied → Tallied → Happened → List (ℕ × Msg) → Type 0
+Adds image before after happened sends = (moment : Moment) → tellings.IsOf happened sends moment → after.told ≡ told_with image before.told moment
+
+-- what rows are made of others, over a machine after an event
+abbrev pub Renews : Grid → List Row → List Row → changes.Happened → List (ℕ × Msg) → Type 0
+Renews after rows rows' change sends = (journal : List Entry) → IsLegal after.image after.parameters journal
+    → IsTold after.image after.parameters (state after.image after.parameters journal) after.machine change sends
+    → RowsFit after.image after.parameters (state after.image after.parameters journal) rows → RowsFit after.image after.parameters after.machine rows'
+
+module _ {grid : Grid} {journal : List Entry} {sent : Sending} {tally : Tallied} {ready : List Row} (is : IsMachine grid journal sent tally ready) where
+  abbrev here : History
+  here = record { image = grid.image; parameters = grid.parameters; journal = journal }
+
+  -- the rows say which main events may be next
+  pub events_are : events_of ready ≡ next_events here
+  events_are = filter_main grid.image grid.parameters grid.machine ready is.rows ∙ ap (λ m. filter (may_happen grid.image grid.parameters m) (main_events grid.image)) is.state_is
+
+  -- few contexts have trapped, and few packets wait
+  pub few_remain : AreFew (remains_of grid.machine.nodes)
+  few_remain = subst (λ (m : MachineState). AreFew (remains_of m.nodes)) (sym is.state_is)
+      (remains_few grid.image grid.parameters is.run.image journal is.run.legal (journal_fits here is.run))
+
+  module _ (event : Event) (may : IsTrue (may_happen grid.image grid.parameters grid.machine event)) where
+    may_here : IsTrue (is_enabled grid.image grid.parameters (state_of here) event) × IsTrue (is_within_limit grid.image grid.parameters (state_of here) event)
+    may_here = and_parts _ _ (subst (λ (m : MachineState). IsTrue (may_happen grid.image grid.parameters m event)) is.state_is may)
+
+    pub enabled : IsTrue (is_enabled grid.image grid.parameters grid.machine event)
+    enabled = (and_parts _ _ may).0
+
+    next_is : IsNext grid.image grid.parameters (state_of here) (entry_of here event)
+    next_is = record { enabled = may_here.0; within = may_here.1; stamp = refl }
+
+    pub event_here : node_of event < length ready
+    event_here = rw is.rows.counted (enabled_is grid.image grid.parameters (state_of here) event may_here.0).here
+
+    module _ {room : ℕ} {after : Grid} {sent' : Sending} {happening : Happening} (happens : Happens (record grid { room = room }) after event sent' happening) where
+      machine_next : after.machine ≡ step grid.image grid.parameters (state_of here) event
+      machine_next = happens.machine ∙ ap (λ m. step grid.image grid.parameters m event) is.state_is
+
+      sends_next : sent'.messages ≡ (stepped_by grid.image grid.parameters (state_of here) event).sends
+      sends_next = (happens.told 0).sends_are ∙ ap (λ m. (stepped_by grid.image grid.parameters m event).sends) is.state_is
+
+      pub sends_few : length sent'.messages ≤ 256
+      sends_few = omega (arith, happens.few, few_nodes grid.image is.run.image)
+
+      pub rows_counted : length ready ≡ node_count after.image
+      rows_counted = is.rows.counted ∙ ap node_count (sym happens.image)
+
+      pub nodes_few : node_count after.image ≤ 256
+      nodes_few = rw happens.image (few_nodes grid.image is.run.image)
+
+      pub sends_below_rows : GoBelow (length ready) sent'.messages
+      sends_below_rows = rw (is.rows.counted, sends_next)
+          (sends_below grid.image grid.parameters (state_of here) event may_here.0 (state_aimed grid.image grid.parameters journal is.run.legal))
+
+      -- where it isn't told that every context halted with the event, all had halted before where they have now
+      goes_on : (flips : Bool) → flips ≡ (not (has_halted grid.machine) && has_halted after.machine) → flips ≡ false → has_halted after.machine ≡ has_halted (state_of here)
+      goes_on flips flips_is none = go (has_halted (state_of here)) refl
+        where
+          both_halted : has_halted (state_of here) ≡ true → has_halted after.machine ≡ true
+          both_halted halted = ap has_halted machine_next ∙ always_halted grid.image is.run.image grid.parameters is.run.parameters journal is.run.legal (entry_of here event) next_is halted
+
+          go : (b : Bool) → has_halted (state_of here) ≡ b → has_halted after.machine ≡ has_halted (state_of here)
+          go true halted = both_halted halted ∙ sym halted
+          go false running = (ap (λ b. not b && has_halted after.machine) (sym (ap has_halted is.state_is ∙ running)) ∙ (sym flips_is ∙ none)) ∙ sym running
+
+      -- what the rows are told
+      told_is : (wide flips : Bool) → wide ≡ is_wide happening.told.did happening.told.taken happening.changes_holds → flips ≡ (not (has_halted grid.machine) && has_halted after.machine)
+          → IsTold grid.image grid.parameters (state_of here) after.machine (record { event = event; wide = wide; halted = flips }) sent'.messages
+      told_is wide flips wide_is flips_is =
+          let of = happens.told 0 in
+          let wide_so : wide ≡ is_wide_event grid.image grid.parameters grid.machine event = wide_is ∙ (λ i. is_wide (of.did i) (of.taken i) (happens.holds i)) in
+          record {
+            enabled = may_here.0;
+            sends_are = sends_next;
+            after_is = machine_next;
+            narrow = λ narrow. sym (wide_so ∙ ap (λ m. is_wide_event grid.image grid.parameters m event) is.state_is) ∙ narrow;
+            goes_on = goes_on flips flips_is;
+          }
+
+      -- the journal after it
+      pub grown_is : {journal' : List Entry} (stamp : ℕ) → stamp ≡ stamp_at grid.image grid.machine event → journal' ≡ journal ++ record { stamp = stamp; event = event } ∷ []
+          → ◌≡◌ {A = History} (record { image = after.image; parameters = after.parameters; journal = journal' }) (grown here event)
+      grown_is stamp stamp_at_is pushed =
+          let stamp_is = stamp_at_is ∙ ap (λ (m : MachineState). stamp_at grid.image m event) is.state_is in
+          let journal_is = pushed ∙ (λ i. journal ++ record { stamp = stamp_is i; event = event } ∷ []) in
+          λ i. record { image = happens.image i; parameters = happens.parameters i; journal = journal_is i }
+
+      -- what a step answers
+      pub step_answers : {journal' : List Entry} (stamp : ℕ) → stamp ≡ stamp_at grid.image grid.machine event → journal' ≡ journal ++ record { stamp = stamp; event = event } ∷ []
+          → IsTrue (may_be_next here event) × ◌≡◌ {A = History} (record { image = after.image; parameters = after.parameters; journal = journal' }) (grown here event)
+          × (happening.told.did ≡ (stepped_by grid.image grid.parameters (state_of here) event).did)
+      step_answers stamp stamp_at_is pushed = (
+        subst (λ (m : MachineState). IsTrue (may_happen grid.image grid.parameters m event)) is.state_is may,
+        grown_is stamp stamp_at_is pushed,
+        (happens.told stamp).did ∙ ap (λ m. (stepped_by grid.image grid.parameters m event).did) is.state_is,
+      )
+
+      -- the machine after an event
+      pub machine_grows : {journal' : List Entry} {tally' : Tallied} {ready' : List Row} (stamp : ℕ) (wide flips : Bool)
+          → stamp ≡ stamp_at grid.image grid.machine event → journal' ≡ journal ++ record { stamp = stamp; event = event } ∷ []
+          → Adds after.image tally tally' happening.told sent'.messages
+          → wide ≡ is_wide happening.told.did happening.told.taken happening.changes_holds → flips ≡ (not (has_halted grid.machine) && has_halted after.machine)
+          → Renews after ready ready' (record { event = event; wide = wide; halted = flips }) sent'.messages → IsMachine after journal' sent' tally' ready'
+      machine_grows {journal' = journal'} {tally' = tally'} {ready' = ready'} stamp wide flips stamp_at_is pushed adds wide_is flips_is renews =
+          let entry : Entry = record { stamp = stamp; event = event } in
+          let stamp_is = stamp_at_is ∙ ap (λ (m : MachineState). stamp_at grid.image m event) is.state_is in
+          let entry_is : entry ≡ entry_of here event = λ i. record { stamp = stamp_is i; event = event } in
+          let journal_is : journal' ≡ journal ++ entry_of here event ∷ [] = pushed ∙ ap (λ e. journal ++ e ∷ []) entry_is in
+          let grown_so = grown_is stamp stamp_at_is pushed in
+          let pushed_state = state_push grid.image grid.parameters journal (entry_of here event) in
+          let adds_so : Adds grid.image tally tally' happening.told sent'.messages = subst (λ p. Adds p tally tally' happening.told sent'.messages) happens.image adds in
+          record {
+            run = subst IsRun (sym grown_so) (record { image = is.run.image; parameters = is.run.parameters; fits = is.run.fits; legal = legal_push grid.image grid.parameters journal (entry_of here event) is.run.legal next_is });
+            state_is = machine_next ∙ (sym pushed_state ∙ sym (ap state_of grown_so));
+            room = happens.room ∙ ap node_count (sym happens.image);
+            sends = sends_next ∙ (sym (ap sent_last (moments_push grid.image grid.parameters journal (entry_of here event)) ∙ sent_push (moments grid.image grid.parameters journal) (moment_of grid.image grid.parameters (state_of here) (entry_of here event)))
+                ∙ sym (ap last_sends grown_so));
+            told = adds_so (moment_of grid.image grid.parameters grid.machine entry) (happens.told stamp)
+                ∙ ((λ i. told_with grid.image (is.told i) (moment_of grid.image grid.parameters (is.state_is i) (entry_is i)))
+                ∙ (sym (told_entry grid.image grid.parameters journal (entry_of here event)) ∙ sym (ap told_by grown_so)));
+            rows = rows_renewed ready' renews;
+          }
+        where
+          told_by : History → Told
+          told_by h = told_of h.image (moments h.image h.parameters h.journal)
+
+          change : changes.Happened
+          change = record { event = event; wide = wide; halted = flips }
+
+          -- over the image and the parameters as they were
+          rows_renewed : (ready' : List Row) → Renews after ready ready' change sent'.messages → RowsFit after.image after.parameters after.machine ready'
+          rows_renewed ready' renews =
+              let told = told_is wide flips wide_is flips_is in
+              let fits = subst (λ (m : MachineState). RowsFit grid.image grid.parameters m ready) is.state_is is.rows in
+              renews journal
+              (subst (λ (p : Parts × Parameters). IsLegal p.0 p.1 journal) same is.run.legal)
+              (subst (λ (p : Parts × Parameters). IsTold p.0 p.1 (state p.0 p.1 journal) after.machine change sent'.messages) same told)
+              (subst (λ (p : Parts × Parameters). RowsFit p.0 p.1 (state p.0 p.1 journal) ready) same fits)
+            where
+              same : ◌≡◌ {A = Parts × Parameters} (grid.image, grid.parameters) (after.image, after.parameters)
+              same = λ i. (sym happens.image i, sym happens.parameters i)
+
+-- the machine at the start
+pub machine_begins : {grid : Grid} {sent : Sending} {tally : Tallied} {ready : List Row} (image : Parts) (parameters : Parameters) → grid ≡ grid_start image parameters
+    → IsImage image → AreParameters parameters → stamps_of image parameters ≤ 8388608 → sent.room ≡ node_count image → sent.messages ≡ []
+    → ((parts : Parts) → tally.told ≡ told_of parts []) → RowsFit grid.image grid.parameters grid.machine ready → IsMachine grid [] sent tally ready
+unfolding state moments
+machine_begins {sent = sent} {tally = tally} {ready = ready} image parameters starts is are fits room empty told rows =
+    let rows_so : RowsFit image parameters (machine_start image) ready = subst (λ (g : Grid). RowsFit g.image g.parameters g.machine ready) starts rows in
+    let begins : IsMachine (grid_start image parameters) [] sent tally ready
+    = record {
+      run = record { image = is; parameters = are; fits = fits; legal = tt };
+      state_is = refl;
+      room = room;
+      sends = empty;
+      rows = rows_so;
+      told = told image;
+    } in
+    subst (λ (g : Grid). IsMachine g [] sent tally ready) (sym starts) begins

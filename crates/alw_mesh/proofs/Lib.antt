@@ -1,0 +1,11 @@
+pub mod OneNode
+pub mod Moves
+pub mod Turning
+pub mod Grids
+pub mod Starts
+pub mod Remaining
+pub mod Journals
+pub mod Endings
+pub mod Finding
+pub mod Carriers
+pub mod Reading

@@ -1,0 +1,10 @@
+-- The slot is a context of the flat machine.
+use Rattle.std.proofs.Common.{ap, ◌∙◌}
+use Rattle.alw_model.specs.Flat.{Context}
+use Rattle.alw_mesh.proofs.Reading.{flat_slot}
+use Rattle.alw_mesh.proofs.machines.Machine.regs.Goals as goal
+
+pub returns-clause-flat : goal.returns-clause-flat
+returns-clause-flat c =
+    let exists = rw (← c.self.view_is) at c.requires in
+    rw (← c.self.view_is) (c.regs.ensures ∙ ap (λ (context : Context). context.regs) (flat_slot c.self.invariant c.args.context c.slot-slot.result.0.now c.slot-slot.result.1 exists c.slot-slot.ensures))

@@ -1,0 +1,18 @@
+-- The main events of a machine that may happen next, and those of one node.
+use Rattle.std.specs.Prelude.{ℕ, List, ◌∷◌, map, filter}
+use Rattle.std.specs.List.{range_with_len}
+use Rattle.alw_msg.specs.declared.events.Event.{Event}
+use Rattle.alw_msg.specs.declared.events.Event.TheVariants.{Instr, Handle, Deliver}
+use Rattle.alw_image.specs.declared.parts.Parts.{Parts}
+use Rattle.alw_image.specs.Images.{node_count}
+use Rattle.alw_model.specs.Machine.{main_events}
+use Rattle.alw_mesh.specs.Histories.{History, may_be_next}
+
+-- the main events that are enabled and within the limit, in the schedule's order
+abbrev pub next_events : History → List Event
+next_events h = filter (may_be_next h) (main_events h.image)
+
+-- the main events of a node, in that order
+abbrev pub node_events : Parts → ℕ → List Event
+node_events parts at =
+    Instr (record { 0 = at }) ∷ Handle (record { 0 = at }) ∷ map (λ from. Deliver (record { 0 = from }) (record { 0 = at })) (range_with_len 0 (node_count parts))

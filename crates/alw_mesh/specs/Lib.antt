@@ -1,0 +1,6 @@
+pub mod Histories
+pub mod Grids
+pub mod Keeping
+pub mod Readings
+pub mod Values
+pub mod Ends

@@ -1,0 +1,16 @@
+//! The machine: all nodes of an image with the links between them, and the journal of what happened.
+#![tactic(auto)]
+
+mod ends;
+mod errors;
+mod machines;
+mod meshes;
+mod parts;
+mod readers;
+mod stepping;
+mod values;
+mod views;
+
+pub use errors::{FitErr, MOST_STEPS, StepErr};
+pub use machines::Machine;
+pub use parts::MachineParts;

@@ -1,0 +1,127 @@
+ghost use Rattle.std.specs.Prelude.{◌≡◌, ◌&&◌, not};
+ghost use Rattle.alw_mesh.specs.Histories.{Starts, Steps, may_be_next, ArePartsOf};
+
+use crate::errors::{FitErr, MOST_STEPS, StepErr};
+use crate::meshes::Mesh;
+use crate::parts::MachineParts;
+use crate::stepping::count_nodes;
+use alw_image::{Image, Params};
+use alw_model::Did;
+use alw_msg::{Entry, Event, Journal, Sends};
+use alw_ready::{Happened as Changes, Ready, is_wide};
+use alw_tally::Tally;
+use std::alloc::Global;
+use std::marker::Model;
+
+/// A machine: the nodes of an image with the links between them, and the journal of the events that
+/// happened. Contracts see the image, the parameters and the journal, which say all else.
+#[derive(Debug, Drop)]
+pub struct Machine {
+    pub(crate) mesh: Mesh,
+    pub(crate) journal: Journal,
+    pub(crate) sent: Sends,
+    pub(crate) tally: Tally,
+    pub(crate) ready: Ready,
+}
+
+impl Model for Machine {
+    ghost use Rattle.alw_mesh.specs.Histories.{History};
+    ghost use Rattle.alw_mesh.specs.Keeping.{IsMachine};
+
+    ghost Value = { History };
+
+    ghost view = { λ m. record { image = m.mesh.image; parameters = m.mesh.parameters; journal = m.journal } };
+
+    ghost invariant = { λ m. IsMachine m.mesh m.journal m.sent m.tally m.ready };
+}
+
+impl Machine {
+    /// A machine at the start of an image. It keeps a copy of both. DoesNotFit comes exactly where nodes
+    /// times the event limit is above `MOST_STEPS`.
+    pub fn start(alloc: Global, image: &Image, params: &Params) -> Result<Machine, FitErr>
+        ensures { Starts image.now params.now result }
+    {
+        let nodes = u32::from(count_nodes(image));
+        let number = u64::from(nodes) * u64::from(params.limit());
+        if number > MOST_STEPS {
+            return Err(FitErr::DoesNotFit {
+                number,
+                most: MOST_STEPS,
+            });
+        }
+        let mesh = Mesh::start(alloc, image, params)?;
+        let mut ready = Ready::start(alloc, nodes)?;
+        ready.renew_all(&mesh);
+        Ok(Machine {
+            mesh,
+            journal: Journal::empty(alloc),
+            sent: Sends::room(alloc, nodes)?,
+            tally: Tally::start(alloc),
+            ready,
+        })
+    }
+
+    /// An event is enabled and within the limit. The event may be of any nodes.
+    pub fn may(&self, event: Event) -> bool
+        ensures { result ≡ may_be_next self.now event }
+    {
+        self.mesh.may_be_next(event)
+    }
+
+    /// An event happens, or nothing does: NotEnabled comes exactly where `may` is false.
+    pub fn step(&mut self, event: Event) -> Result<Did, StepErr>
+        ensures { Steps self.old event self.new result }
+    {
+        if !self.mesh.may_be_next(event) {
+            return Err(StepErr::NotEnabled);
+        }
+        let stamp = self.mesh.stamp(event);
+        self.tally.reserve()?;
+        self.mesh.reserve()?;
+        self.journal.push(Entry { stamp, event })?;
+        let had_halted = self.mesh.has_halted();
+        let happening = self.mesh.happen(event, &mut self.sent);
+        self.tally
+            .add(self.mesh.image(), &happening.told, &self.sent);
+        let changes = Changes {
+            event,
+            wide: is_wide(
+                happening.told.did,
+                happening.told.taken,
+                happening.changes_holds,
+            ),
+            halted: flips(had_halted, self.mesh.has_halted()),
+        };
+        self.ready.renew(&self.mesh, &changes, &self.sent);
+        Ok(happening.told.did)
+    }
+
+    /// The image, the parameters and the journal, with its turns and its prints.
+    pub fn into_parts(self) -> MachineParts
+        ensures { ArePartsOf self result }
+    {
+        let Machine {
+            mesh,
+            journal,
+            sent: _,
+            tally,
+            ready: _,
+        } = self;
+        let (image, params) = mesh.into_parts();
+        let (turns, prints) = tally.into_parts();
+        MachineParts {
+            image,
+            params,
+            journal,
+            turns,
+            prints,
+        }
+    }
+}
+
+// A test holds after something and didn't before.
+fn flips(before: bool, after: bool) -> bool
+    ensures { result ≡ (not before && after) }
+{
+    !before && after
+}

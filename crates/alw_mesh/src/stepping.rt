@@ -1,0 +1,129 @@
+ghost use Rattle.std.specs.Prelude.{◌≡◌, ◌<◌, ◌≤◌, ◌&&◌, true, length, nat_le, map, option_copied, IfOk};
+ghost use Rattle.std.specs.List.{range_with_len};
+ghost use Rattle.alw_image.specs.Images.{IsImage, node_count};
+ghost use Rattle.alw_model.specs.NodeStates.{stamp_of};
+ghost use Rattle.alw_model.specs.Counts.{is_turn};
+ghost use Rattle.alw_node.specs.Nodes.{whole_start, IsGiven};
+ghost use Rattle.alw_mesh.specs.Keeping.{taken_from, after_taking, IsWithin, HasTrapPc, whole_in, may_act, Acts};
+
+use alw_image::{Image, Params};
+use alw_links::Links;
+use alw_model::Did;
+use alw_msg::{Event, Msg, Sends, Status};
+use alw_node::Node;
+use alw_num::{NoMemory, NodeNo};
+use alw_tally::Happened;
+use sparc_table::Outcome;
+use std::alloc::Global;
+
+/// The number of nodes of an image.
+pub fn count_nodes(image: &Image) -> u16
+    ensures count { result ≡ node_count image.now }
+    ensures image { IsImage image.now }
+{
+    let parts = image.parts();
+    u16::from(parts.width) * u16::from(parts.height)
+}
+
+/// All nodes of an image at the start.
+pub fn nodes_start(
+    alloc: Global,
+    image: &Image,
+    params: &Params,
+    count: u16,
+) -> Result<Vec<Node>, NoMemory>
+    requires { count ≡ node_count image.now }
+    ensures { IfOk result (λ nodes. nodes.items ≡ map (whole_start image.now params.now) (range_with_len 0 count)) }
+{
+    let mut nodes = Vec::with_capacity(alloc, usize::from(count))?;
+    for n in 0..count {
+        nodes.push_reserved(Node::start(alloc, image, params, NodeNo(n))?);
+    }
+    Ok(nodes)
+}
+
+/// The message that an event takes, off its link: the head for a delivery, and none else.
+pub fn take(links: &mut Links, event: Event) -> Option<Msg>
+    requires { IsWithin links.old.nodes event }
+    ensures message { result ≡ taken_from links.old event }
+    ensures links { links.new ≡ after_taking links.old event }
+{
+    match event {
+        Event::Deliver { from, to } => links.take(from, to),
+        Event::Instr { .. } | Event::Handle { .. } | Event::Evict { .. } => None,
+    }
+}
+
+/// The stamp of an event that takes this message, at this clock, is within a limit.
+pub fn is_in_time(clock: u32, head: Option<&Msg>, limit: u32) -> bool
+    ensures { result ≡ nat_le (stamp_of clock (option_copied head.entry)) limit }
+{
+    match head {
+        Some(msg) => clock.max(msg.stamp) < limit,
+        None => clock < limit,
+    }
+}
+
+/// What a node did is a turn that ended a hold, where its number of holds changed or not.
+pub fn uses_hold(did: Did, changes_holds: bool) -> bool
+    ensures { result ≡ (is_turn did && changes_holds) }
+{
+    matches!(did, Did::Turn { .. }) && changes_holds
+}
+
+/// PC of the slot that trapped, where what a node did is a trapping turn.
+pub fn trap_pc(node: &Node, did: Did) -> u32
+    ensures { HasTrapPc node.now.state.slots result did }
+{
+    match did {
+        Did::Turn {
+            slot,
+            outcome: Outcome::Trap { .. },
+        } if slot < node.count() => match node.status(slot) {
+            Status::Trapped { pc, .. } => pc,
+            _ => 0,
+        },
+        _ => 0,
+    }
+}
+
+/// What a node did at an event, whether it has another number of holds than before, and the PC of the
+/// slot that trapped, where it was a trapping turn.
+#[derive(Clone, Copy, Debug, PartialEq, Eq)]
+pub struct Acted {
+    pub did: Did,
+    pub changes_holds: bool,
+    pub pc: u32,
+}
+
+/// One event of a node, with the message that it takes.
+pub fn act(
+    nodes: &mut Vec<Node>,
+    at: usize,
+    event: Event,
+    taken: Option<Msg>,
+    sent: &mut Sends,
+) -> Acted
+    requires here { at < length nodes.old.items }
+    requires enabled { may_act (whole_in nodes.old.items at) event taken ≡ true }
+    requires taken { IsGiven event taken }
+    requires room { node_count (whole_in nodes.old.items at).parts ≤ sent.old.room }
+    ensures { Acts nodes.old.items nodes.new.items at event taken sent.old sent.new result }
+{
+    let node = &mut nodes[at];
+    let holds = node.holds();
+    let did = node.local(event, taken, sent);
+    let _fits = sent.free();
+    Acted {
+        did,
+        changes_holds: node.holds() != holds,
+        pc: trap_pc(node, did),
+    }
+}
+
+/// What happened at an event, and whether its node has another number of holds than before.
+#[derive(Clone, Copy, Debug, PartialEq, Eq)]
+pub struct Happening {
+    pub told: Happened,
+    pub changes_holds: bool,
+}
