@@ -1,4 +1,4 @@
-ghost use Rattle.std.specs.Prelude.{◌≡◌, ◌<◌, ◌≤◌, ℕ, nat_lt, ◌&&◌, slice_get, max, option_copied, IfOk, OnOk, OnErr, IsTrue};
+ghost use Rattle.std.specs.Prelude.{◌≡◌, ◌<◌, ◌≤◌, ◌^◌, ℕ, nat_lt, ◌&&◌, slice_get, max, option_copied, IfOk, OnOk, OnErr, IsTrue};
 ghost use Rattle.alw_num.specs.NodeSets.{has_node, nodes_of};
 ghost use Rattle.alw_msg.specs.Events.{node_of};
 ghost use Rattle.alw_msg.specs.Lists.{is_nonempty};
@@ -92,6 +92,14 @@ impl Mesh {
         ensures { result ≡ node_count self.now.image }
     {
         count_nodes(&self.image)
+    }
+
+    /// The number of lines of shared data.
+    pub fn lines(&self) -> u32
+        ensures lines { result ≡ line_count self.now.image }
+        ensures most { result ≤ 2 ^ 20 }
+    {
+        u32::from(self.count()) * u32::from(self.image.per_node())
     }
 
     /// The messages on the link of two nodes, its head first.

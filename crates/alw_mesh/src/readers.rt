@@ -40,6 +40,22 @@ impl Machine {
         self.mesh.params()
     }
 
+    /// The number of nodes, 1 to 256.
+    pub fn nodes(&self) -> u16
+        ensures nodes { result ≡ node_count self.now.image }
+        ensures some { 1 ≤ result }
+    {
+        self.mesh.count()
+    }
+
+    /// The number of lines of shared data, at most 2^20.
+    pub fn lines(&self) -> u32
+        ensures lines { result ≡ line_count self.now.image }
+        ensures most { result ≤ 2 ^ 20 }
+    {
+        self.mesh.lines()
+    }
+
     /// The journal: the events that happened, in order, each with its stamp.
     pub fn journal(&self) -> &Journal
         ensures journal { result.now ≡ self.now.journal }

@@ -1,0 +1,21 @@
+ghost use Rattle.std.specs.Prelude.{◌≡◌, ◌≢◌, ℕ, None};
+ghost use Rattle.alw_image.specs.declared.parts.Parts.{Parts};
+ghost use Rattle.alw_image.specs.Parameters.{Parameters};
+ghost use Rattle.alw_model.specs.Headline.{IsScheduled};
+ghost use Rattle.alw_mesh.specs.Histories.{History};
+ghost use Rattle.alw_sched.specs.Schedules.{end_in, IsSeeded, IsSeededRun};
+
+/// Two runs that one seed makes from one place, each up to an end, are one: so a report is a function
+/// of image, parameters and seed.
+#[tactic(auto, using(crate::proofs::Seeded::one_seeded))]
+pub fn one_run_a_seed()
+    ensures { (before : History) → (seed : ℕ) → (one : History) → (other : History) → IsSeeded before seed one → IsSeeded before seed other →
+        end_in one ≢ None → end_in other ≢ None → one ≡ other }
+{}
+
+/// The run of a seed is made event by event: no end holds before its last entry, and no entry is an
+/// eviction where none is to be tried.
+#[tactic(auto, using(crate::proofs::Seeded::seeded_scheduled))]
+pub fn seeded_runs_are_scheduled()
+    ensures { (image : Parts) → (parameters : Parameters) → (seed : ℕ) → (h : History) → IsSeededRun image parameters seed h → IsScheduled h.image h.parameters h.journal }
+{}

@@ -1,0 +1,8 @@
+//! The schedule of a seed: the events that its draws pick, up to an end.
+#![tactic(auto)]
+
+mod laws;
+mod schedules;
+
+pub use laws::{one_run_a_seed, seeded_runs_are_scheduled};
+pub use schedules::finish;

@@ -1,0 +1,59 @@
+ghost use Rattle.std.specs.Prelude.{◌≡◌, ◌<◌, ◌%◌, nat_lt, None, Some};
+ghost use Rattle.alw_image.specs.Images.{node_count};
+ghost use Rattle.alw_sched.specs.Schedules.{Finishes, end_in, asked_node, picked};
+
+use alw_mesh::{Machine, StepErr};
+use alw_model::Ended;
+use alw_msg::Event;
+use alw_num::{Draws, NoMemory, NodeNo};
+
+/// Takes the events that the draws of a seed pick, until an end. Where memory is refused, the machine
+/// stands after the events before.
+pub fn finish(machine: &mut Machine, seed: u64) -> Result<Ended, NoMemory>
+    ensures { Finishes machine.old seed machine.new result }
+{
+    let mut draws = Draws { state: seed };
+    loop {
+        if let Some(ended) = machine.ended() {
+            return Ok(ended);
+        }
+        let event = pick(machine, draws.draw());
+        match machine.step(event) {
+            Ok(_) => {}
+            Err(StepErr::NoMemory) => return Err(NoMemory),
+            Err(StepErr::NotEnabled) => unreachable!(),
+        }
+    }
+}
+
+// The event that a drawn number picks, where no end holds.
+fn pick(machine: &Machine, number: u32) -> Event
+    requires { end_in machine.now ≡ None }
+    ensures { picked machine.now number ≡ Some result }
+{
+    let node = asked_node(machine, number);
+    let eviction = Event::Evict {
+        node,
+        set: (number >> 16) % machine.params().sets(),
+    };
+    if is_tried(machine, number) && machine.is_live(node) && machine.may(eviction) {
+        eviction
+    } else {
+        machine.event(number % machine.events())
+    }
+}
+
+// The node whose eviction a number asks for.
+fn asked_node(machine: &Machine, number: u32) -> NodeNo
+    ensures node { result.0 ≡ asked_node machine.now number }
+    ensures exists { result.0 < node_count machine.now.image }
+{
+    NodeNo(((number >> 8) % u32::from(machine.nodes())) as u16)
+}
+
+// The number's low byte says that an eviction is to be tried.
+fn is_tried(machine: &Machine, number: u32) -> bool
+    ensures { result ≡ nat_lt (number % 256) machine.now.parameters.evict }
+{
+    number % 256 < u32::from(machine.params().evict())
+}
