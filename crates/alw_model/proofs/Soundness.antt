@@ -64,7 +64,7 @@ at_by_test count s i is =
     record { transaction = p.0; debt = p.1; carrier = p.2; current = p.3; sharers = p.4; order = p.5; single = p.6 }
 
 module _ (count : ℕ) (s : LineState) (entry : Directory) (pending : ℕ) where
-  line_by_test : IsTrue (is_sound_line count s entry pending) → LineInvariant count s entry pending
+  pub line_by_test : IsTrue (is_sound_line count s entry pending) → LineInvariant count s entry pending
   line_by_test is =
       let a = and_parts (line.counter_fits count s) (line.software_fits entry pending && list_all (is_sound_at count s) (range_with_len 0 count)) is in
       let b = and_parts (line.software_fits entry pending) (list_all (is_sound_at count s) (range_with_len 0 count)) a.1 in
@@ -80,7 +80,7 @@ module _ (count : ℕ) (s : LineState) (entry : Directory) (pending : ℕ) where
         software = b.0;
       }
 
-  test_of_line : LineInvariant count s entry pending → IsTrue (is_sound_line count s entry pending)
+  pub test_of_line : LineInvariant count s entry pending → IsTrue (is_sound_line count s entry pending)
   test_of_line is = and_is (line.counter_fits count s) _ is.counter.0 (and_is (line.software_fits entry pending) _ is.software (all_below (is_sound_at count s) 0 count (λ i m.
       let l : i < count = omega arith in
       of_seven (line.transaction_fits s i) (line.debt_fits s i) (line.carrier_fits count s i) (line.current_fits count s i) (line.sharer_fits s i) (line.order_fits (s.node i)) (line.single_by (s.node i).transaction (s.node i))

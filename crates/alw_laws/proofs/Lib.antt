@@ -1,0 +1,9 @@
+pub mod Orders
+pub mod Accounts
+pub mod Links
+pub mod Totals
+pub mod Wider
+pub mod Picks
+pub mod LinkLists
+pub mod Messages
+pub mod Shown

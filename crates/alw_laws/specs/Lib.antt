@@ -1,0 +1,4 @@
+pub mod Views
+pub mod Traffic
+pub mod Parts
+pub mod Shown
