@@ -1,6 +1,7 @@
 -- What makes a choice is of the kind of an option that makes it.
-use Rattle.std.proofs.Common.{◌≡◌, ℕ, zero, suc, ◌<◌, ◌≤◌, ◌||◌, ◌&&◌, ◌==◌, nat_le, Bool, true, false, cond, List, [], ◌∷◌, length, refl, sym, ap, subst, ◌∙◌, arith}
-use Rattle.std.specs.Prelude.{Option, None, Some, IfSome, IsTrue, slice_index_or, unwrap_or, option_map, option_and_then, bytes_eq}
+use Rattle.std.proofs.Common.{◌≡◌, ℕ, zero, suc, ◌+◌, ◌<◌, ◌≤◌, ◌||◌, ◌&&◌, ◌==◌, nat_le, Bool}
+use Rattle.std.proofs.Common.{true, false, cond, List, [], ◌∷◌, length, refl, sym, ap, subst, ◌∙◌, arith}
+use Rattle.std.specs.Prelude.{Option, None, Some, IfSome, IsTrue, slice_index_or, option_map, option_and_then, bytes_eq}
 use Rattle.std.specs.Option.{option_map_or}
 use Rattle.std.specs.List.{list_any}
 use Rattle.alw_image.specs.Parameters.{set_counts}
@@ -8,6 +9,7 @@ use Rattle.alw_config.specs.declared.commands.AsmForm.{AsmForm}
 use Rattle.alw_config.specs.declared.commands.Form.{Form}
 use Rattle.alw_config.specs.declared.commands.How.{How}
 use Rattle.alw_config.specs.declared.commands.How.TheVariants as hows
+use Rattle.alw_config.specs.declared.rows.Made.{Made}
 use Rattle.alw_config.specs.declared.rows.Meaning.{Meaning}
 use Rattle.alw_config.specs.declared.rows.Name.{Name}
 use Rattle.alw_config.specs.declared.rows.Name.TheVariants as names
@@ -17,13 +19,15 @@ use Rattle.alw_config.specs.declared.rows.Value.{Value}
 use Rattle.alw_config.specs.declared.rows.Value.TheVariants as values
 use Rattle.alw_config.specs.declared.rows.TheConstants.{MOST_CHOICES}
 use Rattle.alw_config.specs.Values.{row_of, asm_forms, forms, number_if, value_of}
-use Rattle.alw_config.specs.Table.{Options, options_of, defaults_of, makes, value_behind, made}
-use Rattle.alw_config.specs.Choices.{AreMade, is_of, is_allowed, AreAllowed}
+use Rattle.alw_config.specs.Table.{Options, options_of, defaults_of, rule_of, makes, value_behind, made_from, made}
+use Rattle.alw_config.specs.Choices.{AreMade, HasChoices, is_of, is_allowed, AreAllowed, value_by}
+use Rattle.alw_config.proofs.Made.{made_at}
 use Rattle.alw_config.proofs.Spelled.{passed_if}
 
 -- ---- of a kind
 
-number_of_kind : (test : ℕ → Bool) (word : List ℕ) (v : Value) (P : Value → Bool) → ((n : ℕ) → P (values.Number n) ≡ test n) → option_map values.Number (number_if test word) ≡ Some v → P v ≡ true
+number_of_kind : (test : ℕ → Bool) (word : List ℕ) (v : Value) (P : Value → Bool) →
+    ((n : ℕ) → P (values.Number n) ≡ test n) → option_map values.Number (number_if test word) ≡ Some v → P v ≡ true
 number_of_kind test word v P is found = go (number_if test word) refl found
   where
     go : (o : Option ℕ) → number_if test word ≡ o → option_map values.Number o ≡ Some v → P v ≡ true
@@ -36,7 +40,8 @@ mapped f (Some a) v P is found = let same : f a ≡ v = cc in subst (λ (u : Val
 
 value_of_kind : (kind : Kind) (word : List ℕ) (v : Value) → value_of kind word ≡ Some v → is_of kind v ≡ true
 value_of_kind kinds.Seed word v found = mapped _ _ v (is_of kinds.Seed) (λ a. refl) found
-value_of_kind (kinds.Between least most) word v found = number_of_kind (λ n. nat_le least n && nat_le n most) word v (is_of (kinds.Between least most)) (λ n. refl) found
+value_of_kind (kinds.Between least most) word v found =
+    number_of_kind (λ n. nat_le least n && nat_le n most) word v (is_of (kinds.Between least most)) (λ n. refl) found
 value_of_kind kinds.SetCount word v found = number_of_kind (λ n. list_any (λ count. n == count) set_counts) word v (is_of kinds.SetCount) (λ n. refl) found
 value_of_kind kinds.AsmForm word v found = mapped values.AsmForm (row_of asm_forms word) v (is_of kinds.AsmForm) (λ a. refl) found
 value_of_kind kinds.Form word v found = mapped values.Form (row_of forms word) v (is_of kinds.Form) (λ a. refl) found
@@ -47,7 +52,8 @@ or_true : (b : Bool) → (b || true) ≡ true
 or_true true = refl
 or_true false = refl
 
-row_allowed : (options : Options) (k : ℕ) (word : List ℕ) (meaning : Meaning) (v : Value) → row_of options word ≡ Some meaning → (meaning.choice == k) ≡ true → is_of meaning.kind v ≡ true → is_allowed options k v ≡ true
+row_allowed : (options : Options) (k : ℕ) (word : List ℕ) (meaning : Meaning) (v : Value) → row_of options word ≡ Some meaning →
+    (meaning.choice == k) ≡ true → is_of meaning.kind v ≡ true → is_allowed options k v ≡ true
 row_allowed [] k word meaning v known this of = absurd (cc)
 row_allowed (row ∷ rest) k word meaning v known this of = go (bytes_eq row.0 word) known (λ later. row_allowed rest k word meaning v later this of)
   where
@@ -56,31 +62,43 @@ row_allowed (row ∷ rest) k word meaning v known this of = go (bytes_eq row.0 w
     go true found more = let same : row.1 ≡ meaning = cc in rw (same, this, of) refl
     go false found more = rw (more found) (or_true (row.1.choice == k && is_of row.1.kind v))
 
-made_allowed : (options : Options) (k : ℕ) (words : List (List ℕ)) (v : Value) → made options k words ≡ Some v → is_allowed options k v ≡ true
-made_allowed options k [] v found = absurd (cc)
-made_allowed options k (x ∷ []) v found = absurd (cc)
-made_allowed options k (x ∷ y ∷ rest) v found = go (row_of options x) refl found (made_allowed options k rest v)
+made_allowed : (options : Options) (k from : ℕ) (words : List (List ℕ)) (m : Made) → made_from from options k words ≡ Some m →
+    is_allowed options k m.value ≡ true
+made_allowed options k from [] m found = absurd (cc)
+made_allowed options k from (x ∷ []) m found = absurd (cc)
+made_allowed options k from (x ∷ y ∷ rest) m found = go (row_of options x) refl found (made_allowed options k (from + 2) rest m)
   where
     go : (row : Option Meaning) → row_of options x ≡ row
-        → cond (option_map_or (λ (m : Meaning). m.choice == k) row false) (option_and_then (λ (m : Meaning). value_of m.kind y) row) (made options k rest) ≡ Some v
-        → (made options k rest ≡ Some v → is_allowed options k v ≡ true) → is_allowed options k v ≡ true
+        → cond (option_map_or (λ (meaning : Meaning). meaning.choice == k) row false)
+        (option_map (made_at (from + 1)) (option_and_then (λ (meaning : Meaning). value_of meaning.kind y) row)) (made_from (from + 2) options k rest) ≡ Some m
+        → (made_from (from + 2) options k rest ≡ Some m → is_allowed options k m.value ≡ true) → is_allowed options k m.value ≡ true
     go None e later more = more later
-    go (Some m) e this more = here (m.choice == k) refl this
+    go (Some meaning) e this more = here (meaning.choice == k) refl this
       where
-        here : (b : Bool) → (m.choice == k) ≡ b → cond b (value_of m.kind y) (made options k rest) ≡ Some v → is_allowed options k v ≡ true
-        here true same value = row_allowed options k x m v e same (value_of_kind m.kind y v value)
+        taken : (o : Option Value) → value_of meaning.kind y ≡ o →
+            (meaning.choice == k) ≡ true → option_map (made_at (from + 1)) o ≡ Some m → is_allowed options k m.value ≡ true
+        taken None value same none = absurd (cc)
+        taken (Some v) value same found =
+            let is : v ≡ m.value = ap (λ (o : Option Made). option_map_or (λ (made : Made). made.value) o v) found in
+            subst (λ (u : Value). is_allowed options k u ≡ true) is (row_allowed options k x meaning v e same (value_of_kind meaning.kind y v value))
+
+        here : (b : Bool) → (meaning.choice == k) ≡ b →
+            cond b (option_map (made_at (from + 1)) (value_of meaning.kind y)) (made_from (from + 2) options k rest) ≡ Some m
+            → is_allowed options k m.value ≡ true
+        here true same found = taken (value_of meaning.kind y) refl same found
         here false other later = more later
 
 -- what the words make is allowed
-pub chosen_allowed : (options : Options) (words : List (List ℕ)) (chosen : List (Option Value)) → AreMade options words chosen → AreAllowed options chosen
+pub chosen_allowed : (options : Options) (words : List (List ℕ)) (chosen : List (Option Made)) → AreMade options words chosen → AreAllowed options chosen
 chosen_allowed options words chosen all k l = go (slice_index_or chosen k None) (sym (all.made_so k l))
   where
-    go : (o : Option Value) → made options k words ≡ o → IfSome o (λ value. IsTrue (is_allowed options k value))
+    go : (o : Option Made) → made options k words ≡ o → IfSome o (λ m. IsTrue (is_allowed options k m.value))
     go None e = tt
-    go (Some v) e = made_allowed options k words v e
+    go (Some m) e = made_allowed options k 1 words m e
 
 -- and so is each default
-defaults_allowed : (name : Name) (k : ℕ) → k < length (defaults_of name) → is_allowed (options_of name) k (slice_index_or (defaults_of name) k (values.Number 0)) ≡ true
+defaults_allowed : (name : Name) (k : ℕ) → k < length (defaults_of name) →
+    is_allowed (options_of name) k (slice_index_or (defaults_of name) k (values.Number 0)) ≡ true
 defaults_allowed names.Asm zero l = refl
 defaults_allowed names.Asm (suc k) l = absurd (omega arith)
 defaults_allowed names.Run zero l = refl
@@ -95,11 +113,16 @@ pub few_defaults : (name : Name) → length (defaults_of name) ≤ MOST_CHOICES
 few_defaults names.Asm = omega arith
 few_defaults names.Run = omega arith
 
-pub value_allowed : (name : Name) (chosen : List (Option Value)) (k : ℕ) → AreAllowed (options_of name) chosen → k < length (defaults_of name)
-    → IsTrue (is_allowed (options_of name) k (unwrap_or (slice_index_or chosen k None) (slice_index_or (defaults_of name) k (values.Number 0))))
+pub value_allowed : (name : Name) (chosen : List (Option Made)) (k : ℕ) → AreAllowed (options_of name) chosen → k < length (defaults_of name)
+    → IsTrue (is_allowed (options_of name) k (value_by chosen (defaults_of name) k))
 value_allowed name chosen k allowed l = go (slice_index_or chosen k None) (allowed k (omega (arith, few_defaults name)))
   where
-    go : (o : Option Value) → IfSome o (λ value. IsTrue (is_allowed (options_of name) k value))
-        → IsTrue (is_allowed (options_of name) k (unwrap_or o (slice_index_or (defaults_of name) k (values.Number 0))))
+    go : (o : Option Made) → IfSome o (λ m. IsTrue (is_allowed (options_of name) k m.value))
+        → IsTrue (is_allowed (options_of name) k (option_map_or (λ m. m.value) o (slice_index_or (defaults_of name) k (values.Number 0))))
     go None is = defaults_allowed name k l
-    go (Some v) is = is
+    go (Some m) is = is
+
+-- the choices of a rule have places
+pub rule_has : (name : Name) → IfSome (rule_of name) HasChoices
+rule_has names.Asm = tt
+rule_has names.Run = tt

@@ -1,12 +1,15 @@
 -- Words written out: where they are refused, and what they ask for.
-use Rattle.std.proofs.Common.{◌≡◌, ℕ, zero, suc, ◌<◌, Bool, true, false, List, [], ◌∷◌, codes, refl, arith}
-use Rattle.std.specs.Prelude.{Some}
+use Rattle.std.proofs.Common.{◌≡◌, ℕ, zero, suc, ◌<◌, Bool, true, false, List, [], ◌∷◌, codes, refl, inl, arith}
+use Rattle.std.specs.Prelude.{Option, None, Some}
 use Rattle.std.specs.Fmt.{digits}
 use Rattle.alw_config.specs.declared.commands.Command.TheVariants.{Asm, Run}
 use Rattle.alw_config.specs.declared.commands.How.TheVariants.{Seed}
 use Rattle.alw_config.specs.declared.commands.AsmForm.TheVariants.{Image, Listing}
 use Rattle.alw_config.specs.declared.commands.Form.TheVariants.{Report}
-use Rattle.alw_config.specs.Places.{IsFirst, IsRefusedAt, is_bad, asked}
+use Rattle.alw_config.specs.declared.rows.Kind.TheVariants as kinds
+use Rattle.alw_config.specs.declared.rows.Value.TheVariants.{Number}
+use Rattle.alw_config.specs.Table.{Options, misfit}
+use Rattle.alw_config.specs.Places.{IsFirst, IsRefusedAt, is_bad, is_bad_option, asked}
 
 -- the first place that passes a test is 2
 at_two : (test : ℕ → Bool) → test 0 ≡ false → test 1 ≡ false → test 2 ≡ true → IsFirst test 2
@@ -18,15 +21,15 @@ at_two test a b here = record { here = here; none_before = before }
     before (suc (suc j)) l = absurd (omega arith)
 
 no_words : IsRefusedAt [] 0
-no_words = record { here = refl; none_before = λ j l. absurd (omega arith) }
+no_words = inl (record { here = refl; none_before = λ j l. absurd (omega arith) })
 
 no_seed : IsRefusedAt (codes "run" ∷ codes "--seed" ∷ []) 2
 unfolding digits
-no_seed = at_two _ refl refl refl
+no_seed = inl (at_two _ refl refl refl)
 
 leading_zero : IsRefusedAt (codes "run" ∷ codes "--seed" ∷ codes "01" ∷ []) 2
 unfolding digits
-leading_zero = at_two _ refl refl refl
+leading_zero = inl (at_two _ refl refl refl)
 
 twice : is_bad (codes "asm" ∷ codes "--write" ∷ codes "listing" ∷ codes "--write" ∷ codes "image" ∷ []) 3 ≡ true
 twice = refl
@@ -45,7 +48,8 @@ listing = refl
 defaults : asked (codes "run" ∷ []) ≡ Some (Run (Seed 0) (record { pointers = 4; sets = 256; limit = 32768; evict = 0 }) Report)
 defaults = refl
 
-all_options : asked (codes "run" ∷ codes "--write" ∷ codes "report" ∷ codes "--evict" ∷ codes "255" ∷ codes "--limit" ∷ codes "1048576" ∷ codes "--sets" ∷ codes "4096"
+all_options : asked (codes "run" ∷ codes "--write" ∷ codes "report" ∷ codes "--evict" ∷ codes "255" ∷ codes "--limit" ∷ codes "1048576" ∷ codes "--sets"
+    ∷ codes "4096"
     ∷ codes "--pointers" ∷ codes "8" ∷ codes "--seed" ∷ codes "18446744073709551615" ∷ [])
     ≡ Some (Run (Seed 18446744073709551615) (record { pointers = 8; sets = 4096; limit = 1048576; evict = 255 }) Report)
 unfolding digits
@@ -78,3 +82,33 @@ limits = (refl, refl, refl)
 evictions : (is_bad_of (codes "--evict") (codes "0") ≡ false) × (is_bad_of (codes "--evict") (codes "256") ≡ true)
 unfolding digits
 evictions = (refl, refl)
+
+-- ---- what no command has yet: two options of one choice, and a rule over three
+
+one_choice : Options
+one_choice = (codes "--seed", record { choice = 0; kind = kinds.Seed }) ∷ (codes "--workers", record { choice = 0; kind = kinds.Between 1 256 }) ∷ []
+
+shut_out : (is_bad_option one_choice (codes "--workers" ∷ codes "2" ∷ codes "--seed" ∷ codes "1" ∷ []) 2 ≡ true)
+    × (is_bad_option one_choice (codes "--seed" ∷ codes "1" ∷ codes "--workers" ∷ codes "2" ∷ []) 2 ≡ true)
+unfolding one_choice digits
+shut_out = (refl, refl)
+
+sizes : Options
+sizes = (codes "--width", record { choice = 0; kind = kinds.Between 1 16 }) ∷ (codes "--height", record { choice = 1; kind = kinds.Between 1 16 })
+    ∷ (codes "--size", record { choice = 2; kind = kinds.Between 1 255 }) ∷ []
+
+-- where width or height is above 8, size is at most 63; the defaults are 4, 4 and 16
+misfit_of : List (List ℕ) → Option ℕ
+unfolding sizes
+misfit_of words = misfit (record { one = 0; other = 1; above = 8; third = 2; most = 63 }) sizes (Number 4 ∷ Number 4 ∷ Number 16 ∷ []) words
+
+small_enough : (misfit_of (codes "--size" ∷ codes "64" ∷ codes "--width" ∷ codes "8" ∷ []) ≡ None)
+    × (misfit_of (codes "--size" ∷ codes "63" ∷ codes "--height" ∷ codes "16" ∷ []) ≡ None)
+    × (misfit_of (codes "--width" ∷ codes "9" ∷ []) ≡ None)
+unfolding sizes misfit_of digits
+small_enough = (refl, refl, refl)
+
+too_great : (misfit_of (codes "--size" ∷ codes "64" ∷ codes "--width" ∷ codes "9" ∷ []) ≡ Some 2)
+    × (misfit_of (codes "--height" ∷ codes "9" ∷ codes "--size" ∷ codes "255" ∷ []) ≡ Some 4)
+unfolding sizes misfit_of digits
+too_great = (refl, refl)

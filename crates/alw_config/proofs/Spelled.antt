@@ -1,5 +1,6 @@
 -- Words that spell a number.
-use Rattle.std.proofs.Common.{◌≡◌, ◌≢◌, ℕ, ◌<◌, ◌≤◌, ◌^◌, ◌==◌, nat_le, Bool, true, false, cond, ◌&&◌, Option, Some, None, List, [], ◌∷◌, ◌⊎◌, ⊎_elim, refl, subst, ap, ◌∙◌, decimal, arith}
+use Rattle.std.proofs.Common.{◌≡◌, ◌≢◌, ℕ, ◌<◌, ◌≤◌, ◌^◌, ◌==◌, nat_le, Bool, true, false, cond, ◌&&◌}
+use Rattle.std.proofs.Common.{Option, Some, None, List, [], ◌∷◌, ◌⊎◌, ⊎_elim, refl, subst, ap, ◌∙◌, decimal, arith}
 use Rattle.std.proofs.lemmas.Slice.Eq.{bytes_eq-Decides}
 use Rattle.std.proofs.lemmas.Bool.{and_parts}
 use Rattle.std.proofs.lemmas.Bool.Decides.{nat_tests}
@@ -22,7 +23,8 @@ pub fails_if : (test : ℕ → Bool) (word : List ℕ) (n : ℕ) → word ≡ de
 fails_if test word n spelled l failed = rw (spelled_if test word n spelled l, failed)
 
 -- no number below 2^64 is spelled, and the test passes no other
-pub unspelled_if : (test : ℕ → Bool) (word : List ℕ) → ((n : ℕ) → test n ≡ true → n < 2 ^ 64) → ((n : ℕ) → n < 2 ^ 64 → word ≢ decimal n) → number_if test word ≡ None
+pub unspelled_if : (test : ℕ → Bool) (word : List ℕ) → ((n : ℕ) → test n ≡ true → n < 2 ^ 64) →
+    ((n : ℕ) → n < 2 ^ 64 → word ≢ decimal n) → number_if test word ≡ None
 unspelled_if test word small none = go (is_decimal word && test (number_of word)) refl
   where
     go : (b : Bool) → (is_decimal word && test (number_of word)) ≡ b → cond b (Some (number_of word)) None ≡ None

@@ -1,16 +1,31 @@
 -- From the words behind a command's name to all words.
-use Rattle.std.proofs.Common.{◌≡◌, ℕ, zero, suc, ◌+◌, ◌-◌, ◌<◌, ◌≤◌, false, List, [], ◌∷◌, length, refl, sym, ap, ◌∙◌, arith}
-use Rattle.std.specs.Prelude.{Some, None, Option, is_none, unwrap_or, option_and_then}
+use Rattle.std.proofs.Common.{◌≡◌, ℕ, zero, suc, ◌+◌, ◌-◌, ◌<◌, ◌≤◌, Bool, true, false, List, [], ◌∷◌, length, refl, sym, ap, ◌∙◌, inl, inr, arith}
+use Rattle.std.specs.Prelude.{Some, None, Option, IfSome, is_none, option_and_then}
 use Rattle.std.specs.Option.{option_map_or}
 use Rattle.alw_config.specs.declared.commands.Command.{Command}
+use Rattle.alw_config.specs.declared.rows.Made.{Made}
 use Rattle.alw_config.specs.declared.rows.Name.{Name}
+use Rattle.alw_config.specs.declared.rows.Rule.{Rule}
 use Rattle.alw_config.specs.declared.rows.Value.{Value}
 use Rattle.alw_config.specs.declared.rows.TheConstants.{MOST_CHOICES}
 use Rattle.alw_config.specs.Values.{row_of}
-use Rattle.alw_config.specs.Table.{Options, commands, options_of, defaults_of, made, values_from, command_of}
-use Rattle.alw_config.specs.Places.{IsRefusedAt, IsRefusedBehind, IsCommand, is_bad, is_bad_option}
-use Rattle.alw_config.specs.Choices.{AreMade, values_by}
-use Rattle.alw_config.proofs.Allowed.{few_defaults}
+use Rattle.alw_config.specs.Table.{Options, commands, options_of, defaults_of, rule_of, made, misfit, values_from, command_of}
+use Rattle.alw_config.specs.Places.{AreRight, IsFirst, IsRefusedAt, IsRefusedBehind, IsCommand, is_bad, is_bad_option, misfit_in}
+use Rattle.alw_config.specs.Choices.{AreMade, HasChoices, values_by, misfit_by}
+use Rattle.alw_config.proofs.Allowed.{few_defaults, rule_has}
+
+-- ---- refused at the name
+
+nothing_before : (test : ℕ → Bool) → test 0 ≡ true → IsFirst test 0
+nothing_before test here = record { here = here; none_before = λ j l. absurd (omega arith) }
+
+pub missing_name : (words : List (List ℕ)) → words ≡ [] → IsRefusedAt words 0
+missing_name words none = inl (nothing_before (is_bad words) (ap (λ (ws : List (List ℕ)). is_bad ws 0) none))
+
+pub unknown_name : (word : List ℕ) (rest : List (List ℕ)) → row_of commands word ≡ None → IsRefusedAt (word ∷ rest) 0
+unknown_name word rest none = inl (nothing_before (is_bad (word ∷ rest)) (ap (λ (row : Option Name). is_none row) none))
+
+-- ---- refused behind it
 
 module _ (word : List ℕ) (rest : List (List ℕ)) (name : Name) (known : row_of commands word ≡ Some name) where
   -- the place of a word behind the name
@@ -22,10 +37,10 @@ module _ (word : List ℕ) (rest : List (List ℕ)) (name : Name) (known : row_o
 
   pub refused : (at : ℕ) → IsRefusedBehind (options_of name) rest at → IsRefusedAt (word ∷ rest) at
   refused zero stop = absurd (omega (arith, stop.behind))
-  refused (suc at) stop = record {
+  refused (suc at) stop = inl (record {
     here = behind at ∙ rw same at stop.first.here;
     none_before = before;
-  }
+  })
     where
       same : suc at - 1 ≡ at
       same = omega arith
@@ -35,20 +50,46 @@ module _ (word : List ℕ) (rest : List (List ℕ)) (name : Name) (known : row_o
       before (suc j) l = behind j ∙ stop.first.none_before j (omega arith)
 
 -- the choices as the program holds them are those of the words
-values_are : (options : Options) (words : List (List ℕ)) (chosen : List (Option Value)) (k : ℕ) (defaults : List Value) → AreMade options words chosen → k + length defaults ≤ MOST_CHOICES
+values_are : (options : Options) (words : List (List ℕ)) (chosen : List (Option Made)) (k : ℕ) (defaults : List Value) → AreMade options words chosen →
+    k + length defaults ≤ MOST_CHOICES
     → values_from k options defaults words ≡ values_by k chosen defaults
 values_are options words chosen k [] all few = refl
 values_are options words chosen k (default ∷ rest) all few =
     rw (all.made_so k (omega (arith, few)), values_are options words chosen (suc k) rest all (omega (arith, few))) refl
 
-pub accepted : (word : List ℕ) (rest : List (List ℕ)) (name : Name) (chosen : List (Option Value)) (command : Command) → row_of commands word ≡ Some name
-    → AreMade (options_of name) rest chosen → command_of name (values_by 0 chosen (defaults_of name)) ≡ Some command → IsCommand (word ∷ rest) command
-accepted word rest name chosen command known all is = record {
-  right = each;
-  asks = ap (option_and_then (λ (n : Name). command_of n (values_from 0 (options_of n) (defaults_of n) rest))) known
-      ∙ ap (command_of name) (values_are (options_of name) rest chosen 0 (defaults_of name) all (omega (arith, few_defaults name))) ∙ is;
-}
-  where
-    each : (i : ℕ) → is_bad (word ∷ rest) i ≡ false
-    each zero = named word rest name known
-    each (suc i) = behind word rest name known i ∙ all.right i
+-- and so is the place that a rule refuses
+misfit_is : (options : Options) (words : List (List ℕ)) (chosen : List (Option Made)) (defaults : List Value) (rule : Rule) → AreMade options words chosen
+    → HasChoices rule → misfit rule options defaults words ≡ misfit_by rule chosen defaults
+misfit_is options words chosen defaults rule all has =
+    rw (all.made_so rule.one has.one, all.made_so rule.other has.other, all.made_so rule.third has.third) refl
+
+module _ (word : List ℕ) (rest : List (List ℕ)) (name : Name) (chosen : List (Option Made)) (known : row_of commands word ≡ Some name)
+    (all : AreMade (options_of name) rest chosen) where
+  right : AreRight (word ∷ rest)
+  right zero = named word rest name known
+  right (suc i) = behind word rest name known i ∙ all.right i
+
+  -- the place of a misfit
+  abbrev pub place : Option ℕ
+  place = option_and_then (λ (rule : Rule). misfit_by rule chosen (defaults_of name)) (rule_of name)
+
+  misfit_so : misfit_in (word ∷ rest) ≡ place
+  misfit_so = ap (option_and_then (λ (n : Name). option_and_then (λ (rule : Rule). misfit rule (options_of n) (defaults_of n) rest) (rule_of n))) known
+      ∙ go (rule_of name) (rule_has name)
+    where
+      go : (o : Option Rule) → IfSome o HasChoices
+          → option_and_then (λ (rule : Rule). misfit rule (options_of name) (defaults_of name) rest) o ≡ option_and_then
+          (λ (rule : Rule). misfit_by rule chosen (defaults_of name)) o
+      go None has = refl
+      go (Some rule) has = misfit_is (options_of name) rest chosen (defaults_of name) rule all has
+
+  pub misfitted : (at : ℕ) → place ≡ Some at → IsRefusedAt (word ∷ rest) at
+  misfitted at is = inr (right, misfit_so ∙ is)
+
+  pub accepted : (command : Command) → place ≡ None → command_of name (values_by 0 chosen (defaults_of name)) ≡ Some command → IsCommand (word ∷ rest) command
+  accepted command none is = record {
+    right = right;
+    fits = misfit_so ∙ none;
+    asks = ap (option_and_then (λ (n : Name). command_of n (values_from 0 (options_of n) (defaults_of n) rest))) known
+        ∙ ap (command_of name) (values_are (options_of name) rest chosen 0 (defaults_of name) all (omega (arith, few_defaults name))) ∙ is;
+  }

@@ -1,16 +1,19 @@
 -- How the program holds the choices that options make.
-use Rattle.std.specs.Prelude.{◌≡◌, ℕ, suc, ◌<◌, ◌==◌, ◌&&◌, nat_le, Bool, true, false, ⊤, IsTrue, List, [], ◌∷◌, slice_index_or, unwrap_or, Option, None, IfSome}
+use Rattle.std.specs.Prelude.{◌≡◌, ℕ, suc, ◌<◌, ◌==◌, ◌&&◌, nat_le, Bool, true, false}
+use Rattle.std.specs.Prelude.{⊤, IsTrue, List, [], ◌∷◌, slice_index_or, if◌then◌else◌, Option, None, IfSome, option_map}
+use Rattle.std.specs.Option.{option_map_or}
 use Rattle.std.specs.List.{AllByRecursion, list_any}
 use Rattle.alw_image.specs.Parameters.{AreParameters, set_counts}
 use Rattle.alw_config.specs.declared.commands.Command.{Command}
 use Rattle.alw_config.specs.declared.commands.Command.TheVariants as command
-use Rattle.alw_config.specs.declared.rows.Meaning.{Meaning}
+use Rattle.alw_config.specs.declared.rows.Made.{Made}
+use Rattle.alw_config.specs.declared.rows.Rule.{Rule}
 use Rattle.alw_config.specs.declared.rows.Value.{Value}
 use Rattle.alw_config.specs.declared.rows.Value.TheVariants as values
 use Rattle.alw_config.specs.declared.rows.Kind.{Kind}
 use Rattle.alw_config.specs.declared.rows.Kind.TheVariants.{Seed, Between, SetCount, AsmForm, Form}
 use Rattle.alw_config.specs.declared.rows.TheConstants.{MOST_CHOICES}
-use Rattle.alw_config.specs.Table.{Options, made}
+use Rattle.alw_config.specs.Table.{Options, made, breaks}
 use Rattle.alw_config.specs.Places.{is_bad_option}
 
 -- each option's choice has a place
@@ -18,7 +21,7 @@ abbrev pub HavePlaces : Options → Type 0
 HavePlaces options = AllByRecursion (λ row. row.1.choice < MOST_CHOICES) options
 
 -- no place behind the name is bad, and the choices are made so
-pub record AreMade (options : Options) (words : List (List ℕ)) (chosen : List (Option Value)) : Type 0 where
+pub record AreMade (options : Options) (words : List (List ℕ)) (chosen : List (Option Made)) : Type 0 where
   pub right : (i : ℕ) → is_bad_option options words i ≡ false
   pub made_so : (k : ℕ) → k < MOST_CHOICES → slice_index_or chosen k None ≡ made options k words
 
@@ -36,13 +39,27 @@ abbrev pub is_allowed : Options → ℕ → Value → Bool
 is_allowed options choice value = list_any (λ row. row.1.choice == choice && is_of row.1.kind value) options
 
 -- so is each value that makes a choice
-abbrev pub AreAllowed : Options → List (Option Value) → Type 0
-AreAllowed options chosen = (k : ℕ) → k < MOST_CHOICES → IfSome (slice_index_or chosen k None) (λ value. IsTrue (is_allowed options k value))
+abbrev pub AreAllowed : Options → List (Option Made) → Type 0
+AreAllowed options chosen = (k : ℕ) → k < MOST_CHOICES → IfSome (slice_index_or chosen k None) (λ m. IsTrue (is_allowed options k m.value))
 
 -- the choices from one on, each as it is made, or else its default
-abbrev pub values_by : ℕ → List (Option Value) → List Value → List Value
+abbrev pub values_by : ℕ → List (Option Made) → List Value → List Value
 values_by k chosen [] = []
-values_by k chosen (default ∷ rest) = unwrap_or (slice_index_or chosen k None) default ∷ values_by (suc k) chosen rest
+values_by k chosen (default ∷ rest) = option_map_or (λ m. m.value) (slice_index_or chosen k None) default ∷ values_by (suc k) chosen rest
+
+-- what makes one choice
+abbrev pub value_by : List (Option Made) → List Value → ℕ → Value
+value_by chosen defaults k = option_map_or (λ m. m.value) (slice_index_or chosen k None) (slice_index_or defaults k (values.Number 0))
+
+-- the choices of a rule have places
+pub record HasChoices (rule : Rule) : Type 0 where
+  pub one : rule.one < MOST_CHOICES
+  pub other : rule.other < MOST_CHOICES
+  pub third : rule.third < MOST_CHOICES
+
+-- the place of a third number that a rule doesn't allow
+abbrev pub misfit_by : Rule → List (Option Made) → List Value → Option ℕ
+misfit_by rule chosen defaults = if breaks rule (value_by chosen defaults) then option_map (λ m. m.at) (slice_index_or chosen rule.third None) else None
 
 -- what a value is
 abbrev pub IsNumber : Value → Type 0

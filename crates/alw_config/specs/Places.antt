@@ -1,12 +1,12 @@
 -- Which places of the words are bad. Place 0 is the command's. Behind it, options stand at the even places,
 -- counted from 0, and their values at the odd ones.
-use Rattle.std.specs.Prelude.{◌≡◌, ℕ, zero, suc, ◌-◌, ◌%◌, ◌<◌, ◌≤◌, ◌==◌, Bool, true, false, List, [], ◌∷◌, take, slice_get, if◌then◌else◌}
+use Rattle.std.specs.Prelude.{◌≡◌, ℕ, zero, suc, ◌-◌, ◌%◌, ◌<◌, ◌≤◌, ◌==◌, ◌⊎◌, Bool, true, false, List, [], ◌∷◌, take, slice_get, if◌then◌else◌}
 use Rattle.std.specs.Prelude.{Option, None, Some, is_none, option_and_then}
 use Rattle.std.specs.Option.{option_map_or}
 use Rattle.alw_config.specs.declared.commands.Command.{Command}
 use Rattle.alw_config.specs.declared.rows.Meaning.{Meaning}
 use Rattle.alw_config.specs.Values.{row_of}
-use Rattle.alw_config.specs.Table.{Options, commands, options_of, defaults_of, value_behind, is_made, values_from, command_of}
+use Rattle.alw_config.specs.Table.{Options, commands, options_of, defaults_of, rule_of, value_behind, is_made, misfit, values_from, command_of}
 
 -- the word is no option of the command, or one whose choice is made before
 abbrev pub is_bad_name : Options → List (List ℕ) → List ℕ → Bool
@@ -39,16 +39,27 @@ pub record IsRefusedBehind (options : Options) (words : List (List ℕ)) (at : �
   pub behind : 1 ≤ at
   pub first : IsFirst (is_bad_option options words) (at - 1)
 
--- the words are refused at this place
+-- no place of the words is bad
+abbrev pub AreRight : List (List ℕ) → Type 0
+AreRight words = (i : ℕ) → is_bad words i ≡ false
+
+-- the place of a value that the others don't allow
+abbrev pub misfit_in : List (List ℕ) → Option ℕ
+misfit_in [] = None
+misfit_in (word ∷ rest) =
+    option_and_then (λ name. option_and_then (λ rule. misfit rule (options_of name) (defaults_of name) rest) (rule_of name)) (row_of commands word)
+
+-- the words are refused at this place: the first bad one, or where none is, that of a value that the others don't allow
 abbrev pub IsRefusedAt : List (List ℕ) → ℕ → Type 0
-IsRefusedAt words at = IsFirst (is_bad words) at
+IsRefusedAt words at = IsFirst (is_bad words) at ⊎ (AreRight words × (misfit_in words ≡ Some at))
 
 -- what the words ask for, by the tables
 abbrev pub asked : List (List ℕ) → Option Command
 asked [] = None
 asked (word ∷ rest) = option_and_then (λ name. command_of name (values_from 0 (options_of name) (defaults_of name) rest)) (row_of commands word)
 
--- no place of the words is bad, and they are this command
+-- no place of the words is bad, the values allow one another, and they are this command
 pub record IsCommand (words : List (List ℕ)) (command : Command) : Type 0 where
-  pub right : (i : ℕ) → is_bad words i ≡ false
+  pub right : AreRight words
+  pub fits : misfit_in words ≡ None
   pub asks : asked words ≡ Some command

@@ -1,6 +1,7 @@
 -- What words without a bad place ask for, by the tables of commands and options. A command leaves choices, numbered from 0, and an option makes
 -- one of them, by a value of its kind.
-use Rattle.std.specs.Prelude.{ℕ, suc, ◌==◌, ◌||◌, Bool, false, List, [], ◌∷◌, map, Option, None, Some, unwrap_or, option_and_then, if◌then◌else◌}
+use Rattle.std.specs.Prelude.{ℕ, suc, ◌+◌, ◌==◌, ◌||◌, ◌&&◌, nat_lt, Bool, false, List, [], ◌∷◌, map, slice_index_or, if◌then◌else◌}
+use Rattle.std.specs.Prelude.{Option, None, Some, option_map, option_and_then}
 use Rattle.std.specs.Option.{option_map_or}
 use Rattle.alw_config.specs.declared.commands.Command.{Command}
 use Rattle.alw_config.specs.declared.commands.Command.TheVariants as command
@@ -9,6 +10,8 @@ use Rattle.alw_config.specs.declared.rows.Value.TheVariants.{Number, How, AsmFor
 use Rattle.alw_config.specs.declared.rows.Name.{Name}
 use Rattle.alw_config.specs.declared.rows.Name.TheVariants.{Asm, Run}
 use Rattle.alw_config.specs.declared.rows.Meaning.{Meaning}
+use Rattle.alw_config.specs.declared.rows.Made.{Made}
+use Rattle.alw_config.specs.declared.rows.Rule.{Rule}
 use Rattle.alw_config.specs.declared.rows.TheConstants.{COMMANDS, ASM_OPTIONS, ASM_DEFAULTS, RUN_OPTIONS, RUN_DEFAULTS}
 use Rattle.alw_config.specs.Values.{row_of, value_of}
 
@@ -43,16 +46,50 @@ is_made options choice [] = false
 is_made options choice (option ∷ []) = false
 is_made options choice (option ∷ word ∷ rest) = makes options choice option || is_made options choice rest
 
--- what they make it by
-abbrev pub made : Options → ℕ → List (List ℕ) → Option Value
-made options choice [] = None
-made options choice (option ∷ []) = None
-made options choice (option ∷ word ∷ rest) = if makes options choice option then value_behind options option word else made options choice rest
+-- what they make it by, with its place, where the first option stands at a place
+abbrev pub made_from : ℕ → Options → ℕ → List (List ℕ) → Option Made
+made_from at options choice [] = None
+made_from at options choice (option ∷ []) = None
+made_from at options choice (option ∷ word ∷ rest) =
+    if makes options choice option then option_map (λ value. record { value = value; at = at + 1 }) (value_behind options option word)
+    else made_from (at + 2) options choice rest
+
+-- the same behind a command's name
+abbrev pub made : Options → ℕ → List (List ℕ) → Option Made
+made options choice words = made_from 1 options choice words
 
 -- the choices in their order from one on, each as it is made, or else its default
 abbrev pub values_from : ℕ → Options → List Value → List (List ℕ) → List Value
 values_from choice options [] words = []
-values_from choice options (default ∷ rest) words = unwrap_or (made options choice words) default ∷ values_from (suc choice) options rest words
+values_from choice options (default ∷ rest) words =
+    option_map_or (λ m. m.value) (made options choice words) default ∷ values_from (suc choice) options rest words
+
+-- ---- a rule over several choices
+
+-- a command's rule, where it has one
+abbrev pub rule_of : Name → Option Rule
+rule_of Asm = None
+rule_of Run = None
+
+-- the number that a value is, and 0 where it is none
+abbrev pub number_in : Value → ℕ
+number_in (Number n) = n
+number_in _ = 0
+
+-- the rule isn't kept by these values: one of two numbers is above its bound, and the third is above what it may be then
+abbrev pub breaks : Rule → (ℕ → Value) → Bool
+breaks rule value =
+    (nat_lt rule.above (number_in (value rule.one)) || nat_lt rule.above (number_in (value rule.other))) && nat_lt rule.most (number_in (value rule.third))
+
+-- what makes a choice: as the words make it, or else its default
+abbrev pub value_at : Options → List Value → List (List ℕ) → ℕ → Value
+value_at options defaults words choice = option_map_or (λ m. m.value) (made options choice words) (slice_index_or defaults choice (Number 0))
+
+-- the place of a third number that the rule doesn't allow, where it is given
+abbrev pub misfit : Rule → Options → List Value → List (List ℕ) → Option ℕ
+misfit rule options defaults words = if breaks rule (value_at options defaults words) then option_map (λ m. m.at) (made options rule.third words) else None
+
+-- ---- the command
 
 -- the command with these choices
 abbrev pub command_of : Name → List Value → Option Command

@@ -1,18 +1,19 @@
-ghost use Rattle.std.specs.Prelude.{◌≡◌, ◌<◌, length, map, string_bytes, slice_index_or, unwrap_or, IsTrue, MatchResult, None, Some};
+ghost use Rattle.std.specs.Prelude.{◌≡◌, ◌<◌, ◌≤◌, length, map, string_bytes, IsTrue, MatchResult, Some, option_and_then};
 ghost use Rattle.alw_config.specs.declared.rows.Value.TheVariants as values;
-ghost use Rattle.alw_config.specs.Table.{options_of, defaults_of, command_of};
+ghost use Rattle.alw_config.specs.Table.{options_of, defaults_of, rule_of, number_in, command_of};
 ghost use Rattle.alw_config.specs.Places.{IsRefusedBehind};
-ghost use Rattle.alw_config.specs.Choices.{HavePlaces, AreMade, AreAllowed, IsWithin, is_allowed, values_by, IsNumber, IsHow, IsAsmForm, IsForm};
+ghost use Rattle.alw_config.specs.Choices.{HavePlaces, AreMade, AreAllowed, IsWithin, is_allowed, value_by, values_by, misfit_by, IsNumber, IsHow, IsAsmForm, IsForm};
 
 use crate::commands::{AsmForm, Command, Form, How, WordErr};
 use crate::lookups::row_of;
 use crate::rows::{
-    ASM_DEFAULTS, ASM_OPTIONS, MOST_CHOICES, Meaning, Name, RUN_DEFAULTS, RUN_OPTIONS, Row, Value,
+    ASM_DEFAULTS, ASM_OPTIONS, MOST_CHOICES, Made, Meaning, Name, RUN_DEFAULTS, RUN_OPTIONS, Row,
+    Rule, Value,
 };
 use alw_image::Params;
 
 // What each choice of a command is made by.
-pub(crate) type Chosen = [Option<Value>; MOST_CHOICES];
+pub(crate) type Chosen = [Option<Made>; MOST_CHOICES];
 
 // The choices that the words behind a command's name make, or the first refused place.
 pub(crate) fn chosen(options: &[Row<Meaning>], words: &[String]) -> Result<Chosen, WordErr>
@@ -37,11 +38,46 @@ pub(crate) fn chosen(options: &[Row<Meaning>], words: &[String]) -> Result<Chose
         let Some(value) = meaning.kind.value(word.as_str().as_bytes()) else {
             return Err(WordErr { at: value_at });
         };
-        chosen[meaning.choice] = Some(value);
+        chosen[meaning.choice] = Some(Made {
+            value,
+            at: value_at,
+        });
         rest = behind;
         at += 2;
     }
     Ok(chosen)
+}
+
+// What makes a choice: an option's value, or else the default.
+fn value_of(chosen: &Chosen, defaults: &[Value], choice: usize) -> Value
+    requires choice { choice < length defaults.now }
+    requires few { length defaults.now ≤ MOST_CHOICES }
+    ensures { result ≡ value_by chosen.now defaults.now choice }
+{
+    match chosen[choice] {
+        Some(made) => made.value,
+        None => defaults[choice],
+    }
+}
+
+impl Rule {
+    // The place of the third number, where the rule doesn't allow it. One that isn't given has none.
+    pub(crate) fn misfit(self, chosen: &Chosen, defaults: &[Value]) -> Option<u32>
+        requires one { self.one < length defaults.now }
+        requires other { self.other < length defaults.now }
+        requires third { self.third < length defaults.now }
+        requires few { length defaults.now ≤ MOST_CHOICES }
+        ensures { result ≡ misfit_by self chosen.now defaults.now }
+    {
+        let one = value_of(chosen, defaults, self.one).number_or_zero();
+        let other = value_of(chosen, defaults, self.other).number_or_zero();
+        let third = value_of(chosen, defaults, self.third).number_or_zero();
+        if (one > self.above || other > self.above) && third > self.most {
+            Some(chosen[self.third]?.at)
+        } else {
+            None
+        }
+    }
 }
 
 impl Name {
@@ -55,26 +91,41 @@ impl Name {
         }
     }
 
-    // The default of a choice.
-    fn default(self, choice: usize) -> Value
-        requires { choice < length (defaults_of self) }
-        ensures { result ≡ slice_index_or (defaults_of self) choice (values.Number 0) }
+    // The command's choices where no option makes them.
+    pub(crate) fn defaults(self) -> &'static [Value]
+        ensures defaults { result.now ≡ defaults_of self }
+        ensures few { length result.now ≤ MOST_CHOICES }
     {
         match self {
-            Name::Asm => ASM_DEFAULTS[choice],
-            Name::Run => RUN_DEFAULTS[choice],
+            Name::Asm => &ASM_DEFAULTS,
+            Name::Run => &RUN_DEFAULTS,
         }
+    }
+
+    // The rule over the command's numbers, where it has one.
+    pub(crate) fn rule(self) -> Option<Rule>
+        ensures { result ≡ rule_of self }
+    {
+        match self {
+            Name::Asm | Name::Run => None,
+        }
+    }
+
+    // The place of a value that the others don't allow.
+    pub(crate) fn misfit(self, chosen: &Chosen) -> Option<u32>
+        ensures { result ≡ option_and_then (λ rule. misfit_by rule chosen.now (defaults_of self)) (rule_of self) }
+    {
+        self.rule()?.misfit(chosen, self.defaults())
     }
 
     // What makes a choice of the command: an option's value, or else the default.
     fn value(self, chosen: &Chosen, choice: usize) -> Value
         requires allowed { AreAllowed (options_of self) chosen.now }
         requires choice { choice < length (defaults_of self) }
-        ensures value { result ≡ unwrap_or (slice_index_or chosen.now choice None) (slice_index_or (defaults_of self) choice (values.Number 0)) }
+        ensures value { result ≡ value_by chosen.now (defaults_of self) choice }
         ensures allowed { IsTrue (is_allowed (options_of self) choice result) }
     {
-        let default = self.default(choice);
-        chosen[choice].unwrap_or(default)
+        value_of(chosen, self.defaults(), choice)
     }
 
     // The command with these choices, and with the default of each that isn't made.
@@ -102,6 +153,16 @@ impl Name {
 }
 
 impl Value {
+    // The number that it is, and 0 where it is none.
+    fn number_or_zero(self) -> u64
+        ensures { result ≡ number_in self }
+    {
+        match self {
+            Value::Number(number) => number,
+            _ => 0,
+        }
+    }
+
     // The number that it is.
     fn number(self) -> u64
         requires { IsNumber self }

@@ -45,6 +45,24 @@ pub(crate) enum Value {
     Form(Form),
 }
 
+// What makes a choice, and the place of its word, from 0 for the command's name.
+#[derive(Clone, Copy)]
+pub(crate) struct Made {
+    pub(crate) value: Value,
+    pub(crate) at: u32,
+}
+
+// A rule over the numbers that three choices are made by: where one of two is above a bound, the third is
+// at most so much.
+#[derive(Clone, Copy)]
+pub(crate) struct Rule {
+    pub(crate) one: usize,
+    pub(crate) other: usize,
+    pub(crate) above: u64,
+    pub(crate) third: usize,
+    pub(crate) most: u64,
+}
+
 // The most choices that a command leaves.
 pub(crate) const MOST_CHOICES: usize = 6;
 

@@ -1,3 +1,5 @@
+use crate::options::chosen;
+use crate::rows::{Kind, Meaning, Row, Rule, Value};
 use crate::*;
 use alw_image::Params;
 use std::alloc::Global;
@@ -234,5 +236,116 @@ fn refused_words_of_run(rt: HostRuntime) -> Result<(), Fail> {
     for (line, at) in RUN {
         assert_eq!(rt; asked(rt.alloc(), line)?, Err(WordErr { at }));
     }
+    Ok(())
+}
+
+// Options of a command that no program takes yet: a number for a schedule or a number of workers, and
+// three numbers with a rule over them.
+const OPTIONS: [Row<Meaning>; 5] = [
+    (
+        b"--seed",
+        Meaning {
+            choice: 0,
+            kind: Kind::Seed,
+        },
+    ),
+    (
+        b"--workers",
+        Meaning {
+            choice: 0,
+            kind: Kind::Between(1, 256),
+        },
+    ),
+    (
+        b"--width",
+        Meaning {
+            choice: 1,
+            kind: Kind::Between(1, 16),
+        },
+    ),
+    (
+        b"--height",
+        Meaning {
+            choice: 2,
+            kind: Kind::Between(1, 16),
+        },
+    ),
+    (
+        b"--size",
+        Meaning {
+            choice: 3,
+            kind: Kind::Between(1, 255),
+        },
+    ),
+];
+
+const DEFAULTS: [Value; 4] = [
+    Value::How(How::Seed(0)),
+    Value::Number(4),
+    Value::Number(4),
+    Value::Number(16),
+];
+
+// Where width or height is above 8, size is at most 63.
+const RULE: Rule = Rule {
+    one: 1,
+    other: 2,
+    above: 8,
+    third: 3,
+    most: 63,
+};
+
+// The refused place of the words behind such a command's name.
+fn refused(alloc: Global, line: &str) -> Result<Option<u32>, Fail> {
+    let words = words_of(alloc, line)?;
+    Ok(match chosen(&OPTIONS, &words) {
+        Ok(choices) => RULE.misfit(&choices, &DEFAULTS),
+        Err(e) => Some(e.at),
+    })
+}
+
+// Words of it, and their refused place.
+const RULED: [(&str, Option<u32>); 14] = [
+    ("", None),
+    ("--workers 256 --width 16 --height 16", None),
+    ("--width 8 --size 64", None),
+    ("--size 63 --height 16", None),
+    ("--size 64 --width 9", Some(2)),
+    ("--height 9 --seed 7 --size 255", Some(6)),
+    ("--width 16 --size 64 --height 16", Some(4)),
+    ("--size 64 --width 9 --depth 1", Some(5)),
+    ("--size 64 --width 9 --size 1", Some(5)),
+    ("--size 64 --width 17", Some(4)),
+    ("--size 0 --width 9", Some(2)),
+    ("--width 9 --size", Some(4)),
+    ("--seed 1 --workers 2", Some(3)),
+    ("--workers 2 --size 64 --seed 1", Some(5)),
+];
+
+#[test]
+fn rules_and_options_of_one_choice(rt: HostRuntime) -> Result<(), Fail> {
+    for (line, at) in RULED {
+        assert_eq!(rt; refused(rt.alloc(), line)?, at);
+    }
+    Ok(())
+}
+
+// An option of a command that takes one form alone, and a command without options.
+const FORM_ALONE: [Row<Meaning>; 1] = [(
+    b"--write",
+    Meaning {
+        choice: 0,
+        kind: Kind::Form,
+    },
+)];
+
+const NO_OPTIONS: [Row<Meaning>; 0] = [];
+
+#[test]
+fn few_options(rt: HostRuntime) -> Result<(), Fail> {
+    let report = words_of(rt.alloc(), "--write report")?;
+    assert!(rt; chosen(&FORM_ALONE, &report).is_ok());
+    assert!(rt; chosen(&NO_OPTIONS, &report).is_err());
+    assert!(rt; chosen(&NO_OPTIONS, &[]).is_ok());
     Ok(())
 }

@@ -9,7 +9,8 @@ use crate::rows::COMMANDS;
 
 /// The command that the words are: a command's name, then its options, each at most once, in any order
 /// and followed by its value as a word of its own. Options that aren't given have their defaults.
-/// Refused exactly where a place is bad, at the first one. Takes no memory.
+/// Refused exactly where a place is bad, at the first one, or where none is and the others don't allow
+/// a value, at that value. Takes no memory.
 pub fn command(words: &[String]) -> Result<Command, WordErr>
     ensures cases { MatchResult result (IsCommand (map string_bytes words.now))
         (λ e. IsRefusedAt (map string_bytes words.now) e.at) }
@@ -22,5 +23,8 @@ pub fn command(words: &[String]) -> Result<Command, WordErr>
         return Err(WordErr { at: 0 });
     };
     let choices = chosen(name.options(), rest)?;
-    Ok(name.command(&choices))
+    match name.misfit(&choices) {
+        Some(at) => Err(WordErr { at }),
+        None => Ok(name.command(&choices)),
+    }
 }

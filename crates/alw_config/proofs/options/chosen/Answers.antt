@@ -27,7 +27,8 @@ pub returns-in_default-split_first : goal.returns-in_default-split_first
 returns-in_default-split_first c =
     let way = rw c.in-Some.ensures.cases.0 at c.pairs.invariant.under_way in
     let known = rw (c.as_bytes.ensures.value, c.as_str.ensures.value) at c.in-Some-row_of.ensures in
-    missing _ _ _ _ _ _ way c.in-Some-row_of.meaning (sym known) (place_within _ _ _ c.requires.places (sym known)) (sym c.is_some.ensures ∙ c.if-is_some.false)
+    missing _ _ _ _ _ _ way c.in-Some-row_of.meaning (sym known) (place_within _ _ _ c.requires.places (sym known))
+    (sym c.is_some.ensures ∙ c.if-is_some.false)
     (first_missing string_bytes c.in-Some.behind.now c.in_default-split_first.ensures.cases)
 
 pub returns-in_default-value : goal.returns-in_default-value
@@ -35,8 +36,10 @@ returns-in_default-value c =
     let way = rw c.in-Some.ensures.cases.0 at c.pairs.invariant.under_way in
     let known = rw (c.as_bytes.ensures.value, c.as_str.ensures.value) at c.in-Some-row_of.ensures in
     let none = rw (c.as_bytes-in-Some.ensures.value, c.as_str-in-Some.ensures.value) at c.value.ensures in
-    disallowed _ _ _ _ _ _ way c.in-Some-row_of.meaning (sym known) (place_within _ _ _ c.requires.places (sym known)) (sym c.is_some.ensures ∙ c.if-is_some.false)
-    (string_bytes c.in-Some-split_first.word.now) (first_is string_bytes c.in-Some.behind.now _ _ c.in-Some-split_first.ensures.cases.0) (sym none ∙ c.in_default-value.is)
+    disallowed _ _ _ _ _ _ way c.in-Some-row_of.meaning (sym known) (place_within _ _ _ c.requires.places (sym known))
+    (sym c.is_some.ensures ∙ c.if-is_some.false)
+    (string_bytes c.in-Some-split_first.word.now) (first_is string_bytes c.in-Some.behind.now _ _ c.in-Some-split_first.ensures.cases.0)
+    (sym none ∙ c.in_default-value.is)
 
 pub offset_bounds-chosen-meaning-in-Some : goal.offset_bounds-chosen-meaning-in-Some
 offset_bounds-chosen-meaning-in-Some c = omega (arith, place_within _ _ _ c.requires.places (sym c.in-Some-row_of.ensures))
