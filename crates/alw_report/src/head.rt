@@ -78,8 +78,9 @@ fn put_params_word(text: &mut Text) -> Result<(), NoMemory>
     text.put(b"params pointers ")
 }
 
+/// The line of the parameters.
 #[tactic(auto, unfolding(crate::specs::Reports::params_line))]
-fn put_params(text: &mut Text, params: &Params) -> Result<(), NoMemory>
+pub fn put_params(text: &mut Text, params: &Params) -> Result<(), NoMemory>
     ensures { OnOk result (text.new ≡ text.old ++ params_line params.now) }
 {
     put_params_word(text)?;

@@ -9,6 +9,8 @@ mod reports;
 mod values;
 mod worked_runs;
 
+pub use head::{put_number, put_params};
+pub use lists::{put_memory, put_prints, put_runs};
 pub use memory::put_line;
 pub use reports::report;
 pub use values::{DirectoryLine, DirectoryLines, Report};

@@ -31,9 +31,9 @@ fn put_heading(text: &mut Text, name: &[u8], count: u32) -> Result<(), NoMemory>
     Ok(())
 }
 
-// The stretches of turns.
+/// The stretches of turns.
 #[tactic(auto, unfolding(crate::specs::Reports::runs_text))]
-fn put_runs(text: &mut Text, runs: &Stretches) -> Result<(), NoMemory>
+pub fn put_runs(text: &mut Text, runs: &Stretches) -> Result<(), NoMemory>
     ensures { OnOk result (text.new ≡ text.old ++ runs_text runs.now) }
 {
     put_heading(text, b"runs", runs.len())?;
@@ -59,9 +59,9 @@ fn put_run(text: &mut Text, run: (u32, u32)) -> Result<(), NoMemory>
     Ok(())
 }
 
-// The printed words, each with its context.
+/// The printed words, each with its context.
 #[tactic(auto, unfolding(crate::specs::Reports::prints_text))]
-fn put_prints(text: &mut Text, prints: &Prints) -> Result<(), NoMemory>
+pub fn put_prints(text: &mut Text, prints: &Prints) -> Result<(), NoMemory>
     ensures { OnOk result (text.new ≡ text.old ++ prints_text prints.now) }
 {
     put_heading(text, b"prints", prints.len())?;
@@ -88,9 +88,9 @@ fn put_print(text: &mut Text, print: (u32, u32)) -> Result<(), NoMemory>
     Ok(())
 }
 
-// The words of memory, each with its address.
+/// The words of memory, each with its address.
 #[tactic(auto, unfolding(crate::specs::Reports::memory_text))]
-fn put_memory(text: &mut Text, memory: &Words) -> Result<(), NoMemory>
+pub fn put_memory(text: &mut Text, memory: &Words) -> Result<(), NoMemory>
     ensures { OnOk result (text.new ≡ text.old ++ memory_text memory.now) }
 {
     put_heading(text, b"memory", memory.len())?;

@@ -6,8 +6,8 @@ mod numbers;
 mod texts;
 
 pub use lines::{Span, line_at};
-pub use numbers::{decimal, digits, hex32};
-pub use texts::{Spell, Text};
+pub use numbers::{decimal, digits, hex_value, hex32};
+pub use texts::{Spell, Text, digit_of};
 
 #[cfg(test)]
 mod tests;

@@ -56,8 +56,8 @@ fn has_leading_zero(bytes: &[u8]) -> bool
     bytes.len() > 1 && bytes[0] == b'0'
 }
 
-// The number of a lower-case hexadecimal digit.
-fn hex_value(byte: u8) -> Option<u32>
+/// The number of a lower-case hexadecimal digit. None exactly where the byte is none.
+pub fn hex_value(byte: u8) -> Option<u32>
     ensures found { IfSome result (λ n. byte ≡ hex_digit n) }
     ensures range { IfSome result (λ n. n < 16) }
     ensures none { IfNone result ((n : ℕ) → n < 16 → byte ≢ hex_digit n) }

@@ -78,8 +78,8 @@ fn write_decimal(n: u64, buffer: &mut [u8; 20]) -> usize
     }
 }
 
-// The lower-case digit of a number below 16.
-fn digit_of(n: u32) -> u8
+/// The lower-case hexadecimal digit of a number below 16.
+pub fn digit_of(n: u32) -> u8
     requires { n < 16 }
     ensures { result ≡ hex_digit n }
 {
