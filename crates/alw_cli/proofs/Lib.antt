@@ -2,3 +2,4 @@ pub mod Listing
 pub mod Tasks
 pub mod Answering
 pub mod Completing
+mod Making

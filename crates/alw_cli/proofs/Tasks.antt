@@ -1,5 +1,5 @@
 -- What each command keeps, whatever it does.
-use Rattle.std.proofs.Common.{◌≡◌, ℕ, List, [], Some, None, refl, sym, ◌∙◌, ◌⊎◌, inl, inr, IsTrue}
+use Rattle.std.proofs.Common.{◌≡◌, ◌<◌, ◌≤◌, arith, ℕ, List, [], Some, None, refl, sym, ◌∙◌, ◌⊎◌, inl, inr, IsTrue}
 use Rattle.alw_msg.specs.declared.events.Entry.{Entry}
 use Rattle.alw_image.specs.Parameters.{Parameters}
 use Rattle.alw_config.specs.declared.commands.AsmForm.{AsmForm}
@@ -11,7 +11,7 @@ use Rattle.alw_cli.specs.declared.answers.InputErr.TheVariants as reason
 use Rattle.alw_cli.specs.Streams.{Stream, Stays, HadNoFault}
 use Rattle.alw_cli.specs.Tasks.{Task}
 use Rattle.alw_cli.specs.Assembling.{AsmAnswer, asm_task}
-use Rattle.alw_cli.specs.Running.{RunAnswer, run_task}
+use Rattle.alw_cli.specs.Running.{seed_of, RunAnswer, run_task}
 use Rattle.alw_cli.specs.Answers.{task_of}
 
 -- causes that no command has
@@ -55,33 +55,33 @@ asm_kept form = record {
 
 -- ---- run
 
-module _ (params : Parameters) (bytes : List ℕ) (out out' : Stream) (journal : List Entry) where
-  run_inside : (c : Cause) → IsOutside c → RunAnswer params bytes out out' c journal → ⊥
+module _ (seed : ℕ) (params : Parameters) (bytes : List ℕ) (out out' : Stream) (journal : List Entry) where
+  run_inside : (c : Cause) → IsOutside c → RunAnswer seed params bytes out out' c journal → ⊥
   run_inside (cause.Words e) outside answer = answer
   run_inside (cause.Input reason.TooLong) outside answer = answer
   run_inside cause.ReadFault outside answer = answer
   run_inside _ outside answer = outside
 
-  run_complete : (c : Cause) → RunAnswer params bytes out out' c journal → (run_task params).Accepts bytes → HadNoFault out out' →
-      IsTrue ((run_task params).is_done c) ⊎ (c ≡ cause.NoMemory)
+  run_complete : (c : Cause) → RunAnswer seed params bytes out out' c journal → (run_task seed params).Accepts bytes → HadNoFault out out' →
+      IsTrue ((run_task seed params).is_done c) ⊎ (c ≡ cause.NoMemory)
   run_complete cause.Fine answer accepted quiet = inl refl
   run_complete (cause.Trapped at) answer accepted quiet = inl refl
   run_complete (cause.Limit event) answer accepted quiet = inl refl
   run_complete cause.NoMemory answer accepted quiet = inr refl
   run_complete cause.WriteFault answer accepted quiet = absurd (quiet answer.runs.report.1)
   run_complete (cause.Input (reason.Image fault)) answer accepted quiet = absurd (let e : Some fault ≡ None = sym answer.0 ∙ accepted.0 in cc)
-  run_complete (cause.Input (reason.NotBuilt at)) answer accepted quiet = absurd (let e : Some at ≡ None = sym answer.1 ∙ accepted.1 in cc)
+  run_complete (cause.Input (reason.LimitDoesNotFit number most)) answer accepted quiet = absurd (omega (arith, answer.1.above, accepted.1))
   run_complete _ answer accepted quiet = absurd answer
 
-run_kept : (params : Parameters) → IsKept (run_task params)
-run_kept params = record {
-  inside = λ bytes out out' c journal outside answer. run_inside params bytes out out' journal c outside answer;
+run_kept : (seed : ℕ) (params : Parameters) → IsKept (run_task seed params)
+run_kept seed params = record {
+  inside = λ bytes out out' c journal outside answer. run_inside seed params bytes out out' journal c outside answer;
   wanting = λ bytes out out' journal answer. answer;
-  complete = λ bytes out out' c journal answer accepted quiet. run_complete params bytes out out' journal c answer accepted quiet;
+  complete = λ bytes out out' c journal answer accepted quiet. run_complete seed params bytes out out' journal c answer accepted quiet;
 }
 
 -- ---- each command
 
 pub each_kept : (command : Command) → IsKept (task_of command)
 each_kept (commands.Asm form) = asm_kept form
-each_kept (commands.Run how params form) = run_kept params
+each_kept (commands.Run how params form) = run_kept (seed_of how) params

@@ -13,7 +13,7 @@ use Rattle.alw_cli.specs.declared.answers.TheConstants.{MOST_INPUT}
 use Rattle.alw_cli.specs.Streams.{Stream, ReadsAll, Stays, TookSome, TookTooMany, GainedPart, HadNoFault}
 use Rattle.alw_cli.specs.Tasks.{Task}
 use Rattle.alw_cli.specs.Assembling.{asm_task}
-use Rattle.alw_cli.specs.Running.{run_task}
+use Rattle.alw_cli.specs.Running.{seed_of, run_task}
 use Rattle.alw_cli.specs.Texts.{err_line}
 
 -- ---- the answers
@@ -21,7 +21,7 @@ use Rattle.alw_cli.specs.Texts.{err_line}
 -- what each command is
 abbrev pub task_of : Command → Task
 task_of (commands.Asm form) = asm_task form
-task_of (commands.Run how params form) = run_task params
+task_of (commands.Run how params form) = run_task (seed_of how) params
 
 -- the words are a command, the whole input was read, and this was answered to it
 pub record Performed (words : List (List ℕ)) (input input' out out' : Stream) (cause : Cause) (journal : List Entry) : Type 0 where

@@ -3,5 +3,6 @@ pub mod Streams
 pub mod Statuses
 pub mod Tasks
 pub mod Assembling
+pub mod Runs
 pub mod Running
 pub mod Answers

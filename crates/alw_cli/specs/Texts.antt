@@ -64,7 +64,7 @@ abbrev pub input_text : InputErr → List ℕ
 input_text input.TooLong = codes "too long"
 input_text (input.Asm fault) = asm_text fault
 input_text (input.Image fault) = image_text fault
-input_text (input.NotBuilt at) = codes "not built " ++ decimal at
+input_text (input.LimitDoesNotFit number most) = codes "limit " ++ (decimal number ++ (codes " above " ++ decimal most))
 
 -- the words before a refused input's reason
 unfoldable pub input_refused : List ℕ

@@ -11,14 +11,14 @@ use std::alloc::Global;
 /// The most bytes that an input may have.
 pub const MOST_INPUT: usize = 268_435_456;
 
-/// Why an input was refused: it is too long, it is no source or no image, or it is an image that this
-/// program doesn't run yet, with the byte of its spelling that says so.
+/// Why an input was refused: it is too long, it is no source or no image, or nodes times the event limit
+/// are above the most that a machine takes, with both numbers.
 #[derive(Clone, Copy, Debug, PartialEq, Eq)]
 pub enum InputErr {
     TooLong,
     Asm(AsmErr),
     Image(ImageErr),
-    NotBuilt(u32),
+    LimitDoesNotFit(u64, u64),
 }
 
 /// The cause of an answer.

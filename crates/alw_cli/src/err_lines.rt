@@ -83,15 +83,17 @@ fn put_no_memory(line: &mut ArrayString<96>)
 fn put_input(line: &mut ArrayString<96>, fault: &InputErr)
     requires { length line.old.bytes ≤ 24 }
     ensures text { line.new.bytes ≡ line.old.bytes ++ input_text fault.now }
-    ensures few { length line.new.bytes ≤ 72 }
+    ensures few { length line.new.bytes ≤ 80 }
 {
     match fault {
         InputErr::TooLong => line.push_str("too long"),
         InputErr::Asm(fault) => put_asm(line, fault),
         InputErr::Image(fault) => put_image(line, fault),
-        InputErr::NotBuilt(at) => {
-            line.push_str("not built ");
-            put_number(line, *at);
+        InputErr::LimitDoesNotFit(number, most) => {
+            line.push_str("limit ");
+            put_long(line, *number);
+            line.push_str(" above ");
+            put_long(line, *most);
         }
     }
 }
@@ -161,6 +163,16 @@ fn put_number(line: &mut ArrayString<96>, n: u32)
     requires { length line.old.bytes ≤ 80 }
     ensures text { line.new.bytes ≡ line.old.bytes ++ decimal n }
     ensures few { length line.new.bytes ≤ length line.old.bytes + 10 }
+{
+    let mut buffer = Buffer::new();
+    line.push_str(buffer.format(n));
+}
+
+// A number of 64 bits in decimal.
+fn put_long(line: &mut ArrayString<96>, n: u64)
+    requires { length line.old.bytes ≤ 72 }
+    ensures text { line.new.bytes ≡ line.old.bytes ++ decimal n }
+    ensures few { length line.new.bytes ≤ length line.old.bytes + 20 }
 {
     let mut buffer = Buffer::new();
     line.push_str(buffer.format(n));

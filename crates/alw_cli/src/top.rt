@@ -77,7 +77,7 @@ fn perform<K: Sink>(alloc: Global, command: Command, bytes: &[u8], out: &mut K) 
 {
     match command {
         Command::Asm { write } => assemble_source(alloc, write, bytes, out),
-        Command::Run { params, .. } => run_bytes(alloc, &params, bytes, out),
+        Command::Run { how, params, .. } => run_bytes(alloc, how, &params, bytes, out),
     }
 }
 

@@ -3,9 +3,11 @@ use Rattle.std.proofs.Common.{◌≡◌, ℕ, zero, suc, Bool, true, false, cond
 use Rattle.std.specs.List.{AllByRecursion, range_with_len}
 use Rattle.alw_msg.specs.declared.events.Event.{Event}
 use Rattle.alw_msg.specs.declared.events.Event.TheVariants.{Instr, Handle, Deliver}
+use Rattle.alw_msg.specs.declared.events.Entry.{Entry}
 use Rattle.alw_msg.specs.Events.{is_evict}
 use Rattle.alw_image.specs.declared.parts.Parts.{Parts}
 use Rattle.alw_image.specs.Images.{node_count}
+use Rattle.alw_image.specs.Parameters.{Parameters}
 use Rattle.alw_model.specs.Machine.{main_events}
 use Rattle.alw_model.specs.Headline.{IsScheduled}
 use Rattle.alw_model.proofs.Schedules.{scheduled_none, scheduled_more}
@@ -104,6 +106,27 @@ scheduled h x (event ∷ rest) after y are so_far =
     scheduled (grown h event) (drawn x) rest after y are.1
     (scheduled_more h.image h.parameters h.journal (entry_of h event) so_far are.0.going (λ none. main_picked h (drawn_number (drawn x)) event none are.0.pick))
 
-pub seeded_scheduled : (image : Parts) (parameters : _) (seed : ℕ) (h : History) → IsSeededRun image parameters seed h → IsScheduled h.image h.parameters h.journal
-seeded_scheduled image parameters seed h seeded =
-    scheduled (begun image parameters) seed seeded.events h seeded.last seeded.drawn_are (scheduled_none image parameters)
+pub seeded_scheduled : (image : Parts) (parameters : Parameters) (seed : ℕ) (journal : List Entry) → IsSeededRun image parameters seed journal → IsScheduled image parameters journal
+seeded_scheduled image parameters seed journal seeded =
+    scheduled (begun image parameters) seed seeded.events (record { image = image; parameters = parameters; journal = journal }) seeded.last seeded.drawn_are
+    (scheduled_none image parameters)
+
+-- ---- the image and the parameters stay
+
+abbrev of_journal : History → List Entry → History
+of_journal h journal = record { image = h.image; parameters = h.parameters; journal = journal }
+
+stays : (h : History) (x : ℕ) (events : List Event) (after : History) (y : ℕ) → AreDrawn h x events after y → after ≡ of_journal h after.journal
+stays h x [] after y are = subst (λ (g : History). g ≡ of_journal h g.journal) are.0 (same h)
+  where
+    same : (g : History) → g ≡ of_journal g g.journal
+    same g = refl
+stays h x (event ∷ rest) after y are = stays (grown h event) (drawn x) rest after y are.1
+
+-- a machine that a seed has taken from its start has the seed's journal
+pub seeded_run : (image : Parts) (parameters : Parameters) (seed : ℕ) (after : History) → IsSeeded (begun image parameters) seed after → IsSeededRun image parameters seed after.journal
+seeded_run image parameters seed after seeded =
+    subst (λ (g : History). IsSeeded (begun image parameters) seed g) (stays (begun image parameters) seed seeded.events after seeded.last seeded.drawn_are) seeded
+
+pub of_start : (image : Parts) (parameters : Parameters) (seed : ℕ) (after : History) → IsSeeded (begun image parameters) seed after → after ≡ record { image = image; parameters = parameters; journal = after.journal }
+of_start image parameters seed after seeded = stays (begun image parameters) seed seeded.events after seeded.last seeded.drawn_are

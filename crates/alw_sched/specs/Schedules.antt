@@ -3,6 +3,7 @@ use Rattle.std.specs.Prelude.{◌≡◌, ℕ, ◌/◌, ◌%◌, ◌^◌, Bool, c
 use Rattle.alw_num.specs.declared.memory.NoMemory.{NoMemory}
 use Rattle.alw_msg.specs.declared.events.Event.{Event}
 use Rattle.alw_msg.specs.declared.events.Event.TheVariants.{Evict}
+use Rattle.alw_msg.specs.declared.events.Entry.{Entry}
 use Rattle.alw_image.specs.declared.parts.Parts.{Parts}
 use Rattle.alw_image.specs.Images.{node_count}
 use Rattle.alw_image.specs.Parameters.{Parameters}
@@ -10,7 +11,7 @@ use Rattle.alw_model.specs.declared.ends.Ended.{Ended}
 use Rattle.alw_model.specs.Contexts.{all_halted}
 use Rattle.alw_model.specs.Machine.{End, end_of}
 use Rattle.alw_model.specs.Ends.{IsEnd}
-use Rattle.alw_mesh.specs.Histories.{History, begun, state_of, may_be_next, grown}
+use Rattle.alw_mesh.specs.Histories.{History, begun, state_of, may_be_next, grown, IsRun}
 use Rattle.alw_mesh.specs.Ends.{next_events}
 use Rattle.alw_mesh.specs.Readings.{node_in}
 use Rattle.alw_num.specs.Draws.{drawn, drawn_number}
@@ -59,10 +60,16 @@ pub record IsSeeded (before : History) (seed : ℕ) (after : History) : Type 0 w
   pub drawn_are : AreDrawn before seed events after last
 
 -- a journal is what a seed makes of an image from its start on
-abbrev pub IsSeededRun : Parts → Parameters → ℕ → History → Type 0
-IsSeededRun image parameters seed h = IsSeeded (begun image parameters) seed h
+abbrev pub IsSeededRun : Parts → Parameters → ℕ → List Entry → Type 0
+IsSeededRun image parameters seed journal = IsSeeded (begun image parameters) seed (record { image = image; parameters = parameters; journal = journal })
+
+-- a seed has taken a machine to an end
+pub record IsFinished (before : History) (seed : ℕ) (after : History) (ended : Ended) : Type 0 where
+  pub seeded : IsSeeded before seed after
+  pub run : IsRun after
+  pub end : IsEnd after.image after.parameters after.journal ended
 
 -- what the schedule of a seed leaves and answers: an end; or memory was refused before one
 abbrev pub Finishes : History → ℕ → History → Result Ended NoMemory → Type 0
-Finishes before seed after (Ok ended) = IsSeeded before seed after × IsEnd after.image after.parameters after.journal ended
+Finishes before seed after (Ok ended) = IsFinished before seed after ended
 Finishes before seed after (Err e) = IsSeeded before seed after

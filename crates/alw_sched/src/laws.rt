@@ -1,4 +1,5 @@
-ghost use Rattle.std.specs.Prelude.{◌≡◌, ◌≢◌, ℕ, None};
+ghost use Rattle.std.specs.Prelude.{◌≡◌, ◌≢◌, ℕ, None, List};
+ghost use Rattle.alw_msg.specs.declared.events.Entry.{Entry};
 ghost use Rattle.alw_image.specs.declared.parts.Parts.{Parts};
 ghost use Rattle.alw_image.specs.Parameters.{Parameters};
 ghost use Rattle.alw_model.specs.Headline.{IsScheduled};
@@ -17,5 +18,5 @@ pub fn one_run_a_seed()
 /// eviction where none is to be tried.
 #[tactic(auto, using(crate::proofs::Seeded::seeded_scheduled))]
 pub fn seeded_runs_are_scheduled()
-    ensures { (image : Parts) → (parameters : Parameters) → (seed : ℕ) → (h : History) → IsSeededRun image parameters seed h → IsScheduled h.image h.parameters h.journal }
+    ensures { (image : Parts) → (parameters : Parameters) → (seed : ℕ) → (journal : List Entry) → IsSeededRun image parameters seed journal → IsScheduled image parameters journal }
 {}
