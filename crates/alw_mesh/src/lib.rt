@@ -14,3 +14,8 @@ mod views;
 pub use errors::{FitErr, MOST_STEPS, StepErr};
 pub use machines::Machine;
 pub use parts::MachineParts;
+
+#[cfg(test)]
+mod run_tests;
+#[cfg(test)]
+mod tests;
