@@ -1,0 +1,4 @@
+pub mod Differences
+pub mod TurnRuns
+pub mod Walks
+pub mod Exits

@@ -1,0 +1,13 @@
+//! The audit of a claim: whether a program, run on one flat memory, says the same.
+#![tactic(auto)]
+
+mod auditing;
+mod memory;
+mod prints;
+mod verdicts;
+
+pub use auditing::audit;
+pub use verdicts::{Place, Verdict};
+
+#[cfg(test)]
+mod tests;
