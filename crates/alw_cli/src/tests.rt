@@ -19,11 +19,22 @@ const SMALLEST: [u8; 40] = [
 const SMALLEST_REPORT: &str =
     "ALEWIFE REPORT 1\nmesh 1 1 contexts 1 lines 1\nparams pointers 4 sets 256 limit 32768\nended halted\nentries 1 turns 1 misses 0 evicts 0\nmessages RREQ 0 WREQ 0 REPM 0 UPDATE 0 ACKC 0 RDATA 0 WDATA 0 INV 0 BUSY 0\nhops 0 handlers 0 spills 0\nruns 1\n0 1\nprints 0\nmemory 0\ndirectory 0\nend\n";
 
-// The smallest image with two contexts and a second word.
-const TWO_CONTEXTS: [u8; 44] = [
-    0x41, 0x4c, 0x45, 0x57, 0, 1, 1, 1, 2, 0, 0, 1, 0, 0, 0, 2, 0, 0, 0, 0, 0, 0, 0, 1, 0, 0, 0, 0,
-    0x91, 0xd0, 0x20, 0, 0x91, 0xd0, 0x20, 0, 0, 0, 0, 0, 0, 0, 0, 0,
+// The smallest image on a mesh of 8 columns and 8 rows, of whose contexts the first alone has a start.
+const WIDE: [u8; 40] = [
+    0x41, 0x4c, 0x45, 0x57, 0, 1, 8, 8, 1, 0, 0, 1, 0, 0, 0, 1, 0, 0, 0, 0, 0, 0, 0, 1, 0, 0, 0, 0,
+    0x91, 0xd0, 0x20, 0, 0, 0, 0, 0, 0, 0, 0, 0,
 ];
+
+// A node stores 5, clears a register, loads the word and prints it.
+const STORE_AND_LOAD: &[u8] =
+    b"sethi %hi(0x40000000),%g1\nmov 5,%o0\nst %o0,[%g1]\nmov %g0,%o0\nld [%g1],%o0\nta 1\nta 0\n";
+
+const STORE_AND_LOAD_REPORT: &str =
+    "ALEWIFE REPORT 1\nmesh 1 1 contexts 1 lines 1\nparams pointers 4 sets 256 limit 32768\nended halted\nentries 10 turns 7 misses 1 evicts 0\nmessages RREQ 0 WREQ 1 REPM 0 UPDATE 0 ACKC 0 RDATA 0 WDATA 1 INV 0 BUSY 0\nhops 0 handlers 0 spills 0\nruns 1\n0 7\nprints 1\n0 0x00000005\nmemory 1\n0x40000000 0x00000005\ndirectory 1\n0 RW normal hw 0 sw - acks 0\nend\n";
+
+// Four nodes count to 100 each, behind a lock in another line.
+const LOCK: &[u8] =
+    b".mesh 2,2\nset 0x40000000,%g1\nset 0x40000010,%g2\nmov 100,%g3\nlock: ldstub [%g1],%g4\ntst %g4\nbne lock\nnop\nld [%g2],%g5\nadd %g5,1,%g5\nst %g5,[%g2]\nstb %g0,[%g1]\nsubcc %g3,1,%g3\nbne lock\nnop\nta 0\n";
 
 // The smallest image with another word in place of its halt.
 fn with_word(word: [u8; 4]) -> [u8; 40] {
@@ -53,7 +64,7 @@ fn call(alloc: Global, words: &str, bytes: &[u8]) -> Result<Answered, Fail> {
         }
     }
     let mut input = MemSource::new(alloc, bytes, 4096, &[])?;
-    let mut out = MemSink::new(alloc, 4096, 4096, &[])?;
+    let mut out = MemSink::new(alloc, 1_000_000, 4096, &[])?;
     let mut err = MemSink::new(alloc, 4096, 4096, &[])?;
     let done = alewife(alloc, &list, &mut input, &mut out, &mut err);
     Ok(Answered { done, out, err })
@@ -68,6 +79,17 @@ fn is_answer(answered: &Answered, status: u8, cause: Cause) -> bool {
 // The line on `err`, or want of memory.
 fn tells(answered: &Answered, line: &str) -> bool {
     answered.done.cause == Cause::NoMemory || answered.err.bytes() == line.as_bytes()
+}
+
+// A text stands somewhere among bytes.
+fn holds(bytes: &[u8], text: &[u8]) -> bool {
+    for from in 0..bytes.len() {
+        let (_, rest) = bytes.split_at(from);
+        if rest.strip_prefix(text).is_some() {
+            return true;
+        }
+    }
+    false
 }
 
 #[test]
@@ -85,10 +107,55 @@ fn smallest(rt: HostRuntime) -> Result<(), Fail> {
 }
 
 #[test]
+fn stores_and_loads(rt: HostRuntime) -> Result<(), Fail> {
+    let alloc = rt.alloc();
+    let image = call(alloc, "asm", STORE_AND_LOAD)?;
+    assert!(rt; is_answer(&image, 0, Cause::Fine));
+    for words in ["run", "run --seed 7", "run --seed 18446744073709551615"] {
+        let run = call(alloc, words, image.out.bytes())?;
+        assert!(rt; is_answer(&run, 0, Cause::Fine));
+        assert!(rt; run.done.status != 0 || run.out.bytes() == STORE_AND_LOAD_REPORT.as_bytes());
+    }
+    Ok(())
+}
+
+#[test]
+fn lock_counts_every_turn(rt: HostRuntime) -> Result<(), Fail> {
+    let alloc = rt.alloc();
+    let image = call(alloc, "asm", LOCK)?;
+    assert!(rt; is_answer(&image, 0, Cause::Fine));
+    let counted = "\nmemory 1\n0x40000010 0x00000190\ndirectory ";
+    for words in [
+        "run --limit 1048576 --seed 1",
+        "run --limit 1048576 --seed 2",
+        "run --limit 1048576 --seed 3",
+        "run --limit 1048576 --seed 4",
+    ] {
+        let run = call(alloc, words, image.out.bytes())?;
+        assert!(rt; is_answer(&run, 0, Cause::Fine));
+        assert!(rt; run.done.status != 0 || holds(run.out.bytes(), counted.as_bytes()));
+    }
+    let first = call(alloc, "run --limit 10", image.out.bytes())?;
+    if first.done.cause != Cause::NoMemory && first.done.journal.len() > 0 {
+        let event = Event::Instr { node: NodeNo(3) };
+        assert_eq!(rt; first.done.journal.at(0), Entry { stamp: 1, event });
+    }
+    Ok(())
+}
+
+#[test]
 fn refused_images(rt: HostRuntime) -> Result<(), Fail> {
-    let two = call(rt.alloc(), "run", &TWO_CONTEXTS)?;
-    assert!(rt; is_answer(&two, 3, Cause::Input(InputErr::NotBuilt(8))));
-    assert!(rt; tells(&two, "alewife: input refused: not built 8\n"));
+    let wide = call(rt.alloc(), "run --limit 131073", &WIDE)?;
+    let fault = InputErr::LimitDoesNotFit(8_388_672, 8_388_608);
+    assert!(rt; is_answer(&wide, 3, Cause::Input(fault)));
+    assert!(rt;
+        tells(
+            &wide,
+            "alewife: input refused: limit 8388672 above 8388608\n"
+        )
+    );
+    let fits = call(rt.alloc(), "run --limit 131072", &WIDE)?;
+    assert!(rt; is_answer(&fits, 0, Cause::Fine));
     let none = call(rt.alloc(), "run", &[])?;
     assert!(rt;
         is_answer(

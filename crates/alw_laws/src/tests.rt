@@ -1,7 +1,7 @@
 use crate::{Copies, LineView, LinkMsgs, Pending, inspect};
+use alw_memory::HomeView;
 use alw_msg::Kind::{ACKC, BUSY, INV, RDATA, REPM, RREQ, UPDATE, WDATA, WREQ};
 use alw_msg::{Kind, Msg};
-use alw_memory::HomeView;
 use alw_num::State::{RO, RT, RW, WT};
 use alw_num::{Line, LineNo, MOST_NODES, Meta, Mode, NodeNo, NodeSet, Sequence, State};
 use std::alloc::Global;

@@ -1,5 +1,5 @@
-use alw_msg::Msg;
 use alw_memory::HomeView;
+use alw_msg::Msg;
 use alw_num::{Line, LineNo, Mode, NodeNo, Sequence};
 
 /// The copies of a line in caches: of each its node, what it grants, and its bytes.

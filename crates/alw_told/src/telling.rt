@@ -60,11 +60,7 @@ fn directory_of(alloc: Global, machine: &Machine) -> Result<DirectoryLines, NoMe
 }
 
 // A line's entry, where it isn't Read-Only or has a pointer.
-fn put_entry(
-    lines: &mut DirectoryLines,
-    line: LineNo,
-    home: &HomeView,
-) -> Result<(), NoMemory>
+fn put_entry(lines: &mut DirectoryLines, line: LineNo, home: &HomeView) -> Result<(), NoMemory>
     requires room { length lines.old < 2 ^ 32 - 1 }
     ensures lines { OnOk result ((entry : Directory) → IsViewOf home.now entry → lines.new ≡ lines.old ++ directory_line line.0 entry) }
     ensures few { OnOk result (length lines.new ≤ length lines.old + 1) }

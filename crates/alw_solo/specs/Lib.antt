@@ -1,3 +1,0 @@
-pub mod Solo
-pub mod Told
-pub mod Ports
