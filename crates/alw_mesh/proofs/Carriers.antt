@@ -141,6 +141,17 @@ few_carriers n s entry pending some is = rw (carriers_length n s) (few s.home.st
     few RT each = leb-true (all_carried n s) 1 (and_parts (nat_le (all_carried n s) 1) _ (each 0 some)).0
     few WT each = leb-true (all_carried n s) 1 (and_parts (nat_le (all_carried n s) 1) _ (each 0 some)).0
 
+-- a line whose home is Read-Only has none
+pub shared_carriers : (n : ℕ) (s : LineState) (entry : Directory) (pending : ℕ) → LineInvariant n s entry pending → s.home.state ≡ RO → carriers n s ≡ []
+shared_carriers n s entry pending is shared = none_at (λ k. carried (s.node k)) 0 n (λ i l. subst (λ k. carried (s.node k) ≡ []) (omega arith) (none_carried (carried (s.node i)) (calm i l)))
+  where
+    calm : (i : ℕ) → i < n → carries (s.node i) ≡ 0
+    calm i l = eqb-true (carries (s.node i)) 0 (subst (λ (state : State). IsTrue (carrier_by state (is_sole s i) s.home.acks (s.node i) (all_carried n s))) shared (is.carrier i l))
+
+    none_carried : (bodies : List Line) → length bodies ≡ 0 → bodies ≡ []
+    none_carried [] none = refl
+    none_carried (body ∷ rest) none = absurd (omega (arith, none))
+
 module _ (n : ℕ) (s : LineState) (few : length (carriers n s) ≤ 1) where
   -- what is carried at a node is the current value
   pub found_is : (x : Line) (i : ℕ) → i < n → Has x (carried (s.node i)) → line_value n s ≡ x

@@ -6,6 +6,7 @@ use Rattle.std.proofs.lemmas.List.FromFn.{get_or-map-range_with_len}
 use Rattle.std.proofs.lemmas.Nat.{mul-le}
 use Rattle.std.proofs.Math.Nat.{div-lt_iff_lt-mul}
 use Rattle.alw_num.specs.declared.addresses.Line.{Line}
+use Rattle.alw_num.specs.declared.states.State.TheVariants.{RO}
 use Rattle.alw_num.specs.declared.addresses.TheConstants.{SHARED_BASE}
 use Rattle.alw_num.specs.Maps.{passes}
 use Rattle.alw_num.specs.Weights.{digit, weigh}
@@ -45,7 +46,7 @@ use Rattle.alw_mesh.specs.Grids.{Grid, IsSlotOf}
 use Rattle.alw_mesh.specs.Keeping.{IsMachine}
 use Rattle.alw_mesh.proofs.OneNode.{home_exists}
 use Rattle.alw_mesh.proofs.Journals.{journal_fits}
-use Rattle.alw_mesh.proofs.Carriers.{few_carriers}
+use Rattle.alw_mesh.proofs.Carriers.{few_carriers, shared_carriers}
 
 module _ (h : History) (run : IsRun h) where
   abbrev here : MachineState
@@ -128,6 +129,16 @@ module _ {grid : Grid} {journal : List Entry} {sent : Sending} {tally : Tallied}
   -- no line has two carriers
   pub one_here : (line : ℕ) → line < line_count grid.image → length (carriers (node_count grid.image) (lines.line_of grid.image grid.parameters grid.machine line)) ≤ 1
   one_here line exists = subst (λ (m : MachineState). length (carriers (node_count grid.image) (lines.line_of grid.image grid.parameters m line)) ≤ 1) (sym is.state_is) (one_carrier history is.run line exists)
+
+  -- a line whose home is Read-Only has none
+  pub shared_here : (line : ℕ) → line < line_count grid.image → (entry_of grid.image grid.machine line).state ≡ RO
+      → carriers (node_count grid.image) (lines.line_of grid.image grid.parameters grid.machine line) ≡ []
+  shared_here line exists =
+      let image = grid.image in
+      subst (λ (m : MachineState). (entry_of image m line).state ≡ RO → carriers (node_count image) (lines.line_of image grid.parameters m line) ≡ []) (sym is.state_is)
+      (shared_carriers (node_count image) (lines.line_of image grid.parameters (state_of history) line) (entry_of image (state_of history) line)
+      (length (ups line (packets_at image (state_of history) line)))
+      ((always_invariant image is.run.image grid.parameters is.run.parameters journal is.run.legal).lines line exists))
 
   -- a line's current value is that of the flat machine
   pub value_here : (line : ℕ) → line < line_count grid.image → current_value grid.image grid.parameters grid.machine line ≡ line_at (flat_in history) line

@@ -1,20 +1,38 @@
-ghost use Rattle.std.specs.Prelude.{◌≡◌, ◌<◌, ◌≤◌, length, option_to_list};
+ghost use Rattle.std.specs.Prelude.{◌≡◌, ◌<◌, ◌≤◌, [], length, option_to_list};
 ghost use Rattle.std.specs.List.{AllByRecursion};
+ghost use Rattle.alw_num.specs.declared.states.State.TheVariants.{RO};
 ghost use Rattle.alw_msg.specs.Lists.{front};
 ghost use Rattle.alw_image.specs.Images.{node_count, line_count};
-ghost use Rattle.alw_model.specs.Lines.{line_of, packets_at, current_value, carriers};
+ghost use Rattle.alw_model.specs.Lines.{line_of, entry_of, packets_at, current_value, carriers};
 ghost use Rattle.alw_mesh.specs.Values.{brought_home, all_brought_home, brought_out, all_brought_out, owned_by, shown_at};
 
 use crate::meshes::Mesh;
 use alw_msg::{Kind, Msg};
 use alw_node::Node;
-use alw_num::{Line, LineNo, Mode, NodeNo};
+use alw_num::{Line, LineNo, Mode, NodeNo, State};
 use std::collections::LinkedList;
 
 impl Mesh {
-    /// The current value of a line: its one carrier's, or else its home's. It looks at each node's copy,
-    /// at the messages between each node and the home, and at the home's packets.
+    /// The current value of a line: its one carrier's, or else its home's. A line whose home is Read-Only
+    /// has no carrier. For another it looks at each node's copy, at the messages between each node and
+    /// the home, and at the home's packets.
     pub fn value(&self, line: LineNo) -> Line
+        requires line { line.0 < line_count self.now.image }
+        requires senders { AllByRecursion (λ packet. packet.src.0 < node_count self.now.image) (packets_at self.now.image self.now.machine line.0) }
+        requires one { length (carriers (node_count self.now.image) (line_of self.now.image self.now.parameters self.now.machine line.0)) ≤ 1 }
+        requires shared { (entry_of self.now.image self.now.machine line.0).state ≡ RO →
+            carriers (node_count self.now.image) (line_of self.now.image self.now.parameters self.now.machine line.0) ≡ [] }
+        ensures { result ≡ current_value self.now.image self.now.parameters self.now.machine line.0 }
+    {
+        let home = self.home(line);
+        match home.state {
+            State::RO => home.body,
+            _ => self.found_value(line),
+        }
+    }
+
+    // The same, wherever it is.
+    fn found_value(&self, line: LineNo) -> Line
         requires line { line.0 < line_count self.now.image }
         requires senders { AllByRecursion (λ packet. packet.src.0 < node_count self.now.image) (packets_at self.now.image self.now.machine line.0) }
         requires one { length (carriers (node_count self.now.image) (line_of self.now.image self.now.parameters self.now.machine line.0)) ≤ 1 }

@@ -8,7 +8,7 @@ use Rattle.alw_model.specs.NodeStates.{NodeState}
 use Rattle.alw_model.specs.Machine.{node_at}
 use Rattle.alw_mesh.specs.Values.{all_brought_home, shown_at}
 use Rattle.alw_mesh.proofs.Carriers.{value_in_packet, value_shown, value_at_home}
-use Rattle.alw_mesh.proofs.meshes.Mesh.value.Goals as goal
+use Rattle.alw_mesh.proofs.meshes.Mesh.found_value.Goals as goal
 
 pub returns-in-Some : goal.returns-in-Some
 returns-in-Some c =
