@@ -41,10 +41,6 @@ run_is seed params bytes image journal e text Written same spelled accepted fits
   report = subst (λ (p : Parts). Written (report_of p params journal e)) same (subst Written made.report written);
 }
 
--- an image that doesn't fit
-pub too_much : (params : Parameters) (bytes : List ℕ) (image : Parts) (number most : ℕ) → image ≡ image_in bytes → IsTooMuch image params number most → IsTooMuch (image_in bytes) params number most
-too_much params bytes image number most same much = subst (λ (p : Parts). IsTooMuch p params number most) same much
-
 -- its answer, by its end
 ends_so : (seed : ℕ) (params : Parameters) (bytes : List ℕ) (out out' : Stream) (journal : List Entry) (e : Ended) → Runs seed params bytes journal e (Gained out out') →
     RunAnswer seed params bytes out out' (cause_of e) journal

@@ -85,9 +85,6 @@ module _ (h : History) (run : IsRun h) where
       sym (get_or-map-range_with_len (current_value h.image h.parameters here) 0 (line_count h.image) line line zero_line exists (omega arith))
       ∙ ap (λ (f : Flat). line_at f line) flat_is
 
-  pub word_exists : (addr : ℕ) → IsSharedWord h addr → line_of addr < line_count h.image
-  word_exists addr is = omega arith
-
   -- at most one node, message or packet carries a line
   pub one_carrier : (line : ℕ) → line < line_count h.image → length (carriers (node_count h.image) (lines.line_of h.image h.parameters here line)) ≤ 1
   one_carrier line exists =
@@ -167,6 +164,3 @@ module _ {grid : Grid} {journal : List Entry} {sent : Sending} {tally : Tallied}
   few_holds =
       let run = moments grid.image grid.parameters journal in
       omega (arith, replies_are, replies_few run, moments_long grid.image grid.parameters journal, journal_fits history is.run)
-
-  pub word_here : (addr : ℕ) → IsSharedWord history addr → line_of addr < line_count grid.image
-  word_here addr shared = word_exists history is.run addr shared

@@ -151,7 +151,7 @@ impl Machine {
     }
 
     /// The word at an address of shared data that is a multiple of 4: the current value's, which is the
-    /// word on the flat machine. It costs a look at each node, and at what is on its way.
+    /// word on the flat machine. A Read-Only line costs one look, another a look at each node and at what is on its way.
     pub fn word(&self, addr: u32) -> u32
         requires { IsSharedWord self.now addr }
         ensures word { result ≡ word_in self.now addr }

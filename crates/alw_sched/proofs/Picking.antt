@@ -29,14 +29,6 @@ some_event h going = some_kept (may_be_next h) (main_events h.image) (by_end (an
     by_end false false true none = refl
     by_end false false false none = absurd (cc)
 
--- an eviction is picked where it is made
-pub picks_eviction : (h : History) (number : ℕ) → is_evicted h number ≡ true → picked h number ≡ Some (asked_eviction h number)
-picks_eviction h number made = rw made refl
-
--- and else a main event
-pub picks_main : (h : History) (number : ℕ) (event : Event) → is_evicted h number ≡ false → slice_get (next_events h) (number % length (next_events h)) ≡ Some event → picked h number ≡ Some event
-picks_main h number event none got = rw none got
-
 -- what is picked may be next
 kept_passes : (test : Event → Bool) (xs : List Event) (k : ℕ) (event : Event) → slice_get (filter test xs) k ≡ Some event → test event ≡ true
 kept_passes test [] k event got = absurd (cc)

@@ -26,9 +26,6 @@ pub drawn_more : (h : History) (x : ℕ) (events : List Event) (mid : History) (
 drawn_more h x [] mid y event same next = rw (same.0, same.1) (next, (refl, refl))
 drawn_more h x (first ∷ rest) mid y event are next = (are.0, drawn_more (grown h first) (drawn x) rest mid y event are.1 next)
 
-pub seeded_none : (h : History) (seed : ℕ) → AreDrawn h seed [] h seed
-seeded_none h seed = (refl, refl)
-
 -- ---- one run for a seed
 
 some_is : (a b : Event) → Some a ≡ Some b → a ≡ b
