@@ -147,6 +147,11 @@ fn event(row: &Words<'_>) -> Option<Event> {
     }
 }
 
+/// The event of a row, by its text.
+pub fn event_of(row: &str) -> Option<Event> {
+    event(&words_of(row))
+}
+
 fn kind(word: &str) -> Option<Kind> {
     match word {
         "RREQ" => Some(Kind::RREQ),
@@ -347,13 +352,17 @@ fn fits(machine: &mut Machine, row: &Words<'_>) -> Result<bool, Fail> {
     }
 }
 
-/// A machine goes through a run. Fails at the first row that isn't as the machine has it.
-pub fn plays(alloc: Global, play: &Play) -> Result<(), Fail> {
-    let mut machine = started(alloc, play)?;
-    for row in play.rows.split(", ") {
-        if !fits(&mut machine, &words_of(row))? {
+/// A machine goes through rows. Fails at the first that isn't as the machine has it.
+pub fn goes(machine: &mut Machine, rows: &str) -> Result<(), Fail> {
+    for row in rows.split(", ") {
+        if !fits(machine, &words_of(row))? {
             return Err(row.into());
         }
     }
     Ok(())
+}
+
+/// A machine goes through a run, from its start.
+pub fn plays(alloc: Global, play: &Play) -> Result<(), Fail> {
+    goes(&mut started(alloc, play)?, play.rows)
 }

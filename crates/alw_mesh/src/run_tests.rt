@@ -1,4 +1,4 @@
-use crate::plays::{Play, started};
+use crate::plays::{Play, event_of, goes, started};
 use crate::{FitErr, MOST_STEPS, Machine, MachineParts, StepErr};
 use alw_image::{Params, read_image};
 use alw_model::{Counts, Ended};
@@ -9,13 +9,13 @@ use sparc_table::Regs;
 use std::alloc::Global;
 use std::test::Fail;
 
-// Node 1 loads from a line, and node 0 stores to it.
+// Node 1 loads from a line, and node 0 stores to it; the last event isn't enabled.
 const TWO_AT_WORK: Play = Play {
     sizes: "2 1 1 4 4 100",
     code: "03100000 d0004000 91d02000 03100000 d2204000 91d02000",
     starts: "0 0 12, 1 0 0",
     always: "",
-    rows: "",
+    rows: "1 I 1, 2 I 1, 3 D 1 0, 4 D 0 1, 5 I 1, 1 I 0, 2 I 0, 4 D 0 0, 5 H 0",
 };
 
 // What is seen of a node of a machine of two nodes with one context and one line each.
@@ -108,32 +108,6 @@ fn seen(machine: &Machine) -> Option<MachineSeen> {
     })
 }
 
-fn instr(node: u16) -> Event {
-    Event::Instr { node: NodeNo(node) }
-}
-
-fn deliver(from: u16, to: u16) -> Event {
-    Event::Deliver {
-        from: NodeNo(from),
-        to: NodeNo(to),
-    }
-}
-
-// Events of a run, of which the last isn't enabled.
-fn events_of_two() -> [Event; 9] {
-    [
-        instr(1),
-        instr(1),
-        deliver(1, 0),
-        deliver(0, 1),
-        instr(1),
-        instr(0),
-        instr(0),
-        deliver(0, 0),
-        Event::Handle { node: NodeNo(0) },
-    ]
-}
-
 // An event happens where it may; or it doesn't, and all is as it was.
 fn is_whole(machine: &mut Machine, event: Event) -> bool {
     let before = seen(machine);
@@ -149,7 +123,8 @@ fn is_whole(machine: &mut Machine, event: Event) -> bool {
 #[test]
 fn refused_step(rt: HostRuntime) -> Result<(), Fail> {
     let mut machine = started(rt.alloc(), &TWO_AT_WORK)?;
-    for event in events_of_two() {
+    for row in TWO_AT_WORK.rows.split(", ") {
+        let event = event_of(row).ok_or("no event")?;
         assert!(rt; is_whole(&mut machine, event));
     }
     Ok(())
@@ -160,11 +135,13 @@ const FOUR_LINES: Play = Play {
     sizes: "3 1 4 1 256 32768",
     code: "03100000 d0004000 d0006010 d0006020 d0006030 91d02000",
     starts: "0 0 0, 1 0 0, 2 0 0",
-    ..TWO_AT_WORK
+    always: "",
+    rows: "halted, count entries 58, count turns 18, count misses 12, count RREQ 12, \
+        count RDATA 12, count hops 24, count handlers 4, count spills 4",
 };
 
 // Takes events until an end holds, each by this stride further in the list of those that may be next.
-fn runs(machine: &mut Machine, stride: u32) -> Result<Option<Ended>, Fail> {
+fn runs(machine: &mut Machine, stride: u32) -> Result<(), Fail> {
     let mut pick = 0;
     for _ in 0..100 {
         let events = machine.events();
@@ -174,7 +151,7 @@ fn runs(machine: &mut Machine, stride: u32) -> Result<Option<Ended>, Fail> {
         machine.step(machine.event(pick % events))?;
         pick = stride.wrapping_add(pick);
     }
-    Ok(machine.ended())
+    Ok(())
 }
 
 // A line has one pointer in hardware and two in software.
@@ -187,24 +164,28 @@ fn is_spilled(machine: &Machine, line: u32) -> bool {
     home.state == State::RO && home.meta == Meta::TrapWrite && pointers == (1, 2)
 }
 
-// The lines fill the software table of their home, and no step is refused for it.
-fn fills(alloc: Global, stride: u32) -> Result<bool, Fail> {
-    let mut machine = started(alloc, &FOUR_LINES)?;
-    if runs(&mut machine, stride)? != Some(Ended::Halted) {
-        return Ok(false);
+// So have the four lines of node 0.
+fn are_spilled(machine: &Machine) -> bool {
+    for line in 0..4 {
+        if !is_spilled(machine, line) {
+            return false;
+        }
     }
-    let counts = machine.counts();
-    let taken = counts.entries == 58 && counts.turns == 18 && counts.misses == 12;
-    let sent = counts.rreq == 12 && counts.rdata == 12 && counts.hops == 24;
-    let handled = counts.handlers == 4 && counts.spills == 4;
-    Ok(taken && sent && handled && (0..4).all(|line| is_spilled(&machine, line)))
+    true
+}
+
+// The lines fill the software table of their home, and no step is refused for it.
+fn fills(machine: &mut Machine, stride: u32) -> Result<bool, Fail> {
+    runs(machine, stride)?;
+    goes(machine, FOUR_LINES.rows)?;
+    Ok(are_spilled(machine))
 }
 
 // In whatever order the events come.
 #[test]
 fn full_tables(rt: HostRuntime) -> Result<(), Fail> {
     for stride in [0, 1, 5, 7] {
-        assert!(rt; fills(rt.alloc(), stride)?);
+        assert!(rt; fills(&mut started(rt.alloc(), &FOUR_LINES)?, stride)?);
     }
     Ok(())
 }
