@@ -7,3 +7,4 @@ pub mod Picks
 pub mod LinkLists
 pub mod Messages
 pub mod Shown
+pub mod Collected

@@ -1,7 +1,9 @@
-use crate::{Copies, LineView, LinkMsgs, Pending, inspect};
+use crate::{Copies, LineView, LinkMsgs, Pending, inspect, view};
+use alw_image::{Params, read_image};
 use alw_memory::HomeView;
+use alw_mesh::Machine;
 use alw_msg::Kind::{ACKC, BUSY, INV, RDATA, REPM, RREQ, UPDATE, WDATA, WREQ};
-use alw_msg::{Kind, Msg};
+use alw_msg::{Event, Kind, Msg};
 use alw_num::State::{RO, RT, RW, WT};
 use alw_num::{Line, LineNo, MOST_NODES, Meta, Mode, NodeNo, NodeSet, Sequence, State};
 use std::alloc::Global;
@@ -392,5 +394,40 @@ fn broken_software_sets(rt: HostRuntime) -> Result<(), Fail> {
         )?
     );
     assert!(rt; !is_sound(alloc, unshared, &[Reading(4), Packet(RREQ, 4)])?);
+    Ok(())
+}
+
+// The image of a node that stores to the one line of its machine.
+const STORES: [u8; 44] = [
+    0x41, 0x4c, 0x45, 0x57, 0, 1, 1, 1, 1, 0, 0, 1, 0, 0, 0, 2, 0, 0, 0, 0, 0, 0, 0, 1, 0, 0, 0, 0,
+    0x03, 0x10, 0, 0, 0xd0, 0x20, 0x40, 0, 0, 0, 0, 0, 0, 0, 0, 0,
+];
+
+// The machine once the node has asked for the line.
+fn asked(alloc: Global) -> Result<Machine, Fail> {
+    let image = read_image(alloc, &STORES)?;
+    let params = Params::new(4, 4, 100, 0).ok_or("no parameters")?;
+    let mut machine = Machine::start(alloc, &image, &params)?;
+    for _ in 0..2 {
+        machine.step(Event::Instr { node: NodeNo(0) })?;
+    }
+    Ok(machine)
+}
+
+// What a machine has of its first line.
+fn first_line(alloc: Global, machine: &Machine) -> Result<LineView, Fail> {
+    if machine.lines() == 0 {
+        return Err("no line".into());
+    }
+    Ok(view(alloc, machine, LineNo(0))?)
+}
+
+// What a machine has of a line: the transaction of the node, and its request.
+#[test]
+fn line_of_a_machine(rt: HostRuntime) -> Result<(), Fail> {
+    let shown = first_line(rt.alloc(), &asked(rt.alloc())?)?;
+    assert!(rt; shown.copies.is_empty() && shown.packet.is_none());
+    assert!(rt; shown.transactions.len() == 1 && shown.links.len() == 1);
+    assert!(rt; inspect(&shown));
     Ok(())
 }

@@ -1,19 +1,21 @@
 -- The one carrier of a line: wherever it is found, it has the line's current value; and where none is found, the home has it.
 use Rattle.std.proofs.Common.{◌≡◌, ℕ, zero, suc, ◌+◌, ◌<◌, ◌≤◌, ◌==◌, nat_lt, nat_le, Bool, true, false, cond, ◌&&◌, ◌||◌, not, Option, Some, None, List, [], ◌∷◌, ◌++◌, map, filter, length, IsTrue, refl, sym, ap, subst, ◌∙◌, ◌⊎◌, inl, inr, ⊎_elim, arith}
 use Rattle.std.specs.List.{range_with_len, flat_map, AllByRecursion}
-use Rattle.std.proofs.lemmas.Bool.{eqb-true, leb-true, eq-eqb, lt-ltb}
+use Rattle.std.proofs.lemmas.Bool.{eqb-true, leb-true, eq-eqb, ne_eqb, lt-ltb}
 use Rattle.std.proofs.lemmas.List.Concat.{flat_map-append}
 use Rattle.alw_num.specs.declared.addresses.Line.{Line}
 use Rattle.alw_num.specs.declared.states.State.{State}
 use Rattle.alw_num.specs.declared.states.State.TheVariants.{RO, RW, RT, WT}
-use Rattle.alw_num.proofs.Weigh.{sum_none}
-use Rattle.alw_num.specs.Weights.{sum_below}
+use Rattle.alw_num.proofs.Weigh.{sum_none, cases_lt_then}
+use Rattle.alw_num.specs.Maps.{passes}
+use Rattle.alw_num.specs.Weights.{digit, sum_below}
 use Rattle.alw_msg.specs.declared.messages.Msg.{Msg}
 use Rattle.alw_msg.specs.Contents.{content, request_in}
 use Rattle.alw_msg.specs.Lists.{front}
 use Rattle.alw_image.specs.declared.parts.Parts.{Parts}
 use Rattle.alw_image.specs.Images.{node_count}
 use Rattle.alw_image.specs.Parameters.{Parameters}
+use Rattle.alw_model.specs.FullMap.{only}
 use Rattle.alw_model.specs.LimitLess.{Directory}
 use Rattle.alw_model.specs.Messages.{home_node}
 use Rattle.alw_model.specs.Machine.{MachineState, node_at, link_at}
@@ -22,7 +24,7 @@ use Rattle.alw_model.specs.LineInvariant.{LineInvariant, carries, all_carried, c
 use Rattle.alw_model.proofs.Journals.{and_parts}
 use Rattle.alw_line.proofs.Tests.{carriers_length}
 use Rattle.alw_mesh.proofs.Finding.{home_more}
-use Rattle.alw_mesh.specs.Values.{brought_home, all_brought_home, all_brought_out, owned_by, shown_at}
+use Rattle.alw_mesh.specs.Values.{brought_home, all_brought_home, all_brought_out, owned_by, shown_at, OnlyBetween, FirstAlone}
 
 -- ---- members of a list
 
@@ -141,6 +143,10 @@ few_carriers n s entry pending some is = rw (carriers_length n s) (few s.home.st
     few RT each = leb-true (all_carried n s) 1 (and_parts (nat_le (all_carried n s) 1) _ (each 0 some)).0
     few WT each = leb-true (all_carried n s) 1 (and_parts (nat_le (all_carried n s) 1) _ (each 0 some)).0
 
+none_carried : (bodies : List Line) → length bodies ≡ 0 → bodies ≡ []
+none_carried [] none = refl
+none_carried (body ∷ rest) none = absurd (omega (arith, none))
+
 -- a line whose home is Read-Only has none
 pub shared_carriers : (n : ℕ) (s : LineState) (entry : Directory) (pending : ℕ) → LineInvariant n s entry pending → s.home.state ≡ RO → carriers n s ≡ []
 shared_carriers n s entry pending is shared = none_at (λ k. carried (s.node k)) 0 n (λ i l. subst (λ k. carried (s.node k) ≡ []) (omega arith) (none_carried (carried (s.node i)) (calm i l)))
@@ -148,9 +154,17 @@ shared_carriers n s entry pending is shared = none_at (λ k. carried (s.node k))
     calm : (i : ℕ) → i < n → carries (s.node i) ≡ 0
     calm i l = eqb-true (carries (s.node i)) 0 (subst (λ (state : State). IsTrue (carrier_by state (is_sole s i) s.home.acks (s.node i) (all_carried n s))) shared (is.carrier i l))
 
-    none_carried : (bodies : List Line) → length bodies ≡ 0 → bodies ≡ []
-    none_carried [] none = refl
-    none_carried (body ∷ rest) none = absurd (omega (arith, none))
+-- where the home is Read-Write, the first node that it points to alone has one
+pub owned_carriers : (n : ℕ) (s : LineState) (entry : Directory) (pending : ℕ) → LineInvariant n s entry pending → s.home.state ≡ RW → FirstAlone n s
+owned_carriers n s entry pending is owned owner others pointers i l apart =
+    let fits = subst (λ (state : State). IsTrue (carrier_by state (is_sole s i) s.home.acks (s.node i) (all_carried n s))) owned (is.carrier i l) in
+    let few = eqb-true (carries (s.node i)) (digit (is_sole s i)) (and_parts (all_carried n s == 1) _ fits).1 in
+    let stranger = ap (λ (nodes : List ℕ). passes (λ j. i == j) (only nodes)) pointers ∙ not_sole others in
+    none_carried (carried (s.node i)) (few ∙ ap digit stranger)
+  where
+    not_sole : (others : List ℕ) → passes (λ j. i == j) (only (owner ∷ others)) ≡ false
+    not_sole [] = ne_eqb i owner (λ same. ⊎_elim (λ l. absurd (omega arith)) (λ l. absurd (omega arith)) apart)
+    not_sole (k ∷ rest) = refl
 
 module _ (n : ℕ) (s : LineState) (few : length (carriers n s) ≤ 1) where
   -- what is carried at a node is the current value
@@ -209,3 +223,14 @@ module _ (parts : Parts) (parameters : Parameters) (machine : MachineState) (lin
       -- the home with the value
       pub value_at_home : ((i : ℕ) → i < node_count parts → front (shown_at parts parameters machine i home line) ≡ None) → (entry_of parts machine line).body ≡ current_value parts parameters machine line
       value_at_home each = sym (none_is (node_count parts) state few (λ i here. shown_is i here (no_packet i) ∙ none_is_empty _ (each i here)))
+
+      -- the home with the value, where only nodes that were looked at may have it
+      pub value_between : (first end n : ℕ) → OnlyBetween (node_count parts) state first end
+          → ((i : ℕ) → first ≤ i → i < n → front (shown_at parts parameters machine i home line) ≡ None)
+          → ((i : ℕ) → i < node_count parts → n ≤ i → end ≤ i) → (entry_of parts machine line).body ≡ current_value parts parameters machine line
+      value_between first end n between each past = value_at_home (λ i here. cases_lt_then first i
+          (λ l. outside i here (inl l))
+          (λ m. cases_lt_then n i (λ l. each i m l) (λ p. outside i here (inr (past i here p)))))
+        where
+          outside : (i : ℕ) → i < node_count parts → (i < first) ⊎ (end ≤ i) → front (shown_at parts parameters machine i home line) ≡ None
+          outside i here out = ap front (sym (shown_is i here (no_packet i)) ∙ between i here out)

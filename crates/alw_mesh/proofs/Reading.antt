@@ -6,7 +6,7 @@ use Rattle.std.proofs.lemmas.List.FromFn.{get_or-map-range_with_len}
 use Rattle.std.proofs.lemmas.Nat.{mul-le}
 use Rattle.std.proofs.Math.Nat.{div-lt_iff_lt-mul}
 use Rattle.alw_num.specs.declared.addresses.Line.{Line}
-use Rattle.alw_num.specs.declared.states.State.TheVariants.{RO}
+use Rattle.alw_num.specs.declared.states.State.TheVariants.{RO, RW}
 use Rattle.alw_num.specs.declared.addresses.TheConstants.{SHARED_BASE}
 use Rattle.alw_num.specs.Maps.{passes}
 use Rattle.alw_num.specs.Weights.{digit, weigh}
@@ -46,7 +46,8 @@ use Rattle.alw_mesh.specs.Grids.{Grid, IsSlotOf}
 use Rattle.alw_mesh.specs.Keeping.{IsMachine}
 use Rattle.alw_mesh.proofs.OneNode.{home_exists}
 use Rattle.alw_mesh.proofs.Journals.{journal_fits}
-use Rattle.alw_mesh.proofs.Carriers.{few_carriers, shared_carriers}
+use Rattle.alw_mesh.specs.Values.{FirstAlone}
+use Rattle.alw_mesh.proofs.Carriers.{few_carriers, shared_carriers, owned_carriers}
 
 module _ (h : History) (run : IsRun h) where
   abbrev here : MachineState
@@ -134,6 +135,16 @@ module _ {grid : Grid} {journal : List Entry} {sent : Sending} {tally : Tallied}
       let image = grid.image in
       subst (λ (m : MachineState). (entry_of image m line).state ≡ RO → carriers (node_count image) (lines.line_of image grid.parameters m line) ≡ []) (sym is.state_is)
       (shared_carriers (node_count image) (lines.line_of image grid.parameters (state_of history) line) (entry_of image (state_of history) line)
+      (length (ups line (packets_at image (state_of history) line)))
+      ((always_invariant image is.run.image grid.parameters is.run.parameters journal is.run.legal).lines line exists))
+
+  -- of a line whose home is Read-Write the first node that it points to alone has one
+  pub owned_here : (line : ℕ) → line < line_count grid.image → (entry_of grid.image grid.machine line).state ≡ RW
+      → FirstAlone (node_count grid.image) (lines.line_of grid.image grid.parameters grid.machine line)
+  owned_here line exists =
+      let image = grid.image in
+      subst (λ (m : MachineState). (entry_of image m line).state ≡ RW → FirstAlone (node_count image) (lines.line_of image grid.parameters m line)) (sym is.state_is)
+      (owned_carriers (node_count image) (lines.line_of image grid.parameters (state_of history) line) (entry_of image (state_of history) line)
       (length (ups line (packets_at image (state_of history) line)))
       ((always_invariant image is.run.image grid.parameters is.run.parameters journal is.run.legal).lines line exists))
 

@@ -16,6 +16,8 @@ pub use machines::Machine;
 pub use parts::MachineParts;
 
 #[cfg(test)]
+mod plays;
+#[cfg(test)]
 mod run_tests;
 #[cfg(test)]
 mod tests;

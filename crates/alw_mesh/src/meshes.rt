@@ -21,6 +21,7 @@ use alw_tally::{Happened, Remains};
 use std::alloc::Global;
 use std::collections::LinkedList;
 use std::marker::Model;
+use std::sync::Arc;
 
 /// All nodes of an image, and the links between them. Contracts see the machine's state.
 #[derive(Debug, Drop)]
@@ -44,15 +45,17 @@ impl Model for Mesh {
 }
 
 impl Mesh {
-    /// The nodes and links at the start of an image, without room for a message.
+    /// The nodes and links at the start of an image, without room for a message. All nodes share one
+    /// code.
     pub fn start(alloc: Global, image: &Image, params: &Params) -> Result<Mesh, NoMemory>
         ensures { IfOk result (λ mesh. mesh ≡ grid_start image.now params.now) }
     {
         let count = count_nodes(image);
+        let code = Arc::new(alloc, image.code().copy()?)?;
         Ok(Mesh {
             image: image.copy()?,
             params: *params,
-            nodes: nodes_start(alloc, image, params, count)?,
+            nodes: nodes_start(alloc, image, params, &code, count)?,
             links: Links::start(alloc, u32::from(count))?,
             remains: Remains::start(image),
         })

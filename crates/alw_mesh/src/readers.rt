@@ -5,6 +5,7 @@ ghost use Rattle.alw_num.specs.Maps.{value_at};
 ghost use Rattle.alw_num.specs.declared.addresses.Width.TheVariants.{Word};
 ghost use Rattle.alw_image.specs.Images.{node_count, line_count, context_count};
 ghost use Rattle.alw_ctx.specs.Residents.{number_of};
+ghost use Rattle.alw_model.specs.Messages.{home_node};
 ghost use Rattle.alw_model.specs.Machine.{is_settled, link_at};
 ghost use Rattle.alw_model.specs.Contexts.{all_halted};
 ghost use Rattle.alw_model.specs.Lines.{entry_of, current_value};
@@ -24,6 +25,7 @@ use alw_msg::{Journal, Msg, Sends, Status};
 use alw_node::HomeView;
 use alw_num::{Line, LineNo, Mode, NodeNo, SHARED_BASE, Width, lane};
 use sparc_table::Regs;
+use std::collections::LinkedList;
 
 impl Machine {
     /// The image that the machine was started from.
@@ -161,6 +163,15 @@ impl Machine {
         lane(&value, addr % 16, Width::Word)
     }
 
+    /// The node of a line's home.
+    pub fn home_of(&self, line: LineNo) -> NodeNo
+        requires { line.0 < line_count self.now.image }
+        ensures home { result.0 ≡ home_node self.now.image line.0 }
+        ensures exists { result.0 < node_count self.now.image }
+    {
+        self.mesh.home_of(line)
+    }
+
     /// A line's entry at its home.
     pub fn home(&self, line: LineNo) -> HomeView
         requires { line.0 < line_count self.now.image }
@@ -218,6 +229,24 @@ impl Machine {
         ensures { result ≡ slice_get (node_in self.now n.0).packets i }
     {
         self.mesh.node(n).packet(i)
+    }
+
+    /// The number of packets in a node's queue: at most one for each home line.
+    pub fn packets(&self, n: NodeNo) -> u32
+        requires { n.0 < node_count self.now.image }
+        ensures count { result ≡ length (node_in self.now n.0).packets }
+        ensures most { result ≤ 4096 }
+    {
+        self.mesh.node(n).packets()
+    }
+
+    /// The messages on the link of two nodes, its head first.
+    pub fn link(&self, from: NodeNo, to: NodeNo) -> &LinkedList<Msg>
+        requires from { from.0 < node_count self.now.image }
+        requires to { to.0 < node_count self.now.image }
+        ensures { result.now ≡ link_at self.now.image (state_of self.now) from.0 to.0 }
+    {
+        self.mesh.link(from, to)
     }
 
     /// The message at a place of the link of two nodes, where 0 is its head. None exactly behind its end.

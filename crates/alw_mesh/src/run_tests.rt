@@ -1,32 +1,22 @@
-use crate::tests::{
-    DONE, HALT, LOAD_AND_STORE, MISSED, ONE_NODE, Row, Sizes, TOOK, TWO_NODES, deliver, evict,
-    further, handle, instr, played, started,
-};
-use crate::{FitErr, MOST_STEPS, Machine, StepErr};
+use crate::plays::{Play, event_of, goes, started};
+use crate::{FitErr, MOST_STEPS, Machine, MachineParts, StepErr};
 use alw_image::{Params, read_image};
-use alw_model::{Counts, Did, Ended, TrapAt};
+use alw_model::{Counts, Ended};
 use alw_msg::{Entry, Event, Msg, Status};
 use alw_node::HomeView;
-use alw_num::{Line, LineNo, Mode, NodeNo, SHARED_BASE};
-use sparc_table::{Outcome, Regs};
+use alw_num::{Line, LineNo, Meta, Mode, NodeNo, SHARED_BASE, State};
+use sparc_table::Regs;
 use std::alloc::Global;
 use std::test::Fail;
 
-// The two at work, with two pointers.
-fn two_at_work(alloc: Global, limit: u32) -> Result<Machine, Fail> {
-    let sizes = Sizes {
-        limit,
-        sets: 4,
-        ..TWO_NODES
-    };
-    started(
-        alloc,
-        sizes,
-        &LOAD_AND_STORE,
-        &[(0, 0, 0x0c), (1, 0, 0)],
-        &[],
-    )
-}
+// Node 1 loads from a line, and node 0 stores to it; the last event isn't enabled.
+const TWO_AT_WORK: Play = Play {
+    sizes: "2 1 1 4 4 100",
+    code: "03100000 d0004000 91d02000 03100000 d2204000 91d02000",
+    starts: "0 0 12, 1 0 0",
+    always: "",
+    rows: "1 I 1, 2 I 1, 3 D 1 0, 4 D 0 1, 5 I 1, 1 I 0, 2 I 0, 4 D 0 0, 5 H 0",
+};
 
 // What is seen of a node of a machine of two nodes with one context and one line each.
 #[derive(Clone, Copy, Debug, PartialEq)]
@@ -118,197 +108,133 @@ fn seen(machine: &Machine) -> Option<MachineSeen> {
     })
 }
 
-// The first event that doesn't happen leaves all as it was, for want of memory or since it isn't enabled.
+// An event happens where it may; or it doesn't, and all is as it was.
+fn is_whole(machine: &mut Machine, event: Event) -> bool {
+    let before = seen(machine);
+    let may = machine.may(event);
+    match machine.step(event) {
+        Ok(_) => may,
+        Err(StepErr::NotEnabled) => !may && seen(machine) == before,
+        Err(StepErr::NoMemory) => may && seen(machine) == before,
+    }
+}
+
+// An event that doesn't happen leaves all as it was, for want of memory or since it isn't enabled.
 #[test]
 fn refused_step(rt: HostRuntime) -> Result<(), Fail> {
-    let mut machine = two_at_work(rt.alloc(), 100)?;
-    let run = [
-        instr(1),
-        instr(1),
-        deliver(1, 0),
-        deliver(0, 1),
-        instr(1),
-        instr(0),
-        instr(0),
-        deliver(0, 0),
-        handle(0),
-    ];
-    for event in run {
-        let before = seen(&machine);
-        let may = machine.may(event);
-        match machine.step(event) {
-            Ok(_) => assert!(rt; may),
-            Err(StepErr::NotEnabled) => {
-                assert!(rt; !may && event == handle(0));
-                assert_eq!(rt; seen(&machine), before);
-            }
-            Err(StepErr::NoMemory) => {
-                assert!(rt; may);
-                assert_eq!(rt; seen(&machine), before);
-                return Ok(());
-            }
+    let mut machine = started(rt.alloc(), &TWO_AT_WORK)?;
+    for row in TWO_AT_WORK.rows.split(", ") {
+        let event = event_of(row).ok_or("no event")?;
+        assert!(rt; is_whole(&mut machine, event));
+    }
+    Ok(())
+}
+
+// Three nodes load from the four lines of one home, which have one hardware pointer each.
+const FOUR_LINES: Play = Play {
+    sizes: "3 1 4 1 256 32768",
+    code: "03100000 d0004000 d0006010 d0006020 d0006030 91d02000",
+    starts: "0 0 0, 1 0 0, 2 0 0",
+    always: "",
+    rows: "halted, count entries 58, count turns 18, count misses 12, count RREQ 12, \
+        count RDATA 12, count hops 24, count handlers 4, count spills 4",
+};
+
+// Takes events until an end holds, each by this stride further in the list of those that may be next.
+fn runs(machine: &mut Machine, stride: u32) -> Result<(), Fail> {
+    let mut pick = 0;
+    for _ in 0..100 {
+        let events = machine.events();
+        if machine.ended().is_some() || events == 0 {
+            break;
+        }
+        machine.step(machine.event(pick % events))?;
+        pick = stride.wrapping_add(pick);
+    }
+    Ok(())
+}
+
+// A line has one pointer in hardware and two in software.
+fn is_spilled(machine: &Machine, line: u32) -> bool {
+    if line >= machine.lines() {
+        return false;
+    }
+    let home = machine.home(LineNo(line));
+    let pointers = (home.hw.count(), home.sw.count());
+    home.state == State::RO && home.meta == Meta::TrapWrite && pointers == (1, 2)
+}
+
+// So have the four lines of node 0.
+fn are_spilled(machine: &Machine) -> bool {
+    for line in 0..4 {
+        if !is_spilled(machine, line) {
+            return false;
         }
     }
-    assert_eq!(rt; machine.journal().len(), 8);
-    Ok(())
+    true
 }
 
-// Events of nodes and sets that don't exist may not happen.
+// The lines fill the software table of their home, and no step is refused for it.
+fn fills(machine: &mut Machine, stride: u32) -> Result<bool, Fail> {
+    runs(machine, stride)?;
+    goes(machine, FOUR_LINES.rows)?;
+    Ok(are_spilled(machine))
+}
+
+// In whatever order the events come.
 #[test]
-fn events_of_nothing(rt: HostRuntime) -> Result<(), Fail> {
-    let machine = two_at_work(rt.alloc(), 100)?;
-    for event in [
-        instr(2),
-        handle(65_535),
-        deliver(2, 0),
-        deliver(0, 2),
-        evict(0, 4),
-        evict(2, 0),
-    ] {
-        assert!(rt; !machine.may(event));
+fn full_tables(rt: HostRuntime) -> Result<(), Fail> {
+    for stride in [0, 1, 5, 7] {
+        assert!(rt; fills(&mut started(rt.alloc(), &FOUR_LINES)?, stride)?);
     }
     Ok(())
 }
 
-// The main events of a machine of two nodes, in the schedule's order.
-fn main_events() -> [Event; 8] {
+// An image of 64 nodes.
+fn many_nodes() -> [u8; 40] {
     [
-        instr(0),
-        handle(0),
-        deliver(0, 0),
-        deliver(1, 0),
-        instr(1),
-        handle(1),
-        deliver(0, 1),
-        deliver(1, 1),
+        0x41, 0x4c, 0x45, 0x57, 0, 1, 8, 8, 1, 0, 0, 1, 0, 0, 0, 1, 0, 0, 0, 0, 0, 0, 0, 1, 0, 0,
+        0, 0, 0x91, 0xd0, 0x20, 0, 0, 0, 0, 0, 0, 0, 0, 0,
     ]
 }
 
-// The events that may be next are those of the list that may, in its order.
-fn events_fit(machine: &Machine) -> bool {
-    let mut k = 0;
-    for event in main_events() {
-        if machine.may(event) {
-            if k >= machine.events() || machine.event(k) != event {
-                return false;
-            }
-            k += 1;
-        }
-    }
-    k == machine.events()
-}
-
-// After each event the events that may be next are those that may, up to the halt.
-#[test]
-fn next_events(rt: HostRuntime) -> Result<(), Fail> {
-    let mut machine = two_at_work(rt.alloc(), 100)?;
-    for k in 0..100 {
-        assert!(rt; events_fit(&machine));
-        if machine.ended().is_none() && machine.events() > 0 {
-            machine.step(machine.event(k * 7 % machine.events()))?;
-        }
-    }
-    assert!(rt; machine.journal().len() > 10 && machine.journal().len() < 100);
-    assert_eq!(rt; machine.ended(), Some(Ended::Halted));
-    Ok(())
-}
-
-// A run that comes to its limit names the first main event beyond it.
-#[test]
-fn limit_is_an_end(rt: HostRuntime) -> Result<(), Fail> {
-    let sizes = Sizes {
-        limit: 2,
-        ..ONE_NODE
-    };
-    let run = [(1, instr(0), DONE)];
-    let spins = played(rt.alloc(), sizes, &[0x3080_0000], &[(0, 0, 0)], &[], &run)?;
-    assert_eq!(rt; spins.ended(), None);
-    let last = further(spins, &[(2, instr(0), DONE)])?;
-    assert_eq!(rt; last.ended(), Some(Ended::Limit(instr(0))));
-    Ok(())
-}
-
-// A trap ends a run, with its place, its context's PC and its type.
-#[test]
-fn trap_is_an_end(rt: HostRuntime) -> Result<(), Fail> {
-    let code = [0x0310_0000, 0xd000_6002];
-    let trap = Did::Turn {
-        slot: 0,
-        outcome: Outcome::Trap { tt: 7 },
-    };
-    let run = [(1, instr(0), DONE), (2, instr(0), trap)];
-    let traps = played(rt.alloc(), ONE_NODE, &code, &[(0, 0, 0)], &[], &run)?;
-    let at = TrapAt {
-        entry: 1,
-        node: 0,
-        slot: 0,
-        pc: 4,
-        tt: 7,
-    };
-    assert_eq!(rt; traps.ended(), Some(Ended::Trapped(at)));
-    Ok(())
-}
-
-fn up_to_six() -> [Row; 8] {
-    [
-        (1, instr(0), DONE),
-        (2, instr(0), MISSED),
-        (3, deliver(0, 0), TOOK),
-        (4, deliver(0, 0), TOOK),
-        (5, instr(0), DONE),
-        (1, instr(1), DONE),
-        (2, instr(1), MISSED),
-        (6, instr(0), HALT),
-    ]
-}
-
-// While a context is live the limit keeps deliveries back too.
-#[test]
-fn limit_keeps_deliveries(rt: HostRuntime) -> Result<(), Fail> {
-    let leaves = further(two_at_work(rt.alloc(), 6)?, &up_to_six())?;
-    assert!(rt; !leaves.may(deliver(1, 0)));
-    assert_eq!(rt; leaves.ended(), Some(Ended::Limit(deliver(1, 0))));
-    Ok(())
+// What a machine of it answers at its start, with this limit: nothing where it starts.
+fn refusal(alloc: Global, limit: u32) -> Result<Option<FitErr>, Fail> {
+    let image = read_image(alloc, &many_nodes())?;
+    let params = Params::new(4, 4, limit, 0).ok_or("no parameters")?;
+    Ok(Machine::start(alloc, &image, &params).err())
 }
 
 // 64 nodes have room for a limit of 131,072, and not of one more.
 #[test]
 fn most_steps(rt: HostRuntime) -> Result<(), Fail> {
-    let bytes = [
-        0x41, 0x4c, 0x45, 0x57, 0, 1, 8, 8, 1, 0, 0, 1, 0, 0, 0, 1, 0, 0, 0, 0, 0, 0, 0, 1, 0, 0,
-        0, 0, 0x91, 0xd0, 0x20, 0, 0, 0, 0, 0, 0, 0, 0, 0,
-    ];
-    let image = read_image(rt.alloc(), &bytes)?;
-    let fits = Params::new(4, 4, 131_072, 0).ok_or("no parameters")?;
-    let machine = Machine::start(rt.alloc(), &image, &fits)?;
-    assert_eq!(rt; machine.events(), 1);
-    let beyond = Params::new(4, 4, 131_073, 0).ok_or("no parameters")?;
-    let refusal = FitErr::DoesNotFit {
+    let beyond = FitErr::DoesNotFit {
         number: 8_388_672,
         most: MOST_STEPS,
     };
-    match Machine::start(rt.alloc(), &image, &beyond) {
-        Ok(_) => assert!(rt; false),
-        Err(why) => assert_eq!(rt; why, refusal),
-    }
+    assert!(rt; refusal(rt.alloc(), 131_072)?.is_none());
+    assert!(rt; refusal(rt.alloc(), 131_073)? == Some(beyond));
     Ok(())
+}
+
+// One node that halts at once.
+const HALTS: Play = Play {
+    sizes: "1 1 1 4 256 32768",
+    code: "91d02000",
+    starts: "0 0 0",
+    ..TWO_AT_WORK
+};
+
+// These are the parts of a machine that hasn't begun.
+fn are_begun(parts: &MachineParts) -> bool {
+    let given = parts.image.width() == 1 && parts.params.limit() == 32_768;
+    given && parts.journal.is_empty() && parts.turns.is_empty() && parts.prints.is_empty()
 }
 
 // A machine's parts are what it was started from and what happened.
 #[test]
 fn parts(rt: HostRuntime) -> Result<(), Fail> {
-    let run = [(1, instr(0), HALT)];
-    let machine = played(
-        rt.alloc(),
-        ONE_NODE,
-        &[0x91d0_2000],
-        &[(0, 0, 0)],
-        &[],
-        &run,
-    )?;
-    let parts = machine.into_parts();
-    assert_eq!(rt; (parts.image.width(), parts.params.limit()), (1, 32_768));
-    assert_eq!(rt; (parts.journal.len(), parts.prints.len()), (1, 0));
-    assert_eq!(rt; parts.turns.words(), [0].as_slice());
+    let parts = started(rt.alloc(), &HALTS)?.into_parts();
+    assert!(rt; are_begun(&parts));
     Ok(())
 }

@@ -1,12 +1,13 @@
 ghost use Rattle.std.specs.Prelude.{◌≡◌, ◌<◌, ◌≤◌, ◌&&◌, true, length, nat_le, map, option_copied, IfOk};
 ghost use Rattle.std.specs.List.{range_with_len};
+ghost use Rattle.std.specs.Arc.{arc_value};
 ghost use Rattle.alw_image.specs.Images.{IsImage, node_count};
 ghost use Rattle.alw_model.specs.NodeStates.{stamp_of};
 ghost use Rattle.alw_model.specs.Counts.{is_turn};
 ghost use Rattle.alw_node.specs.Nodes.{whole_start, IsGiven};
 ghost use Rattle.alw_mesh.specs.Keeping.{taken_from, after_taking, IsWithin, HasTrapPc, whole_in, may_act, Acts};
 
-use alw_image::{Image, Params};
+use alw_image::{Code, Image, Params};
 use alw_links::Links;
 use alw_model::Did;
 use alw_msg::{Event, Msg, Sends, Status};
@@ -15,6 +16,7 @@ use alw_num::{NoMemory, NodeNo};
 use alw_tally::Happened;
 use sparc_table::Outcome;
 use std::alloc::Global;
+use std::sync::Arc;
 
 /// The number of nodes of an image.
 pub fn count_nodes(image: &Image) -> u16
@@ -25,19 +27,21 @@ pub fn count_nodes(image: &Image) -> u16
     u16::from(parts.width) * u16::from(parts.height)
 }
 
-/// All nodes of an image at the start.
+/// All nodes of an image at the start, with one code.
 pub fn nodes_start(
     alloc: Global,
     image: &Image,
     params: &Params,
+    code: &Arc<Code, Global>,
     count: u16,
 ) -> Result<Vec<Node>, NoMemory>
-    requires { count ≡ node_count image.now }
+    requires code { arc_value code.now ≡ image.now.code }
+    requires count { count ≡ node_count image.now }
     ensures { IfOk result (λ nodes. nodes.items ≡ map (whole_start image.now params.now) (range_with_len 0 count)) }
 {
     let mut nodes = Vec::with_capacity(alloc, usize::from(count))?;
     for n in 0..count {
-        nodes.push_reserved(Node::start(alloc, image, params, NodeNo(n))?);
+        nodes.push_reserved(Node::start_shared(alloc, image, params, NodeNo(n), code)?);
     }
     Ok(nodes)
 }

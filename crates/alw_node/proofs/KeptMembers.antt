@@ -1,12 +1,10 @@
--- A list is cut down member by member, and what a node reads of an image it finds in its share.
-use Rattle.std.proofs.Common.{◌≡◌, ℕ, zero, suc, ◌+◌, ◌-◌, ◌*◌, ◌/◌, ◌^◌, ◌<◌, Bool, true, false, cond, ◌&&◌, ◌==◌, nat_lt, Option, Some, None, List, [], ◌∷◌, ◌++◌, map, find, filter, take, length, get_or, ◌≤◌, slice_get, refl, sym, ap, subst, ◌∙◌, arith}
+-- What a node reads of an image it finds in its share, which is no longer than the image.
+use Rattle.std.proofs.Common.{◌≡◌, ℕ, zero, suc, ◌+◌, ◌-◌, ◌*◌, ◌/◌, ◌^◌, ◌<◌, Bool, true, false, cond, ◌&&◌, ◌==◌, nat_lt, Option, Some, None, List, [], ◌∷◌, map, find, filter, length, ◌≤◌, refl, sym, ap, subst, ◌∙◌, arith}
 use Rattle.std.specs.List.{list_any, range_with_len}
 use Rattle.std.specs.Option.{option_map}
 use Rattle.std.proofs.lemmas.Bool.{true≢false, eq-eqb, ne_eqb}
-use Rattle.std.proofs.lemmas.List.{append-nil}
-use Rattle.std.proofs.lemmas.List.Elements.{filter_more}
+use Rattle.std.proofs.lemmas.List.Sums.{length-filter, count_by-le-length}
 use Rattle.std.proofs.lemmas.Nat.{div-mul-add}
-use Rattle.std.proofs.lemmas.Option.{same_Some, slice_get-get_or}
 use Rattle.alw_num.specs.declared.addresses.Line.{Line}
 use Rattle.alw_num.specs.declared.addresses.LineNo.{LineNo}
 use Rattle.alw_num.specs.declared.addresses.NodeNo.{NodeNo}
@@ -27,33 +25,11 @@ use Rattle.alw_model.specs.NodeSteps.{deliver_by, event_at, clocked, node_step}
 use Rattle.alw_image.specs.Nodes.{is_line_of, is_body_of, is_start_of}
 use Rattle.alw_node.specs.Shares.{share_of}
 
--- ---- the loops
+-- ---- how many
 
--- one member more
-pub kept_more : {X : Type 0} (p : X → Bool) (xs : List X) (i : ℕ) (x : X) → i < length xs → slice_get xs i ≡ Some x → filter p (take (i + 1) xs) ≡ filter p (take i xs) ++ cond (p x) (x ∷ []) []
-kept_more p xs i x l e = filter_more p xs i x l ∙ ap (λ y. filter p (take i xs) ++ cond (p y) (y ∷ []) []) (same_Some (get_or xs i x) x (sym (slice_get-get_or xs i x l) ∙ e))
-
--- a member that passes is kept
-pub keeps : {X : Type 0} (p : X → Bool) (xs so_far kept : List X) (i : ℕ) (x : X) → i < length xs → slice_get xs i ≡ Some x → so_far ≡ filter p (take i xs) → p x ≡ true → kept ≡ so_far ++ x ∷ [] → kept ≡ filter p (take (i + 1) xs)
-keeps p xs so_far kept i x l e is passes more = more ∙ (ap (λ ys. ys ++ x ∷ []) is ∙ sym (kept_more p xs i x l e ∙ ap (λ b. filter p (take i xs) ++ cond b (x ∷ []) []) passes))
-
--- and one that doesn't isn't
-pub leaves : {X : Type 0} (p : X → Bool) (xs so_far : List X) (i : ℕ) (x : X) → i < length xs → slice_get xs i ≡ Some x → so_far ≡ filter p (take i xs) → p x ≡ false → so_far ≡ filter p (take (i + 1) xs)
-leaves p xs so_far i x l e is fails = is ∙ sym (kept_more p xs i x l e ∙ (ap (λ b. filter p (take i xs) ++ cond b (x ∷ []) []) fails ∙ append-nil (filter p (take i xs))))
-
--- so far no more are kept than were looked at
-few_kept : {X : Type 0} (p : X → Bool) (xs : List X) (i : ℕ) → length (filter p (take i xs)) ≤ i
-few_kept p [] zero = omega arith
-few_kept p [] (suc i) = omega arith
-few_kept p (x ∷ xs) zero = omega arith
-few_kept {X = X} p (x ∷ xs) (suc i) = by (p x) (filter p (take i xs)) (few_kept p xs i)
-  where
-    by : (b : Bool) (kept : List X) → length kept ≤ i → length (cond b (x ∷ kept) kept) ≤ suc i
-    by true kept few = omega (arith, few)
-    by false kept few = omega (arith, few)
-
-pub room_kept : {X : Type 0} (p : X → Bool) (xs kept : List X) (i count : ℕ) → kept ≡ filter p (take i xs) → i < count → count < 2 ^ 32 → length kept < 4294967295
-room_kept p xs kept i count is l fits = omega (arith, ap length is, few_kept p xs i, l, fits)
+-- no more are kept than there are
+pub few_kept : {X : Type 0} (p : X → Bool) (xs : List X) → length (filter p xs) ≤ length xs
+few_kept p xs = omega (arith, length-filter p xs, count_by-le-length p xs)
 
 -- ---- what is read
 

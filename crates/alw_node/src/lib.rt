@@ -8,6 +8,7 @@ mod shares;
 pub use alw_memory::HomeView;
 pub use laws::shares_are_enough;
 pub use nodes::Node;
+pub use shares::Share;
 
 #[cfg(test)]
 mod tests;

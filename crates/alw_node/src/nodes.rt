@@ -1,5 +1,6 @@
 ghost use Rattle.std.specs.Prelude.{◌≡◌, ◌≤◌, ◌<◌, true, is_some, length, slice_get, option_copied, IfOk};
 ghost use Rattle.std.specs.Option.{option_map};
+ghost use Rattle.std.specs.Arc.{arc_value};
 ghost use Rattle.alw_num.specs.Maps.{value_at};
 ghost use Rattle.alw_num.specs.Weights.{digit, weigh};
 ghost use Rattle.alw_image.specs.Images.{node_count};
@@ -14,8 +15,8 @@ ghost use Rattle.alw_proc.specs.Processors.{mode_of, cached_of};
 ghost use Rattle.alw_memory.specs.Views.{IsViewOf};
 ghost use Rattle.alw_node.specs.Nodes.{whole_start, may_take_from, Steps, FitsStamp, IsGiven, IsNode};
 
-use crate::shares::share_of;
-use alw_image::{Image, Params, Parts};
+use crate::shares::Share;
+use alw_image::{Code, Image, Params};
 use alw_memory::{HomeView, Memory};
 use alw_model::Did;
 use alw_msg::{Event, Msg, Sends, Status};
@@ -24,12 +25,13 @@ use alw_proc::Proc;
 use sparc_table::Regs;
 use std::alloc::Global;
 use std::marker::Model;
+use std::sync::Arc;
 
 /// A node of the machine: its share of the image, its contexts and cache, its home lines, and its
 /// clock (Lamport 1978).
 #[derive(Debug, Drop)]
 pub struct Node {
-    share: Parts,
+    share: Share,
     params: Params,
     proc: Proc,
     memory: Memory,
@@ -47,7 +49,8 @@ impl Model for Node {
 }
 
 impl Node {
-    /// A node at the start of an image. It takes all memory that the node ever needs.
+    /// A node at the start of an image. It takes all memory that the node ever needs, and keeps a
+    /// code of its own.
     pub fn start(
         alloc: Global,
         image: &Image,
@@ -57,8 +60,25 @@ impl Node {
         requires { node.0 < node_count image.now }
         ensures { IfOk result (λ n. n ≡ whole_start image.now params.now node.0) }
     {
+        let code = Arc::new(alloc, image.code().copy()?)?;
+        Node::start_shared(alloc, image, params, node, &code)
+    }
+
+    /// A node at the start of an image, which shares the code with whoever else has it. It takes all
+    /// other memory that the node ever needs.
+    pub fn start_shared(
+        alloc: Global,
+        image: &Image,
+        params: &Params,
+        node: NodeNo,
+        code: &Arc<Code, Global>,
+    ) -> Result<Node, NoMemory>
+        requires node { node.0 < node_count image.now }
+        requires code { arc_value code.now ≡ image.now.code }
+        ensures { IfOk result (λ n. n ≡ whole_start image.now params.now node.0) }
+    {
         Ok(Node {
-            share: share_of(alloc, image, node)?,
+            share: Share::of(alloc, image, node, code)?,
             params: *params,
             proc: Proc::start(alloc, image, params, node)?,
             memory: Memory::start(alloc, image, params, node)?,
@@ -98,7 +118,7 @@ impl Node {
         sent.begin(self.proc.number(), stamp);
         self.clock = stamp;
         match event {
-            Event::Instr { .. } => self.proc.instr(self.share.code.words(), sent),
+            Event::Instr { .. } => self.proc.instr(self.share.code().words(), sent),
             Event::Handle { .. } => self.memory.handle(sent),
             Event::Evict { set, .. } => self.proc.evict(set, sent),
             Event::Deliver { .. } => {
@@ -125,7 +145,7 @@ impl Node {
 
     /// The node's share of the image: its sizes and code, the starts of the node's contexts, and the
     /// first bytes and Trap-Always marks of its home lines.
-    pub fn share(&self) -> &Parts
+    pub fn share(&self) -> &Share
         ensures { result.now ≡ self.now.parts }
     {
         &self.share

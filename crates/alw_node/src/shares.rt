@@ -1,81 +1,126 @@
-ghost use Rattle.std.specs.Prelude.{◌≡◌, ◌<◌, ◌≤◌, IfOk, filter};
+ghost use Rattle.std.specs.Prelude.{◌≡◌, ◌<◌, ◌≤◌, length, IfOk};
+ghost use Rattle.std.specs.Arc.{arc_value};
 ghost use Rattle.alw_image.specs.Images.{node_count};
-ghost use Rattle.alw_image.specs.Nodes.{is_body_of, is_start_of, is_line_of};
 ghost use Rattle.alw_node.specs.Shares.{share_of};
 
-use alw_image::{Bodies, Image, LineList, Parts, Starts};
-use alw_num::{NoMemory, NodeNo};
+use alw_image::{Bodies, Code, Image, LineList, Starts};
+use alw_num::{NoMemory, NodeNo, Sequence};
 use std::alloc::Global;
+use std::marker::Model;
+use std::sync::Arc;
 
 /// What a node keeps of an image: its sizes and its code, where the node's contexts start, and the
-/// first bytes and the Trap-Always marks of the node's home lines.
-pub fn share_of(alloc: Global, image: &Image, node: NodeNo) -> Result<Parts, NoMemory>
-    requires { node.0 < node_count image.now }
-    ensures { IfOk result (λ parts. parts ≡ share_of image.now node.0) }
-{
-    let parts = image.parts();
-    Ok(Parts {
-        width: parts.width,
-        height: parts.height,
-        contexts: parts.contexts,
-        per_node: parts.per_node,
-        code: parts.code.copy()?,
-        bodies: bodies_of(alloc, &parts.bodies, node, parts.per_node)?,
-        starts: starts_of(alloc, &parts.starts, node)?,
-        always: lines_of(alloc, &parts.always, node, parts.per_node)?,
-    })
-}
-
-// The data lines whose home is this node.
-fn bodies_of(
-    alloc: Global,
-    bodies: &Bodies,
-    node: NodeNo,
+/// first bytes and the Trap-Always marks of the node's home lines. The nodes of a machine share one
+/// code. Contracts see the share as an image's parts.
+#[derive(Debug, Drop)]
+pub struct Share {
+    width: u8,
+    height: u8,
+    contexts: u8,
     per_node: u16,
-) -> Result<Bodies, NoMemory>
-    requires { 1 ≤ per_node }
-    ensures { IfOk result (λ kept. kept ≡ filter (is_body_of per_node node.0) bodies.now) }
-{
-    let mut kept = Bodies::empty(alloc);
-    for i in 0..bodies.len() {
-        let body = bodies.at(i);
-        if body.0.0 / u32::from(per_node) == u32::from(node.0) {
-            kept.push(body)?;
-        }
-    }
-    Ok(kept)
+    code: Arc<Code, Global>,
+    bodies: Bodies,
+    starts: Starts,
+    always: LineList,
 }
 
-// The starts of this node's contexts.
-fn starts_of(alloc: Global, starts: &Starts, node: NodeNo) -> Result<Starts, NoMemory>
-    ensures { IfOk result (λ kept. kept ≡ filter (is_start_of node.0) starts.now) }
-{
-    let mut kept = Starts::empty(alloc);
-    for i in 0..starts.len() {
-        let start = starts.at(i);
-        if start.0 == node {
-            kept.push(start)?;
-        }
-    }
-    Ok(kept)
+impl Model for Share {
+    ghost use Rattle.std.specs.Arc.{arc_value};
+    ghost use Rattle.alw_image.specs.declared.parts.Parts.{Parts};
+
+    ghost Value = { Parts };
+
+    ghost view = { λ s. record { width = s.width; height = s.height; contexts = s.contexts; per_node = s.per_node; code = arc_value s.code; bodies = s.bodies; starts = s.starts; always = s.always } };
 }
 
-// The lines whose home is this node.
-fn lines_of(
-    alloc: Global,
-    lines: &LineList,
-    node: NodeNo,
-    per_node: u16,
-) -> Result<LineList, NoMemory>
-    requires { 1 ≤ per_node }
-    ensures { IfOk result (λ kept. kept ≡ filter (is_line_of per_node node.0) lines.now) }
-{
-    let mut kept = LineList::empty(alloc);
-    for i in 0..lines.len() {
-        let line = lines.at(i);
-        if line / u32::from(per_node) == u32::from(node.0) {
-            kept.push(line)?;
-        }
+impl Share {
+    /// The share of a node. It keeps no code of its own, but that of `code`, which is the image's.
+    #[tactic(auto, using(crate::proofs::KeptMembers::few_kept))]
+    pub fn of(
+        alloc: Global,
+        image: &Image,
+        node: NodeNo,
+        code: &Arc<Code, Global>,
+    ) -> Result<Share, NoMemory>
+        requires node { node.0 < node_count image.now }
+        requires code { arc_value code.now ≡ image.now.code }
+        ensures { IfOk result (λ share. share ≡ share_of image.now node.0) }
+    {
+        let parts = image.parts();
+        Ok(Share {
+            width: parts.width,
+            height: parts.height,
+            contexts: parts.contexts,
+            per_node: parts.per_node,
+            code: code.clone()?,
+            bodies: own(alloc, &parts.bodies, image.bodies_of(node))?,
+            starts: own(alloc, &parts.starts, image.starts_of(node))?,
+            always: own(alloc, &parts.always, image.always_of(node))?,
+        })
     }
-    Ok(kept)
+
+    /// Columns of the mesh.
+    pub fn width(&self) -> u8
+        ensures { result ≡ self.now.width }
+    {
+        self.width
+    }
+
+    /// Rows of the mesh.
+    pub fn height(&self) -> u8
+        ensures { result ≡ self.now.height }
+    {
+        self.height
+    }
+
+    /// Contexts of each node.
+    pub fn contexts(&self) -> u8
+        ensures { result ≡ self.now.contexts }
+    {
+        self.contexts
+    }
+
+    /// Lines of shared data that each node is the home of.
+    pub fn per_node(&self) -> u16
+        ensures { result ≡ self.now.per_node }
+    {
+        self.per_node
+    }
+
+    /// The program.
+    pub fn code(&self) -> &Code
+        ensures { result.now ≡ self.now.code }
+    {
+        &self.code
+    }
+
+    /// The data lines of which the node is the home, in order.
+    pub fn bodies(&self) -> &Bodies
+        ensures { result.now ≡ self.now.bodies }
+    {
+        &self.bodies
+    }
+
+    /// Where the node's contexts start, in order.
+    pub fn starts(&self) -> &Starts
+        ensures { result.now ≡ self.now.starts }
+    {
+        &self.starts
+    }
+
+    /// The Trap-Always lines of which the node is the home, in order.
+    pub fn always(&self) -> &LineList
+        ensures { result.now ≡ self.now.always }
+    {
+        &self.always
+    }
+}
+
+// Members of a table, in memory of their own.
+fn own<T: Copy>(alloc: Global, table: &Sequence<T>, members: &[T]) -> Result<Sequence<T>, NoMemory>
+    requires { length members.now ≤ length table.now }
+    ensures { IfOk result (λ kept. kept ≡ members.now) }
+{
+    let _most = table.len();
+    Sequence::from_slice(alloc, members)
 }

@@ -10,6 +10,7 @@ use alw_msg::{Event, Kind, Msg, Sends, Status};
 use alw_num::{Line, LineNo, Meta, Mode, NodeNo, NodeSet, State};
 use sparc_table::Outcome;
 use std::alloc::Global;
+use std::sync::Arc;
 use std::test::Fail;
 
 // Five is stored at the first address of shared data, loaded and printed.
@@ -104,9 +105,10 @@ fn started(
     let image = image_of(alloc, sizes, words, contexts, lines)?.ok_or("no image")?;
     let params = Params::new(4, sets, 100, 0).ok_or("no parameters")?;
     let count = u16::from(image.width()) * u16::from(image.height());
+    let code = Arc::new(alloc, image.code().copy()?)?;
     let mut nodes = Vec::new(alloc);
     for number in 0..count {
-        nodes.push(Node::start(alloc, &image, &params, NodeNo(number))?)?;
+        nodes.push(Node::start_shared(alloc, &image, &params, NodeNo(number), &code)?)?;
     }
     Ok(Mesh {
         nodes,
@@ -135,7 +137,7 @@ fn may(node: &Node, event: Event, head: Option<Msg>) -> bool
     ensures few { result ≡ true → node_count node.now.parts ≤ 2 }
 {
     let share = node.share();
-    if u32::from(share.width) * u32::from(share.height) > 2 {
+    if u32::from(share.width()) * u32::from(share.height()) > 2 {
         return false;
     }
     match head {
@@ -482,5 +484,54 @@ fn sixteen_by_sixteen_nodes_start(rt: HostRuntime) -> Result<(), Fail> {
         assert_eq!(rt; (node.number(), node.clock()), (NodeNo(255), 0));
         assert_eq!(rt; node.status(node.last()), Status::Ready);
     }
+    Ok(())
+}
+
+// A line of ones.
+const ONES: Line = Line {
+    a: 1,
+    b: 1,
+    c: 1,
+    d: 1,
+};
+
+// Two nodes of two contexts and four lines each, with data, starts and Trap-Always lines at both.
+fn two_nodes(alloc: Global) -> Result<Option<Image>, Fail> {
+    let bodies = [(LineNo(0), ONES), (LineNo(3), ONES), (LineNo(4), ONES)];
+    let starts = [(NodeNo(0), 1, 0), (NodeNo(1), 0, 4), (NodeNo(1), 1, 8)];
+    Ok(Image::from_parts(Parts {
+        width: 2,
+        height: 1,
+        contexts: 2,
+        per_node: 4,
+        code: Code::from_slice(alloc, &LOAD_AND_STORE)?,
+        bodies: Bodies::from_slice(alloc, &bodies)?,
+        starts: Starts::from_slice(alloc, &starts)?,
+        always: LineList::from_slice(alloc, &[3, 4, 7])?,
+    }))
+}
+
+// Node 1 of them.
+fn second_node(alloc: Global) -> Result<Node, Fail> {
+    let image = two_nodes(alloc)?.ok_or("no image")?;
+    let params = Params::new(4, 16, 100, 0).ok_or("no parameters")?;
+    if image.width() < 2 || image.height() < 1 {
+        return Err("no second node".into());
+    }
+    Ok(Node::start(alloc, &image, &params, NodeNo(1))?)
+}
+
+// It has its own lines and contexts, and all code.
+#[test]
+fn a_share_is_what_the_node_reads(rt: HostRuntime) -> Result<(), Fail> {
+    let node = second_node(rt.alloc())?;
+    let share = node.share();
+    let sizes = (share.width(), share.height(), share.contexts());
+    assert_eq!(rt; (sizes, share.per_node()), ((2, 1, 2), 4));
+    assert_eq!(rt; share.code().words(), LOAD_AND_STORE.as_slice());
+    assert_eq!(rt; share.bodies().members(), [(LineNo(4), ONES)].as_slice());
+    let starts = [(NodeNo(1), 0, 4), (NodeNo(1), 1, 8)];
+    assert_eq!(rt; share.starts().members(), starts.as_slice());
+    assert_eq!(rt; share.always().members(), [4, 7].as_slice());
     Ok(())
 }

@@ -11,8 +11,8 @@ pub const END: u32 = 0xffff_ffff;
 #[derive(Clone, Copy, Debug, PartialEq, Eq)]
 pub struct Place {
     pub line: u32,
-    pub nodes: NodeSet,
     pub next: u32,
+    pub nodes: NodeSet,
 }
 
 /// A place on a chain, and the one before it, if it isn't the first.
@@ -73,8 +73,8 @@ pub fn link(
 {
     places[at as usize] = Place {
         line,
-        nodes,
         next: heads[chain],
+        nodes,
     };
     heads[chain] = at;
 }

@@ -48,8 +48,8 @@ impl SoftDir {
         for k in 0..lines {
             places.push_reserved(Place {
                 line: 0,
-                nodes,
                 next: first,
+                nodes,
             });
             first = k;
         }

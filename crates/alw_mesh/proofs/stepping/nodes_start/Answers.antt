@@ -13,6 +13,6 @@ pub loop-n-preserved : goal.loop-n-preserved
 loop-n-preserved c =
     let f = whole_start c.args.image.now c.args.params.now in
     record {
-      nodes = c.push_reserved.ensures.items ∙ (rw (c.loop-n.invariant.nodes, c.in_ok-start.ensures) (sym (map-range_with_len_more f 0 c.loop-n.n c.loop-n.n (omega arith))));
+      nodes = c.push_reserved.ensures.items ∙ (rw (c.loop-n.invariant.nodes, c.in_ok-start_shared.ensures) (sym (map-range_with_len_more f 0 c.loop-n.n c.loop-n.n (omega arith))));
       room = omega (arith, c.push_reserved.ensures.capacity, c.loop-n.invariant.room);
     }

@@ -2,7 +2,7 @@
 use Rattle.std.proofs.Common.{ap, ◌∙◌}
 use Rattle.alw_model.specs.Machine.{MachineState}
 use Rattle.alw_model.specs.Lines.{current_value}
-use Rattle.alw_mesh.proofs.Reading.{senders_here, one_here, shared_here, value_here}
+use Rattle.alw_mesh.proofs.Reading.{senders_here, one_here, shared_here, owned_here, value_here}
 use Rattle.alw_mesh.proofs.machines.Machine.value.Goals as goal
 
 pub value-requires-clause-senders : goal.value-requires-clause-senders
@@ -13,6 +13,9 @@ value-requires-clause-one c = one_here c.self.invariant c.args.line.0 (rw (← c
 
 pub value-requires-clause-shared : goal.value-requires-clause-shared
 value-requires-clause-shared c = shared_here c.self.invariant c.args.line.0 (rw (← c.self.view_is) at c.requires)
+
+pub value-requires-clause-owned : goal.value-requires-clause-owned
+value-requires-clause-owned c = owned_here c.self.invariant c.args.line.0 (rw (← c.self.view_is) at c.requires)
 
 pub returns-clause-value : goal.returns-clause-value
 returns-clause-value c =
