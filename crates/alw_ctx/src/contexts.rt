@@ -1,4 +1,4 @@
-ghost use Rattle.std.specs.Prelude.{◌≡◌, ◌↔◌, ◌<◌, ◌≤◌, length, is_some};
+ghost use Rattle.std.specs.Prelude.{◌≡◌, ◌↔◌, ◌<◌, ◌≤◌, ◌*◌, ◌%◌, length, is_some};
 ghost use Rattle.std.specs.Option.{option_map};
 ghost use Rattle.alw_num.specs.Weights.{digit, weigh};
 ghost use Rattle.alw_num.specs.declared.addresses.LineNo.{LineNo};
@@ -67,7 +67,7 @@ impl Contexts {
         ensures { result ≡ running self.now.slots self.now.current }
     {
         for k in 0..self.count {
-            let slot = (self.current + k) % self.count;
+            let slot = wrapped(self.current + k, self.count);
             if self.places[slot as usize].is_ready() {
                 return Some(slot);
             }
@@ -192,5 +192,17 @@ impl Contexts {
             third.woken(line),
             fourth.woken(line),
         ];
+    }
+}
+
+// A number modulo a count, where it is below twice the count.
+fn wrapped(number: u8, count: u8) -> u8
+    requires { number < 2 * count }
+    ensures { result ≡ number % count }
+{
+    if number < count {
+        number
+    } else {
+        number - count
     }
 }
