@@ -1,2 +1,3 @@
 pub mod Looks
 pub mod PlaceMaps
+pub mod Seen

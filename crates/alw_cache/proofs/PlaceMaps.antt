@@ -1,6 +1,6 @@
 -- What the map of places holds, and what a change of one place does to it.
-use Rattle.std.proofs.Common.{◌≡◌, ℕ, zero, suc, ◌+◌, ◌-◌, ◌<◌, ◌≤◌, ◌%◌, Bool, true, false, cond, ◌==◌, Option, Some, None, is_some, IsTrue, List, [], ◌∷◌, length, replicate, slice_set, slice_index_or, refl, sym, ap, ◌∙◌, subst, ◌⊎◌, inl, inr, arith}
-use Rattle.std.proofs.lemmas.Bool.{cases_lt}
+use Rattle.std.proofs.Common.{◌≡◌, ◌≢◌, ℕ, zero, suc, ◌+◌, ◌-◌, ◌<◌, ◌≤◌, ◌%◌, Bool, true, false, cond, ◌==◌, Option, Some, None, is_some, IsTrue, List, [], ◌∷◌, length, replicate, slice_set, slice_index_or, refl, sym, ap, ◌∙◌, subst, ◌⊎◌, inl, inr, arith}
+use Rattle.std.proofs.lemmas.Bool.{cases_lt, eq-eqb}
 use Rattle.std.proofs.lemmas.List.{get_or_read, get_or-replicate, length-replicate}
 use Rattle.std.proofs.Math.ListN.{get_or-eq_default}
 use Rattle.std.proofs.lemmas.Bool.Decides.{nat_tests}
@@ -8,12 +8,12 @@ use Rattle.std.specs.Option.{option_map}
 use Rattle.alw_num.specs.declared.addresses.Line.{Line}
 use Rattle.alw_num.specs.declared.states.Mode.{Mode}
 use Rattle.alw_num.specs.declared.states.Mode.TheVariants.{Read, Write}
-use Rattle.alw_num.specs.Maps.{kept_if, empty_map, value_at, with_value, without_value}
+use Rattle.alw_num.specs.Maps.{kept_if, empty_map, value_at, with_value, without_value, passes_if_some}
 use Rattle.alw_num.proofs.MapLaws.{value-empty, value-with, value-without, same_maps}
 use Rattle.alw_model.specs.Caches.{Copy, Cache, set_of, grants, granted_copy, invalidate}
 use Rattle.alw_cache.specs.declared.places.Place.{Place}
 use Rattle.alw_cache.specs.declared.places.Evicted.{Evicted}
-use Rattle.alw_cache.specs.Places.{Copies, copy_of, evicted_of, held_at, with_place, map_from, no_place, place_at}
+use Rattle.alw_cache.specs.Places.{Copies, copy_of, evicted_of, held_at, with_place, map_from, no_place, place_at, belongs_in, AreInSets, ArePlaced}
 
 abbrev place_of : ℕ → Option Mode → Line → Place
 place_of line mode body = record { line = line; mode = mode; body = body }
@@ -46,6 +46,20 @@ value_from (place ∷ rest) set (suc k) at e =
 -- at a set the map has what its place holds
 pub value_of : (places : List Place) (set : ℕ) → value_at (map_from 0 places) set ≡ held_at (place_at places set)
 value_of places set = value_from places 0 set set (omega arith)
+
+some_is_not : (mode : Mode) → Some mode ≡ None → ⊥
+some_is_not mode e = cc
+
+-- each copy belongs in the set of its place
+pub are_placed : (sets : ℕ) (places : List Place) → AreInSets sets places → ArePlaced (copies_of sets (map_from 0 places))
+are_placed sets places stand set = subst (λ (o : Option Copy). IsTrue (passes_if_some (belongs_in sets set) o)) (sym (value_of places set)) (go (place_at places set) (stand set))
+  where
+    go : (place : Place) → (place.mode ≢ None → place.line % sets ≡ set) → IsTrue (passes_if_some (belongs_in sets set) (held_at place))
+    go place here = by place.mode refl
+      where
+        by : (o : Option Mode) → place.mode ≡ o → IsTrue (passes_if_some (belongs_in sets set) (held_at place))
+        by None e = rw e refl
+        by (Some mode) e = let same : place.line % sets ≡ set = here (λ none. absurd (some_is_not mode (sym e ∙ none))) in rw (e, same) (eq-eqb set set refl)
 
 -- ---- a place changes
 

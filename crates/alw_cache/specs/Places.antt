@@ -1,11 +1,11 @@
 -- The places of a direct-mapped cache, one for each set, as a map from sets to copies.
-use Rattle.std.specs.Prelude.{◌≡◌, ◌≢◌, ℕ, ◌+◌, ◌%◌, Option, Some, None, List, [], ◌∷◌, slice_index_or}
+use Rattle.std.specs.Prelude.{◌≡◌, ◌≢◌, ℕ, ◌+◌, ◌%◌, Bool, ◌==◌, Option, Some, None, List, [], ◌∷◌, slice_index_or, IsTrue}
 use Rattle.std.specs.Option.{option_map}
 use Rattle.alw_num.specs.declared.addresses.Line.{Line}
 use Rattle.alw_num.specs.declared.addresses.LineNo.{LineNo}
 use Rattle.alw_num.specs.declared.states.Mode.{Mode}
-use Rattle.alw_num.specs.Maps.{empty_map, with_value}
-use Rattle.alw_model.specs.Caches.{Copy, Cache}
+use Rattle.alw_num.specs.Maps.{empty_map, value_at, with_value, passes_if_some}
+use Rattle.alw_model.specs.Caches.{Copy, Cache, set_of, copy_at}
 use Rattle.alw_cache.specs.declared.places.Place.{Place}
 use Rattle.alw_cache.specs.declared.places.Evicted.{Evicted}
 
@@ -25,6 +25,10 @@ evicted_of copy = record { line = record { 0 = copy.line }; mode = copy.mode; bo
 -- what a caller is told of a copy that it looks up
 abbrev pub seen_of : Copy → Mode × Line
 seen_of copy = (copy.mode, copy.body)
+
+-- what a caller is told of a line: the mode and the bytes of its copy
+abbrev pub seen_in : Copies → ℕ → Option (Mode × Line)
+seen_in c line = option_map seen_of (copy_at c.sets c.copies line)
 
 -- the number of a copy's line
 abbrev pub line_of : Copy → LineNo
@@ -54,3 +58,11 @@ place_at places set = slice_index_or places set no_place
 -- each copy stands in the set of its line
 abbrev pub AreInSets : ℕ → List Place → Type 0
 AreInSets sets places = (set : ℕ) → (place_at places set).mode ≢ None → (place_at places set).line % sets ≡ set
+
+-- a copy belongs in a set
+abbrev pub belongs_in : ℕ → ℕ → Copy → Bool
+belongs_in sets set copy = set_of sets copy.line == set
+
+-- each copy of a cache belongs in the set that holds it
+abbrev pub ArePlaced : Copies → Type 0
+ArePlaced c = (set : ℕ) → IsTrue (passes_if_some (belongs_in c.sets set) (value_at c.copies set))

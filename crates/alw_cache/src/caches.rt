@@ -3,7 +3,7 @@ ghost use Rattle.std.specs.Option.{option_map};
 ghost use Rattle.alw_num.specs.declared.states.Mode.{Mode};
 ghost use Rattle.alw_num.specs.Maps.{empty_map, value_at, with_value};
 ghost use Rattle.alw_model.specs.Caches.{set_of, copy_at, granted_copy, replaced, fill, invalidate};
-ghost use Rattle.alw_cache.specs.Places.{copy_of, evicted_of, seen_of, line_of};
+ghost use Rattle.alw_cache.specs.Places.{copy_of, evicted_of, seen_of, line_of, ArePlaced};
 
 use crate::places::{Evicted, Place};
 use alw_num::{Line, LineNo, Mode, NoMemory};
@@ -43,6 +43,7 @@ impl Cache {
     pub fn sets(&self) -> u32
         ensures sets { result ≡ self.now.sets }
         ensures some { 1 ≤ result }
+        ensures placed { ArePlaced self.now }
     {
         self.sets
     }

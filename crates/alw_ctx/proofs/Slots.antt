@@ -1,14 +1,16 @@
 -- Places as slots: what is read of one, and what a change does.
-use Rattle.std.proofs.Common.{◌≡◌, ℕ, ◌+◌, ◌<◌, ◌≤◌, is_some, List, [], ◌∷◌, ◌++◌, length, map, take, slice_set, slice_index_or, sym, ap, ◌∙◌, arith}
-use Rattle.std.proofs.lemmas.List.{get_or-take, get_or-map, length-take-le, length-map, map-set, take-map, take_more, take_more_set}
+use Rattle.std.proofs.Common.{◌≡◌, ℕ, ◌+◌, ◌<◌, ◌≤◌, None, is_some, List, [], ◌∷◌, ◌++◌, length, map, take, slice_set, slice_index_or, sym, ap, ◌∙◌, arith}
+use Rattle.std.proofs.lemmas.List.{get_or-take, get_or-map, get_or-set_same, length-take-le, length-map, map-set, take-map, take_more, take_more_set}
 use Rattle.std.proofs.lemmas.List.FromFn.{map-range_with_len_more}
 use Rattle.std.specs.List.{range_with_len}
 use Rattle.std.proofs.Math.Seq.{take-set-lt}
 use Rattle.alw_num.specs.Weights.{digit, weigh}
 use Rattle.alw_num.proofs.Weigh.{weigh_push}
-use Rattle.alw_model.specs.Contexts.{Slot, no_slot, slot_at, woken, wake}
+use Rattle.alw_model.specs.Contexts.{Slot, no_slot, slot_at, ran, woken, wake}
 use Rattle.alw_ctx.specs.declared.residents.Resident.{Resident}
-use Rattle.alw_ctx.specs.Residents.{NodeContexts, slot_of, slots_of}
+use Rattle.sparc_table.specs.declared.registers.Regs.{Regs}
+use Rattle.sparc_table.specs.declared.outcomes.Outcome.{Outcome}
+use Rattle.alw_ctx.specs.Residents.{NodeContexts, slot_of, slots_of, left_by}
 
 -- the contexts with these slots and this current one
 abbrev contexts_of : List Slot → ℕ → NodeContexts
@@ -26,6 +28,28 @@ slot_read n places i d l m = get_or-take n (map slot_of places) i no_slot l ∙ 
 -- a place changes
 pub slots_set : (n : ℕ) (places : List Resident) (i : ℕ) (place : Resident) → i < n → slots_of n (slice_set places i place) ≡ slice_set (slots_of n places) i (slot_of place)
 slots_set n places i place l = ap (take n) (map-set slot_of places i place) ∙ take-set-lt n (map slot_of places) i (slot_of place) l
+
+-- ---- a slot takes a turn
+
+slot_written : (n : ℕ) (places : List Resident) (slot : ℕ) (after : Resident) → slot < n → n ≤ length places → slot_at (slots_of n (slice_set places slot after)) slot ≡ slot_of after
+slot_written n places slot after l m = ap (λ (slots : List Slot). slot_at slots slot) (slots_set n places slot after l) ∙ get_or-set_same (slots_of n places) slot (slot_of after) no_slot (omega (arith, length_slots n places m))
+
+-- what holds of the registers at a place, before and after, holds of the slot's
+pub of_slot : (P : Regs → Regs → Type 0) (n : ℕ) (places : List Resident) (slot : ℕ) (empty after : Resident) → slot < n → n ≤ length places
+    → P (slice_index_or places slot empty).regs after.regs → P (slot_at (slots_of n places) slot).regs (slot_at (slots_of n (slice_set places slot after)) slot).regs
+of_slot P n places slot empty after l m h =
+    let was = ap (λ (s : Slot). s.regs) (slot_read n places slot empty l m) in
+    let is = ap (λ (s : Slot). s.regs) (slot_written n places slot after l m) in
+    rw (was, is) h
+
+-- the slots once the one at a place has taken a turn
+pub turned : (n : ℕ) (places : List Resident) (slot : ℕ) (after : Resident) (outcome : Outcome) → slot < n → n ≤ length places
+    → slot_of after ≡ (let s : Slot = record { regs = after.regs; status = left_by after.regs outcome; hold = None } in s)
+    → let regs = (slot_at (slots_of n (slice_set places slot after)) slot).regs in
+    slots_of n (slice_set places slot after) ≡ ran (slots_of n places) slot regs (left_by regs outcome)
+turned n places slot after outcome l m left =
+    let is = ap (λ (s : Slot). s.regs) (slot_written n places slot after l m) in
+    slots_set n places slot after l ∙ (ap (slice_set (slots_of n places) slot) left ∙ sym (ap (λ (r : Regs). ran (slots_of n places) slot r (left_by r outcome)) is))
 
 -- each slot that waits on a line becomes Ready
 pub slots_woken : (n line : ℕ) (places : List Resident) (o a b c d : Resident) → length places ≡ 4

@@ -2,7 +2,13 @@
 use Rattle.std.specs.Prelude.{ℕ, List, map, take}
 use Rattle.std.specs.Option.{option_map}
 use Rattle.alw_num.specs.declared.addresses.LineNo.{LineNo}
+use Rattle.sparc_table.specs.declared.registers.Regs.{Regs}
+use Rattle.sparc_table.specs.declared.outcomes.Outcome.{Outcome}
+use Rattle.sparc_table.specs.declared.outcomes.Outcome.TheVariants.{Miss}
+use Rattle.alw_msg.specs.declared.contexts.Status.{Status}
+use Rattle.alw_msg.specs.declared.contexts.Status.TheVariants.{Waiting}
 use Rattle.alw_model.specs.Contexts.{Slot}
+use Rattle.alw_model.specs.ProcessorSteps.{status_after}
 use Rattle.alw_ctx.specs.declared.residents.Resident.{Resident}
 
 -- the contexts of a node: its slots, and the number of the current one
@@ -21,3 +27,8 @@ slot_of resident = record { regs = resident.regs; status = resident.status; hold
 -- the first so many places as slots
 abbrev pub slots_of : ℕ → List Resident → List Slot
 slots_of count places = take count (map slot_of places)
+
+-- a context after a turn, which waits on the line that it misses
+abbrev pub left_by : Regs → Outcome → Status
+left_by regs (Miss line mode) = Waiting line
+left_by regs outcome = status_after regs outcome

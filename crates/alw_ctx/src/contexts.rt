@@ -1,15 +1,20 @@
-ghost use Rattle.std.specs.Prelude.{◌≡◌, ◌<◌, ◌≤◌, length, is_some};
+ghost use Rattle.std.specs.Prelude.{◌≡◌, ◌↔◌, ◌<◌, ◌≤◌, ◌*◌, ◌%◌, length, is_some};
 ghost use Rattle.std.specs.Option.{option_map};
 ghost use Rattle.alw_num.specs.Weights.{digit, weigh};
+ghost use Rattle.alw_num.specs.declared.addresses.LineNo.{LineNo};
+ghost use Rattle.alw_num.specs.declared.states.Mode.{Mode};
+ghost use Rattle.sparc_table.specs.Turns.{need_of, turn_of};
+ghost use Rattle.sparc_exec.specs.Runs.{seen, IsRun, IsMissing};
 ghost use Rattle.alw_image.specs.Images.{node_count};
 ghost use Rattle.alw_model.specs.Contexts.{slots_start, slot_at, running, ran, wake, give_hold, is_held, all_halted};
-ghost use Rattle.alw_ctx.specs.Residents.{number_of};
+ghost use Rattle.alw_ctx.specs.Residents.{number_of, left_by};
 
 use crate::residents::Resident;
 use crate::starts::residents;
 use alw_image::Image;
 use alw_msg::Status;
 use alw_num::{LineNo, NodeNo};
+use sparc_exec::{Outcome, Port};
 use sparc_table::Regs;
 use std::marker::Model;
 
@@ -62,7 +67,7 @@ impl Contexts {
         ensures { result ≡ running self.now.slots self.now.current }
     {
         for k in 0..self.count {
-            let slot = (self.current + k) % self.count;
+            let slot = wrapped(self.current + k, self.count);
             if self.places[slot as usize].is_ready() {
                 return Some(slot);
             }
@@ -139,6 +144,21 @@ impl Contexts {
         true
     }
 
+    /// A turn of a slot over a port, on the slot's registers where they stand. The slot becomes the
+    /// current one, its hold ends, and where it misses it waits on the line.
+    pub fn turn<P: Port>(&mut self, slot: u8, code: &[u32], port: &mut P) -> Outcome
+        requires { slot < length self.old.slots }
+        ensures run { IsRun (need_of code.now (slot_at self.old.slots slot).regs (P.lines port.old)) (turn_of code.now (slot_at self.old.slots slot).regs (P.lines port.old))
+            (seen (slot_at self.old.slots slot).regs (P.copy port.old) (P.calls port.old)) (seen (slot_at self.new.slots slot).regs (P.copy port.new) (P.calls port.new)) result }
+        ensures missed { (line : LineNo) → (mode : Mode) → (result ≡ Outcome.Miss line mode) ↔ IsMissing (need_of code.now (slot_at self.old.slots slot).regs (P.lines port.old)) (P.copy port.old) line mode }
+        ensures contexts { self.new ≡ record { slots = ran self.old.slots slot (slot_at self.new.slots slot).regs (left_by (slot_at self.new.slots slot).regs result); current = slot } }
+        ensures sizes { (P.lines port.new ≡ P.lines port.old) × (P.places port.new ≡ P.places port.old) }
+    {
+        self.current = slot;
+        let place = &mut self.places[slot as usize];
+        place.turn(code, port)
+    }
+
     /// A slot has run: it becomes the current one, with these registers and this status, and its hold
     /// ends.
     pub fn ran(&mut self, slot: u8, regs: Regs, status: Status)
@@ -172,5 +192,17 @@ impl Contexts {
             third.woken(line),
             fourth.woken(line),
         ];
+    }
+}
+
+// A number modulo a count, where it is below twice the count.
+fn wrapped(number: u8, count: u8) -> u8
+    requires { number < 2 * count }
+    ensures { result ≡ number % count }
+{
+    if number < count {
+        number
+    } else {
+        number - count
     }
 }

@@ -1,11 +1,16 @@
-ghost use Rattle.std.specs.Prelude.{◌≡◌, ◌==◌, is_some};
+ghost use Rattle.std.specs.Prelude.{◌≡◌, ◌↔◌, ◌==◌, None, is_some};
 ghost use Rattle.alw_num.specs.Maps.{passes};
+ghost use Rattle.sparc_table.specs.Turns.{need_of, turn_of};
+ghost use Rattle.sparc_exec.specs.Runs.{seen, IsRun, IsMissing};
+ghost use Rattle.alw_num.specs.declared.addresses.LineNo.{LineNo};
+ghost use Rattle.alw_num.specs.declared.states.Mode.{Mode};
 ghost use Rattle.alw_msg.specs.Statuses.{is_ready, is_halted, waits_on};
 ghost use Rattle.alw_model.specs.Contexts.{woken};
-ghost use Rattle.alw_ctx.specs.Residents.{slot_of};
+ghost use Rattle.alw_ctx.specs.Residents.{slot_of, left_by};
 
 use alw_msg::Status;
 use alw_num::LineNo;
+use sparc_exec::{Outcome, Port, turn};
 use sparc_table::Regs;
 
 /// The context in a slot: its registers, what it does, and the line that it has a hold on.
@@ -59,6 +64,19 @@ impl Resident {
         self.hold.is_some()
     }
 
+    /// A turn of the context over a port. Its hold ends, and where it misses it waits on the line.
+    pub fn turn<P: Port>(&mut self, code: &[u32], port: &mut P) -> Outcome
+        ensures run { IsRun (need_of code.now self.old.regs (P.lines port.old)) (turn_of code.now self.old.regs (P.lines port.old)) (seen self.old.regs (P.copy port.old) (P.calls port.old)) (seen self.new.regs (P.copy port.new) (P.calls port.new)) result }
+        ensures missed { (line : LineNo) → (mode : Mode) → (result ≡ Outcome.Miss line mode) ↔ IsMissing (need_of code.now self.old.regs (P.lines port.old)) (P.copy port.old) line mode }
+        ensures left { slot_of self.new ≡ record { regs = self.new.regs; status = left_by self.new.regs result; hold = None } }
+        ensures sizes { (P.lines port.new ≡ P.lines port.old) × (P.places port.new ≡ P.places port.old) }
+    {
+        let outcome = turn(code, &mut self.regs, port);
+        self.status = left_by(&self.regs, outcome);
+        self.hold = None;
+        outcome
+    }
+
     // The context waits on a line.
     fn waits_on(&self, line: LineNo) -> bool
         ensures { result ≡ waits_on line.0 self.now.status }
@@ -67,5 +85,17 @@ impl Resident {
             Status::Waiting { line: waited } => waited == line,
             _ => false,
         }
+    }
+}
+
+// The status of a context after a turn.
+fn left_by(regs: &Regs, outcome: Outcome) -> Status
+    ensures { result ≡ left_by regs.now outcome }
+{
+    match outcome {
+        Outcome::Done | Outcome::Out { .. } => Status::Ready,
+        Outcome::Miss { line, .. } => Status::Waiting { line },
+        Outcome::Halt => Status::Halted,
+        Outcome::Trap { tt } => Status::Trapped { pc: regs.pc, tt },
     }
 }

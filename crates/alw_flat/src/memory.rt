@@ -54,6 +54,8 @@ impl Port for Memory {
 
     ghost lines = { length };
 
+    ghost places = { length };
+
     ghost calls = { λ _. None };
 
     fn lines(&self) -> u32 {

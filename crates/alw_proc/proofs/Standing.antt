@@ -1,22 +1,20 @@
 -- What holds of a processor side is kept by what its events change.
 use Rattle.std.proofs.Common.{◌≡◌, ℕ, ◌*◌, ◌<◌, Option, Some, None, List, length, refl, arith}
 use Rattle.std.proofs.lemmas.Bool.{eq-eqb}
-use Rattle.alw_num.specs.declared.addresses.Line.{Line}
 use Rattle.alw_num.specs.declared.states.Mode.{Mode}
-use Rattle.alw_num.specs.declared.states.Mode.TheVariants.{Read, Write}
 use Rattle.alw_num.specs.Maps.{value_at}
 use Rattle.sparc_table.specs.declared.registers.Regs.{Regs}
 use Rattle.alw_msg.specs.declared.contexts.Status.{Status}
 use Rattle.alw_msg.specs.declared.contexts.Status.TheVariants.{Waiting}
-use Rattle.alw_cache.specs.Places.{Copies, copy_of}
+use Rattle.alw_cache.specs.Places.{Copies}
 use Rattle.alw_ctx.specs.Residents.{NodeContexts}
 use Rattle.alw_model.specs.Caches.{Copy, Cache, Transactions, set_of, invalidate}
 use Rattle.alw_model.specs.Contexts.{Slot, running, ran}
 use Rattle.alw_model.specs.ProcessorSteps.{opened}
-use Rattle.alw_proc.specs.Processors.{IsProcessor, HoldsLine, processor_from, stored}
-use Rattle.alw_proc.proofs.Keeping.{Awaits, runs_ready, runs_within, awaits_ran, awaits_opened, holds_with, holds_without}
+use Rattle.alw_proc.specs.Processors.{IsProcessor, HoldsLine, processor_from}
+use Rattle.alw_proc.proofs.Keeping.{Awaits, runs_ready, runs_within, awaits_ran, awaits_opened, holds_without}
 
-abbrev Held : ℕ → Cache → Type 0
+abbrev pub Held : ℕ → Cache → Type 0
 Held lines cache = (set : ℕ) → HoldsLine lines (value_at cache set)
 
 abbrev Await : List Slot → Transactions → Type 0
@@ -50,8 +48,3 @@ missed_stands slots current slot line mode regs transactions runs before =
 pub invalidated : (lines sets : ℕ) (cache : Cache) (line : ℕ) (o : Option Copy) → Held lines cache → Held lines (invalidate sets cache line o).0
 invalidated lines sets cache line None before = before
 invalidated lines sets cache line (Some copy) before = holds_without lines cache (set_of sets line) before
-
-pub stored_stands : (lines sets : ℕ) (cache : Cache) (line : ℕ) (mode : Mode) (value : Option Line) → line < lines → Held lines cache → Held lines (stored sets cache line mode value)
-stored_stands lines sets cache line Read value l before = before
-stored_stands lines sets cache line Write None l before = before
-stored_stands lines sets cache line Write (Some body) l before = holds_with lines cache (set_of sets line) (copy_of line Write body) l before

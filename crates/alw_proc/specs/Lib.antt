@@ -1,4 +1,4 @@
 pub mod Homeward
 pub mod Openings
 pub mod Processors
-pub mod Ports
+pub mod Turns

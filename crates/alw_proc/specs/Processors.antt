@@ -29,6 +29,11 @@ pub record IsProcessor (p : Processor) : Type 0 where
   pub cached : (set : ℕ) → HoldsLine (lines_of p) (value_at p.cache set)
   pub opened : (line : ℕ) → IsTrue (passes_if_some (λ transaction. waits_on line (slot_at p.slots transaction.opener).status) (value_at p.transactions line))
 
+-- what holds of it with the number of lines that its port tells
+pub record IsSide (p : Processor) (lines : ℕ) : Type 0 where
+  pub stands : IsProcessor p
+  pub lines_are : lines ≡ lines_of p
+
 -- what is held keeps no message about a line on its link: one to memory isn't this side's
 abbrev pub may_take : Processor → ℕ → Content → Bool
 may_take p line (ForMemory said) = true
@@ -39,10 +44,6 @@ pub record AreBegun (number : ℕ) (sending : Sending) : Type 0 where
   pub by : sending.src ≡ number
   pub empty : sending.messages ≡ []
   pub room : 0 < sending.room
-
--- what is told of a copy: its mode and its bytes
-abbrev pub told_copy : Copy → Mode × Line
-told_copy copy = (copy.mode, copy.body)
 
 -- the processor side that these make up
 abbrev pub processor_from : ℕ → ℕ → ℕ → ℕ → NodeContexts → Copies → Transactions → Processor
@@ -57,11 +58,6 @@ processor_from number width height per_node contexts cache transactions = record
   cache = cache.copies;
   transactions = transactions;
 }
-
--- the copy of a line with a value, where one was left in Write mode
-abbrev pub stored : ℕ → Cache → ℕ → Mode → Option Line → Cache
-stored sets cache line Write (Some body) = with_value cache (set_of sets line) (copy_of line Write body)
-stored sets cache line _ _ = cache
 
 -- what is told of a transaction: its mode
 abbrev pub mode_of : Transaction → Mode

@@ -1,38 +1,30 @@
-ghost use Rattle.std.specs.Prelude.{◌≡◌, ◌<◌, ◌≤◌, ◌/◌, ℕ, [], None, is_some, length, nat_lt, IsTrue};
-ghost use Rattle.std.specs.Option.{option_map};
+ghost use Rattle.std.specs.Prelude.{◌≡◌, ◌<◌, ◌≤◌, ◌/◌, ℕ, [], length, nat_lt, IsTrue};
 ghost use Rattle.alw_num.specs.Maps.{value_at, without_value, passes, passes_if_some};
-ghost use Rattle.alw_num.specs.declared.states.Mode.{Mode};
-ghost use Rattle.alw_model.specs.declared.steps.Did.TheVariants as dids;
-ghost use Rattle.alw_model.specs.Caches.{granted_copy, replaced};
-ghost use Rattle.alw_model.specs.Contexts.{ran, is_held};
-ghost use Rattle.alw_model.specs.ProcessorSteps.{opened, status_after, slots_after};
+ghost use Rattle.alw_model.specs.Caches.{replaced};
+ghost use Rattle.alw_model.specs.Contexts.{is_held};
+ghost use Rattle.alw_model.specs.ProcessorSteps.{opened, slots_after};
 ghost use Rattle.alw_proc.specs.Openings.{IsNotOf};
 ghost use Rattle.alw_proc.specs.Homeward.{with_requests};
-ghost use Rattle.alw_proc.specs.Processors.{told_copy, stored};
+ghost use Rattle.alw_proc.specs.Turns.{Runs};
 
 use crate::homeward::send;
 use crate::openings::Openings;
+use crate::shared::Shared;
 use alw_cache::Cache;
 use alw_ctx::Contexts;
-use alw_model::Did;
-use alw_msg::{Kind, Sends, Status};
+use alw_msg::{Kind, Sends};
 use alw_num::{Line, LineNo, Mode};
 use sparc_exec::Outcome;
-use sparc_table::Regs;
 
-/// A turn of a slot has left these registers and this outcome.
-pub fn take_turn(contexts: &mut Contexts, slot: u8, regs: Regs, outcome: Outcome) -> Did
+/// A turn of a slot over the node's cache: on the slot's registers and the cache's copies where they stand.
+pub fn take_turn(contexts: &mut Contexts, shared: &mut Shared, slot: u8, code: &[u32]) -> Outcome
     requires { slot < length contexts.old.slots }
-    ensures contexts { contexts.new ≡ record { slots = ran contexts.old.slots slot regs (status_after regs outcome); current = slot } }
-    ensures did { result ≡ dids.Turn slot outcome }
+    ensures { Runs code.now slot contexts.old shared.old contexts.new shared.new result }
 {
-    let status = match outcome {
-        Outcome::Halt => Status::Halted,
-        Outcome::Trap { tt } => Status::Trapped { pc: regs.pc, tt },
-        _ => Status::Ready,
-    };
-    contexts.ran(slot, regs, status);
-    Did::Turn { slot, outcome }
+    let _placed = shared.cache.sets();
+    let outcome = contexts.turn(slot, code, shared);
+    let _stay = shared.cache.sets();
+    outcome
 }
 
 /// The transaction on a line ends, where there is one: its waiters become Ready, and where the line
@@ -47,26 +39,6 @@ pub fn end(contexts: &mut Contexts, openings: &mut Openings, line: LineNo, came:
         if came {
             contexts.hold(opener, line);
         }
-    }
-}
-
-/// The copy of a line that grants a mode: its mode and its bytes.
-pub fn granted(cache: &Cache, line: LineNo, mode: Mode) -> Option<(Mode, Line)>
-    ensures { result ≡ option_map told_copy (granted_copy cache.now.sets cache.now.copies line.0 mode) }
-{
-    match (cache.look(line), mode) {
-        (Some((Mode::Read, _)), Mode::Write) => None,
-        (copy, _) => copy,
-    }
-}
-
-/// The copy of a line gets the value that a turn has left, where it was accessed in Write mode.
-pub fn store(cache: &mut Cache, line: LineNo, mode: Mode, value: Option<Line>)
-    requires { mode ≡ Mode.Write → IsTrue (is_some (granted_copy cache.old.sets cache.old.copies line.0 Mode.Write)) }
-    ensures { cache.new ≡ record cache.old { copies = stored cache.old.sets cache.old.copies line.0 mode value } }
-{
-    if let (Mode::Write, Some(body)) = (mode, value) {
-        cache.write(line, body);
     }
 }
 

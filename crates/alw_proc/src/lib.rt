@@ -4,8 +4,8 @@
 mod changes;
 mod homeward;
 mod openings;
-mod ports;
 mod processors;
+mod shared;
 
 pub use processors::Proc;
 

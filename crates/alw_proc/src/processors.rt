@@ -1,32 +1,29 @@
-ghost use Rattle.std.specs.Prelude.{◌≡◌, ◌<◌, ◌≤◌, ◌*◌, [], Some, IfOk, is_some, length, false, not};
+ghost use Rattle.std.specs.Prelude.{◌≡◌, ◌<◌, ◌≤◌, ◌*◌, IfOk, is_some, length, false, not};
 ghost use Rattle.std.specs.Option.{option_map};
 ghost use Rattle.alw_num.specs.Maps.{value_at, passes};
 ghost use Rattle.alw_num.specs.Weights.{digit, weigh};
-ghost use Rattle.sparc_table.specs.Turns.{need_of};
-ghost use Rattle.sparc_table.specs.declared.outcomes.Need.TheVariants as needs;
 ghost use Rattle.alw_msg.specs.Kinds.{to_memory};
-ghost use Rattle.alw_image.specs.Images.{node_count};
-ghost use Rattle.alw_model.specs.Caches.{granted_copy};
+ghost use Rattle.alw_image.specs.Images.{node_count, line_count};
 ghost use Rattle.alw_model.specs.Contexts.{running, slot_at, is_held, all_halted};
 ghost use Rattle.alw_msg.specs.Contents.{content};
 ghost use Rattle.alw_model.specs.Sides.{lines_of};
-ghost use Rattle.alw_model.specs.ProcessorSteps.{Steps, instr, access, miss, takes, evict_from};
+ghost use Rattle.alw_model.specs.ProcessorSteps.{Steps, instr, takes, evict_from};
 ghost use Rattle.alw_model.specs.NodeStates.{node_start, processor_of};
 ghost use Rattle.alw_ctx.specs.Residents.{number_of};
 ghost use Rattle.alw_proc.specs.Openings.{opener_of};
 ghost use Rattle.alw_proc.specs.Processors.{may_take, mode_of, cached_of, IsProcessor, AreBegun};
 
-use crate::changes::{ask, end, granted, replaces_held, store, take_turn};
+use crate::changes::{ask, end, replaces_held, take_turn};
 use crate::homeward::{Homes, evict, fill, invalidate};
 use crate::openings::Openings;
-use crate::ports::{AtMostOne, OneCopy};
+use crate::shared::Shared;
 use alw_cache::Cache;
 use alw_ctx::Contexts;
 use alw_image::{Image, Params};
 use alw_model::Did;
 use alw_msg::{Kind, Msg, Sends, Status};
 use alw_num::{Line, LineNo, Mode, NoMemory, NodeNo};
-use sparc_exec::{Outcome, Port, turn};
+use sparc_exec::Outcome;
 use sparc_table::Regs;
 use std::alloc::Global;
 use std::marker::Model;
@@ -40,19 +37,19 @@ pub struct Proc {
     height: u8,
     per_node: u16,
     contexts: Contexts,
-    cache: Cache,
+    shared: Shared,
     openings: Openings,
 }
 
 impl Model for Proc {
     ghost use Rattle.alw_model.specs.Sides.{Processor};
-    ghost use Rattle.alw_proc.specs.Processors.{processor_from, IsProcessor};
+    ghost use Rattle.alw_proc.specs.Processors.{processor_from, IsSide};
 
     ghost Value = { Processor };
 
-    ghost view = { λ p. processor_from p.number.0 p.width p.height p.per_node p.contexts p.cache p.openings };
+    ghost view = { λ p. processor_from p.number.0 p.width p.height p.per_node p.contexts p.shared.cache p.openings };
 
-    ghost invariant = { λ p. IsProcessor (processor_from p.number.0 p.width p.height p.per_node p.contexts p.cache p.openings) };
+    ghost invariant = { λ p. IsSide (processor_from p.number.0 p.width p.height p.per_node p.contexts p.shared.cache p.openings) p.shared.lines };
 }
 
 impl Proc {
@@ -74,7 +71,10 @@ impl Proc {
             height: image.height(),
             per_node: image.per_node(),
             contexts: Contexts::start(image, node),
-            cache,
+            shared: Shared {
+                cache,
+                lines: count_lines(image),
+            },
             openings: Openings::none(),
         })
     }
@@ -89,14 +89,12 @@ impl Proc {
         let Some(slot) = self.contexts.current() else {
             return Did::Took;
         };
-        let mut regs = self.contexts.regs(slot);
-        let mut port = AtMostOne {
-            lines: self.lines(),
-            copy: None,
-        };
-        match turn(code, &mut regs, &mut port) {
-            Outcome::Miss { line, mode } => self.access(code, slot, line, mode, sent),
-            outcome => take_turn(&mut self.contexts, slot, regs, outcome),
+        match take_turn(&mut self.contexts, &mut self.shared, slot, code) {
+            Outcome::Miss { line, mode } => {
+                ask(&mut self.openings, slot, line, mode, self.per_node, sent);
+                Did::Missed { slot }
+            }
+            outcome => Did::Turn { slot, outcome },
         }
     }
 
@@ -111,15 +109,29 @@ impl Proc {
         let (line, homes) = (msg.line, self.homes());
         match msg.kind {
             Kind::RDATA => {
-                fill(&mut self.cache, line, Mode::Read, msg.body, homes, sent);
+                fill(
+                    &mut self.shared.cache,
+                    line,
+                    Mode::Read,
+                    msg.body,
+                    homes,
+                    sent,
+                );
                 end(&mut self.contexts, &mut self.openings, line, true);
             }
             Kind::WDATA => {
-                fill(&mut self.cache, line, Mode::Write, msg.body, homes, sent);
+                fill(
+                    &mut self.shared.cache,
+                    line,
+                    Mode::Write,
+                    msg.body,
+                    homes,
+                    sent,
+                );
                 end(&mut self.contexts, &mut self.openings, line, true);
             }
             Kind::BUSY => end(&mut self.contexts, &mut self.openings, line, false),
-            Kind::INV => invalidate(&mut self.cache, line, self.per_node, sent),
+            Kind::INV => invalidate(&mut self.shared.cache, line, self.per_node, sent),
             _ => {}
         }
         Did::Took
@@ -132,7 +144,7 @@ impl Proc {
         ensures { Steps self.old self.new sent.old sent.new result (evict_from sent.old.stamp self.old set) }
     {
         let homes = self.homes();
-        evict(&mut self.cache, set, homes, sent);
+        evict(&mut self.shared.cache, set, homes, sent);
         Did::Evicted
     }
 
@@ -159,7 +171,11 @@ impl Proc {
     {
         match msg.kind {
             Kind::INV => !self.contexts.is_held(msg.line),
-            Kind::RDATA | Kind::WDATA => !replaces_held(&self.contexts, &self.cache, msg.line),
+            Kind::RDATA | Kind::WDATA => !replaces_held(
+                &self.contexts,
+                &self.shared.cache,
+                msg.line,
+            ),
             _ => true,
         }
     }
@@ -169,7 +185,7 @@ impl Proc {
         requires { set < self.now.sets }
         ensures { result ≡ passes (λ copy. not (is_held self.now.slots copy.line)) (value_at self.now.cache set) }
     {
-        match self.cache.held(set) {
+        match self.shared.cache.held(set) {
             Some(line) => !self.contexts.is_held(line),
             None => false,
         }
@@ -179,7 +195,7 @@ impl Proc {
     pub fn sets(&self) -> u32
         ensures { result ≡ self.now.sets }
     {
-        self.cache.sets()
+        self.shared.cache.sets()
     }
 
     /// The number of slots.
@@ -261,52 +277,17 @@ impl Proc {
         requires { set < self.now.sets }
         ensures { result ≡ option_map cached_of (value_at self.now.cache set) }
     {
-        match self.cache.standing(set) {
+        match self.shared.cache.standing(set) {
             Some(copy) => Some((copy.line, copy.mode, copy.body)),
             None => None,
         }
-    }
-
-    // An access by the slot that runs, whose turn needs this line in this mode.
-    fn access(&mut self, code: &[u32], slot: u8, line: LineNo, mode: Mode, sent: &mut Sends) -> Did
-        requires begun { AreBegun self.old.number sent.old }
-        requires runs { running self.old.slots self.old.current ≡ Some slot }
-        requires needs { need_of code.now (slot_at self.old.slots slot).regs (lines_of self.old) ≡ needs.Copy line mode }
-        ensures { Steps self.old self.new sent.old sent.new result (access code.now sent.old.stamp self.old slot line.0 mode (granted_copy self.old.sets self.old.cache line.0 mode)) }
-    {
-        let Some((held, value)) = granted(&self.cache, line, mode) else {
-            return self.miss(slot, line, mode, sent);
-        };
-        let mut regs = self.contexts.regs(slot);
-        let mut port = OneCopy {
-            line,
-            mode: held,
-            value,
-            lines: self.lines(),
-        };
-        let outcome = turn(code, &mut regs, &mut port);
-        store(&mut self.cache, line, mode, port.grab(line, mode));
-        take_turn(&mut self.contexts, slot, regs, outcome)
-    }
-
-    // A miss: the slot waits, and a transaction is opened in its name where the line has none.
-    fn miss(&mut self, slot: u8, line: LineNo, mode: Mode, sent: &mut Sends) -> Did
-        requires begun { AreBegun self.old.number sent.old }
-        requires runs { running self.old.slots self.old.current ≡ Some slot }
-        requires line { line.0 < lines_of self.old }
-        ensures { Steps self.old self.new sent.old sent.new result (miss sent.old.stamp self.old slot line.0 mode) }
-    {
-        ask(&mut self.openings, slot, line, mode, self.per_node, sent);
-        let regs = self.contexts.regs(slot);
-        self.contexts.ran(slot, regs, Status::Waiting { line });
-        Did::Missed { slot }
     }
 
     /// The number of lines of shared data.
     pub fn lines(&self) -> u32
         ensures { result ≡ lines_of self.now }
     {
-        u32::from(self.width) * u32::from(self.height) * u32::from(self.per_node)
+        self.shared.lines
     }
 
     // The number of lines of shared data, and of those of each node.
@@ -321,4 +302,12 @@ impl Proc {
             per_node: self.per_node,
         }
     }
+}
+
+// The number of lines of shared data of an image.
+fn count_lines(image: &Image) -> u32
+    ensures { result ≡ line_count image.now }
+{
+    let nodes = u32::from(image.width()) * u32::from(image.height());
+    nodes * u32::from(image.per_node())
 }

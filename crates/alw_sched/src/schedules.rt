@@ -1,6 +1,6 @@
-ghost use Rattle.std.specs.Prelude.{◌≡◌, ◌<◌, ◌%◌, nat_lt, None, Some};
+ghost use Rattle.std.specs.Prelude.{◌≡◌, ◌<◌, ◌%◌, cond, nat_lt, None, Some};
 ghost use Rattle.alw_image.specs.Images.{node_count};
-ghost use Rattle.alw_sched.specs.Schedules.{Finishes, end_in, asked_node, picked};
+ghost use Rattle.alw_sched.specs.Schedules.{Finishes, end_in, asked_node, asked_eviction, is_evicted, picked};
 
 use alw_mesh::{Machine, StepErr};
 use alw_model::Ended;
@@ -31,15 +31,26 @@ fn pick(machine: &Machine, number: u32) -> Event
     requires { end_in machine.now ≡ None }
     ensures { picked machine.now number ≡ Some result }
 {
+    match asked_eviction(machine, number) {
+        Some(eviction) => eviction,
+        None => machine.event(number % machine.events()),
+    }
+}
+
+// The eviction that a number asks for, where it is made.
+fn asked_eviction(machine: &Machine, number: u32) -> Option<Event>
+    ensures { result ≡ cond (is_evicted machine.now number) (Some (asked_eviction machine.now number)) None }
+{
+    if !is_tried(machine, number) {
+        return None;
+    }
     let node = asked_node(machine, number);
-    let eviction = Event::Evict {
-        node,
-        set: (number >> 16) % machine.params().sets(),
-    };
-    if is_tried(machine, number) && machine.is_live(node) && machine.may(eviction) {
-        eviction
+    let set = (number >> 16) % machine.params().sets();
+    let eviction = Event::Evict { node, set };
+    if machine.is_live(node) && machine.may(eviction) {
+        Some(eviction)
     } else {
-        machine.event(number % machine.events())
+        None
     }
 }
 

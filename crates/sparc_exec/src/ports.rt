@@ -8,12 +8,14 @@ use alw_num::{Line, LineNo, Mode};
 
 /// The copies of lines that a processor can reach: its cache, or a memory.
 ///
-/// A port tells the copy of each line, the number of lines of shared data, and the calls that were made
-/// on it. One that keeps no account of calls tells None.
+/// A port tells the copy of each line, the number of lines of shared data, the number of places that it
+/// has for copies, and the calls that were made on it. One that keeps no account of calls tells None.
 pub trait Port {
     ghost copy: { Self → ℕ → Option (Mode × Line) };
 
     ghost lines: { Self → ℕ };
+
+    ghost places: { Self → ℕ };
 
     ghost calls: { Self → Option (List Access) };
 
@@ -26,13 +28,13 @@ pub trait Port {
     fn grab(&mut self, line: LineNo, mode: Mode) -> Option<Line>
         ensures value { result ≡ granted mode (copy self.old line.0) }
         ensures copies { Same (copy self.old) (copy self.new) }
-        ensures lines { lines self.new ≡ lines self.old }
+        ensures sizes { (lines self.new ≡ lines self.old) × (places self.new ≡ places self.old) }
         ensures calls { calls self.new ≡ and_then (calls self.old) (Grab line.0 mode) };
 
     /// Gives a line's copy, which is Read-Write, this value. All other copies stay.
     fn put(&mut self, line: LineNo, value: Line)
         requires { IsSome (granted Mode.Write (copy self.old line.0)) }
         ensures copies { Same (with_copy line.0 value (copy self.old)) (copy self.new) }
-        ensures lines { lines self.new ≡ lines self.old }
+        ensures sizes { (lines self.new ≡ lines self.old) × (places self.new ≡ places self.old) }
         ensures calls { calls self.new ≡ and_then (calls self.old) (Put line.0 value) };
 }

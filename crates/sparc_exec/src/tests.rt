@@ -17,6 +17,8 @@ impl Port for OneLine {
 
     ghost lines = { λ p. 1 };
 
+    ghost places = { λ p. 1 };
+
     ghost calls = { λ p. None };
 
     fn lines(&self) -> u32 {

@@ -28,7 +28,7 @@ pub fn turn<P: Port>(code: &[u32], regs: &mut Regs, port: &mut P) -> Outcome
     ensures run { IsRun (need_of code.now regs.old (P.lines port.old)) (turn_of code.now regs.old (P.lines port.old)) (seen regs.old (P.copy port.old) (P.calls port.old)) (seen regs.new (P.copy port.new) (P.calls port.new)) result }
     ensures missed { (line : LineNo) → (mode : Mode) → (result ≡ Outcome.Miss line mode) ↔ IsMissing (need_of code.now regs.old (P.lines port.old)) (P.copy port.old) line mode }
     ensures still { IsStill result → (regs.new ≡ regs.old) × Same (P.copy port.old) (P.copy port.new) }
-    ensures lines { P.lines port.new ≡ P.lines port.old }
+    ensures sizes { (P.lines port.new ≡ P.lines port.old) × (P.places port.new ≡ P.places port.old) }
 {
     match fetch(code, regs.pc) {
         Ok(instr) => run_one(&instr, regs, port),
@@ -56,7 +56,7 @@ pub fn run_one<P: Port>(instr: &Instr, regs: &mut Regs, port: &mut P) -> Outcome
     ensures run { IsRun (need instr.now regs.old (P.lines port.old)) (run_of instr.now regs.old (P.lines port.old)) (seen regs.old (P.copy port.old) (P.calls port.old)) (seen regs.new (P.copy port.new) (P.calls port.new)) result }
     ensures missed { (line : LineNo) → (mode : Mode) → (result ≡ Outcome.Miss line mode) ↔ IsMissing (need instr.now regs.old (P.lines port.old)) (P.copy port.old) line mode }
     ensures still { IsStill result → (regs.new ≡ regs.old) × Same (P.copy port.old) (P.copy port.new) }
-    ensures lines { P.lines port.new ≡ P.lines port.old }
+    ensures sizes { (P.lines port.new ≡ P.lines port.old) × (P.places port.new ≡ P.places port.old) }
 {
     run_row(instr, regs, port)
 }
@@ -66,7 +66,7 @@ pub fn run_one<P: Port>(instr: &Instr, regs: &mut Regs, port: &mut P) -> Outcome
 fn run_row<P: Port>(instr: &Instr, regs: &mut Regs, port: &mut P) -> Outcome
     requires { Fits instr.now }
     ensures run { IsRun (need instr.now regs.old (P.lines port.old)) (run_of instr.now regs.old (P.lines port.old)) (seen regs.old (P.copy port.old) (P.calls port.old)) (seen regs.new (P.copy port.new) (P.calls port.new)) result }
-    ensures lines { P.lines port.new ≡ P.lines port.old }
+    ensures sizes { (P.lines port.new ≡ P.lines port.old) × (P.places port.new ≡ P.places port.old) }
 {
     match *instr {
         Instr::Call { disp } => call(disp, regs),
@@ -141,7 +141,7 @@ fn access<P: Port>(
     requires rs1 { rs1 < 32 }
     requires operand { FitsOperand 13 operand }
     ensures run { IsRun (need (Instr.Memory op3 rd rs1 operand) regs.old (P.lines port.old)) (run_of (Instr.Memory op3 rd rs1 operand) regs.old (P.lines port.old)) (seen regs.old (P.copy port.old) (P.calls port.old)) (seen regs.new (P.copy port.new) (P.calls port.new)) result }
-    ensures lines { P.lines port.new ≡ P.lines port.old }
+    ensures sizes { (P.lines port.new ≡ P.lines port.old) × (P.places port.new ≡ P.places port.old) }
 {
     let address = address(rs1, operand, regs);
     match line_at(op3, address, port.lines()) {
@@ -169,7 +169,7 @@ fn read<P: Port>(
     requires rd { rd < 32 }
     requires aligned { IsAligned (width_of op3) address }
     ensures run { IsRunOn (granted Mode.Read (P.copy port.old line.0)) line Mode.Read (accessed op3 rd address regs.old) (seen regs.old (P.copy port.old) (P.calls port.old)) (seen regs.new (P.copy port.new) (P.calls port.new)) result }
-    ensures lines { P.lines port.new ≡ P.lines port.old }
+    ensures sizes { (P.lines port.new ≡ P.lines port.old) × (P.places port.new ≡ P.places port.old) }
 {
     let mode = Mode::Read;
     let Some(value) = port.grab(line, mode) else {
@@ -191,7 +191,7 @@ fn write<P: Port>(
     requires rd { rd < 32 }
     requires aligned { IsAligned (width_of op3) address }
     ensures run { IsRunOn (granted Mode.Write (P.copy port.old line.0)) line Mode.Write (accessed op3 rd address regs.old) (seen regs.old (P.copy port.old) (P.calls port.old)) (seen regs.new (P.copy port.new) (P.calls port.new)) result }
-    ensures lines { P.lines port.new ≡ P.lines port.old }
+    ensures sizes { (P.lines port.new ≡ P.lines port.old) × (P.places port.new ≡ P.places port.old) }
 {
     let mode = Mode::Write;
     let Some(value) = port.grab(line, mode) else {

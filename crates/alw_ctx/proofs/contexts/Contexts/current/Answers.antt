@@ -1,5 +1,5 @@
 -- The first Ready slot in the turn's order, or none.
-use Rattle.std.proofs.Common.{◌≡◌, ◌+◌, ◌%◌, false, ap, sym, ◌∙◌, arith}
+use Rattle.std.proofs.Common.{◌≡◌, ◌+◌, ◌%◌, true, false, ap, sym, ◌∙◌, arith}
 use borrow.Author.Count.{below_more}
 use Rattle.alw_msg.specs.Statuses.{is_ready}
 use Rattle.alw_model.specs.Contexts.{Slot}
@@ -12,13 +12,15 @@ pub returns-then-is_ready : goal.returns-then-is_ready
 returns-then-is_ready c =
     let inside = c.self.inside in
     let size = length_slots inside.count inside.places (omega (arith, c.self.invariant.1, c.self.invariant.2)) in
-    let here = ap (λ (s : Slot). is_ready s.status) (slot_read inside.count inside.places ((inside.current + c.loop-k.k) % inside.count) _ (omega (arith, c.self.invariant.0)) (omega (arith, c.self.invariant.1, c.self.invariant.2))) ∙ sym c.if-is_ready.ensures in
-    rw (← c.self.view_is) (runs (slots_of inside.count inside.places) inside.current inside.count c.loop-k.k size c.loop-k-test.true c.loop-k.invariant here)
+    let ready : ready_at (slots_of inside.count inside.places) c.wrapped-slot.result ≡ true = ap (λ (s : Slot). is_ready s.status) (slot_read inside.count inside.places c.wrapped-slot.result _ (omega (arith, c.wrapped-slot.ensures, c.self.invariant.0)) (omega (arith, c.self.invariant.1, c.self.invariant.2))) ∙ sym c.if-is_ready.ensures in
+    let here = ap (ready_at (slots_of inside.count inside.places)) (sym c.wrapped-slot.ensures) ∙ ready in
+    rw (← c.self.view_is, c.wrapped-slot.ensures) (runs (slots_of inside.count inside.places) inside.current inside.count c.loop-k.k size c.loop-k-test.true c.loop-k.invariant here)
 
 pub loop-k-preserved : goal.loop-k-preserved
 loop-k-preserved c =
     let inside = c.self.inside in
-    let here = ap (λ (s : Slot). is_ready s.status) (slot_read inside.count inside.places ((inside.current + c.loop-k.k) % inside.count) _ (omega (arith, c.self.invariant.0)) (omega (arith, c.self.invariant.1, c.self.invariant.2))) ∙ sym c.if-is_ready.ensures in
+    let ready : ready_at (slots_of inside.count inside.places) c.wrapped-slot.result ≡ false = ap (λ (s : Slot). is_ready s.status) (slot_read inside.count inside.places c.wrapped-slot.result _ (omega (arith, c.wrapped-slot.ensures, c.self.invariant.0)) (omega (arith, c.self.invariant.1, c.self.invariant.2))) ∙ sym c.if-is_ready.ensures in
+    let here = ap (ready_at (slots_of inside.count inside.places)) (sym c.wrapped-slot.ensures) ∙ ready in
     below_more (λ j. ready_at (slots_of inside.count inside.places) ((inside.current + j) % inside.count) ≡ false) c.loop-k.k c.loop-k.invariant here
 
 pub returns : goal.returns

@@ -13,31 +13,43 @@ invariant_of-self c =
     let inside = c.self.inside in
     let line = c.args.msg.now.line.0 in
     let exists : line < inside.width * inside.height * inside.per_node = rw (← c.self.view_is) at c.requires.line in
-    rw (c.fill.ensures.cache, c.end.ensures.contexts, c.end.ensures.openings)
-    (stands _ _ _ _ inside.contexts _ inside.cache _ inside.openings _ c.self.invariant (length_after inside.contexts.slots line true (value_at inside.openings line))
-    (holds_with _ inside.cache.copies _ (copy_of line Read c.args.msg.now.body) exists c.self.invariant.cached) (awaits_ended inside.contexts.slots inside.openings line true (value_at inside.openings line) c.self.invariant.opened))
+    record {
+      stands = rw (c.fill.ensures.cache, c.end.ensures.contexts, c.end.ensures.openings)
+          (stands _ _ _ _ inside.contexts _ inside.shared.cache _ inside.openings _ c.self.invariant.stands (length_after inside.contexts.slots line true (value_at inside.openings line))
+          (holds_with _ inside.shared.cache.copies _ (copy_of line Read c.args.msg.now.body) exists c.self.invariant.stands.cached) (awaits_ended inside.contexts.slots inside.openings line true (value_at inside.openings line) c.self.invariant.stands.opened));
+      lines_are = c.self.invariant.lines_are;
+    }
 
 pub invariant_of-self-in-WDATA : goal.invariant_of-self-in-WDATA
 invariant_of-self-in-WDATA c =
     let inside = c.self.inside in
     let line = c.args.msg.now.line.0 in
     let exists : line < inside.width * inside.height * inside.per_node = rw (← c.self.view_is) at c.requires.line in
-    rw (c.fill-in-WDATA.ensures.cache, c.end-in-WDATA.ensures.contexts, c.end-in-WDATA.ensures.openings)
-    (stands _ _ _ _ inside.contexts _ inside.cache _ inside.openings _ c.self.invariant (length_after inside.contexts.slots line true (value_at inside.openings line))
-    (holds_with _ inside.cache.copies _ (copy_of line Write c.args.msg.now.body) exists c.self.invariant.cached) (awaits_ended inside.contexts.slots inside.openings line true (value_at inside.openings line) c.self.invariant.opened))
+    record {
+      stands = rw (c.fill-in-WDATA.ensures.cache, c.end-in-WDATA.ensures.contexts, c.end-in-WDATA.ensures.openings)
+          (stands _ _ _ _ inside.contexts _ inside.shared.cache _ inside.openings _ c.self.invariant.stands (length_after inside.contexts.slots line true (value_at inside.openings line))
+          (holds_with _ inside.shared.cache.copies _ (copy_of line Write c.args.msg.now.body) exists c.self.invariant.stands.cached) (awaits_ended inside.contexts.slots inside.openings line true (value_at inside.openings line) c.self.invariant.stands.opened));
+      lines_are = c.self.invariant.lines_are;
+    }
 
 pub invariant_of-self-in-BUSY : goal.invariant_of-self-in-BUSY
 invariant_of-self-in-BUSY c =
     let inside = c.self.inside in
     let line = c.args.msg.now.line.0 in
-    rw (c.end-in-BUSY.ensures.contexts, c.end-in-BUSY.ensures.openings)
-    (stands _ _ _ _ inside.contexts _ inside.cache inside.cache inside.openings _ c.self.invariant (length_after inside.contexts.slots line false (value_at inside.openings line))
-    c.self.invariant.cached (awaits_ended inside.contexts.slots inside.openings line false (value_at inside.openings line) c.self.invariant.opened))
+    record {
+      stands = rw (c.end-in-BUSY.ensures.contexts, c.end-in-BUSY.ensures.openings)
+          (stands _ _ _ _ inside.contexts _ inside.shared.cache inside.shared.cache inside.openings _ c.self.invariant.stands (length_after inside.contexts.slots line false (value_at inside.openings line))
+          c.self.invariant.stands.cached (awaits_ended inside.contexts.slots inside.openings line false (value_at inside.openings line) c.self.invariant.stands.opened));
+      lines_are = c.self.invariant.lines_are;
+    }
 
 pub invariant_of-self-in-INV : goal.invariant_of-self-in-INV
 invariant_of-self-in-INV c =
     let inside = c.self.inside in
     let line = c.args.msg.now.line.0 in
-    rw c.invalidate.ensures.cache
-    (stands _ _ _ _ inside.contexts inside.contexts inside.cache _ inside.openings inside.openings c.self.invariant refl
-    (invalidated _ inside.cache.sets inside.cache.copies line (copy_at inside.cache.sets inside.cache.copies line) c.self.invariant.cached) c.self.invariant.opened)
+    record {
+      stands = rw c.invalidate.ensures.cache
+          (stands _ _ _ _ inside.contexts inside.contexts inside.shared.cache _ inside.openings inside.openings c.self.invariant.stands refl
+          (invalidated _ inside.shared.cache.sets inside.shared.cache.copies line (copy_at inside.shared.cache.sets inside.shared.cache.copies line) c.self.invariant.stands.cached) c.self.invariant.stands.opened);
+      lines_are = c.self.invariant.lines_are;
+    }

@@ -1,43 +1,44 @@
--- The turn's need, and then the turn.
-use Rattle.std.proofs.Common.{◌≡◌, Some, None, refl, sym, subst}
-use Rattle.std.proofs.lemmas.List.{length-set}
-use Rattle.sparc_table.specs.Turns.{need_of}
-use Rattle.sparc_exec.specs.Runs.{IsMissing}
-use Rattle.sparc_table.specs.declared.outcomes.Need.TheVariants as needs
-use Rattle.alw_model.specs.Contexts.{running, slot_at}
-use Rattle.alw_model.specs.Sides.{lines_of}
-use Rattle.alw_model.specs.ProcessorSteps.{ProcessorStep, Steps}
-use Rattle.alw_proc.proofs.Turning.{instr_needs}
-use Rattle.alw_proc.proofs.Keeping.{runs_within}
-use Rattle.alw_proc.proofs.Standing.{stands, ran_stands}
+-- The turn, or the miss, of the slot that runs.
+use Rattle.std.proofs.Common.{sym}
+use Rattle.alw_proc.proofs.Keeping.{runs_within, runs_ready, none_of_ready}
+use Rattle.alw_proc.proofs.Instructing.{has_run, turn_side, turn_steps, miss_home, miss_side, miss_steps}
 use Rattle.alw_proc.proofs.processors.Proc.instr.Goals as goal
-
-pub regs-regs-requires : goal.regs-regs-requires
-regs-regs-requires c = runs_within c.self.inside.contexts.slots c.self.inside.contexts.current c.in-Some.slot (sym c.in-Some.ensures)
 
 pub take_turn-requires : goal.take_turn-requires
 take_turn-requires c = runs_within c.self.inside.contexts.slots c.self.inside.contexts.current c.in-Some.slot (sym c.in-Some.ensures)
 
--- the turn over no copy has missed
-pub access-requires-clause-needs : goal.access-requires-clause-needs
-access-requires-clause-needs c =
-    let missed : IsMissing (need_of c.args.code.now c.regs-regs.result c.lines.result) (λ l. None) c.in-Miss.line c.in-Miss.mode = (c.in-Miss.ensures.missed c.in-Miss.line c.in-Miss.mode).0 refl in
-    rw (← c.lines.ensures, ← c.self.view_is, ← c.regs-regs.ensures) missed.0
+pub ask-requires-clause-free : goal.ask-requires-clause-free
+ask-requires-clause-free c =
+    let inside = c.self.inside in
+    λ l. none_of_ready inside.contexts.slots c.in-Some.slot l _ (runs_ready inside.contexts.slots inside.contexts.current c.in-Some.slot (sym c.in-Some.ensures)) (c.self.invariant.stands.opened l)
+
+pub ask-requires-clause-home : goal.ask-requires-clause-home
+ask-requires-clause-home c =
+    let inside = c.self.inside in
+    let run = has_run c.args.code.now inside.number.0 inside.width inside.height inside.per_node inside.contexts _ inside.shared _ inside.openings c.in-Some.slot _ c.self.invariant (sym c.in-Some.ensures) c.in-Miss.ensures in
+    miss_home _ _ _ _ _ _ _ _ _ run c.self.invariant.stands
 
 pub invariant_of-self : goal.invariant_of-self
 invariant_of-self c =
     let inside = c.self.inside in
-    rw c.take_turn.ensures.contexts
-    (stands _ _ _ _ inside.contexts _ inside.cache inside.cache inside.openings inside.openings c.self.invariant (length-set inside.contexts.slots c.in-Some.slot _)
-    c.self.invariant.cached (ran_stands inside.contexts.slots inside.contexts.current c.in-Some.slot _ _ inside.openings (sym c.in-Some.ensures) c.self.invariant.opened))
+    let run = has_run c.args.code.now inside.number.0 inside.width inside.height inside.per_node inside.contexts _ inside.shared _ inside.openings c.in-Some.slot _ c.self.invariant (sym c.in-Some.ensures) c.in-Miss.ensures in
+    miss_side _ _ _ _ _ _ _ _ _ c.ask.new.openings run c.self.invariant.stands c.ask.ensures.openings
+
+pub invariant_of-self-in_default-take_turn : goal.invariant_of-self-in_default-take_turn
+invariant_of-self-in_default-take_turn c =
+    let inside = c.self.inside in
+    let run = has_run c.args.code.now inside.number.0 inside.width inside.height inside.per_node inside.contexts _ inside.shared _ inside.openings c.in-Some.slot _ c.self.invariant (sym c.in-Some.ensures) c.take_turn.ensures in
+    turn_side _ _ _ _ _ _ _ _ run c.in_default-take_turn.not-Miss c.self.invariant.stands
 
 pub returns-in-Miss : goal.returns-in-Miss
 returns-in-Miss c =
-    let p = c.args.self.now in
-    let missed : IsMissing (need_of c.args.code.now c.regs-regs.result c.lines.result) (λ l. None) c.in-Miss.line c.in-Miss.mode =
-    (c.in-Miss.ensures.missed c.in-Miss.line c.in-Miss.mode).0 refl in
-    let need : need_of c.args.code.now (slot_at p.slots c.in-Some.slot).regs (lines_of p) ≡ needs.Copy c.in-Miss.line c.in-Miss.mode =
-    rw (← c.lines.ensures, ← c.self.view_is, ← c.regs-regs.ensures) missed.0 in
-    let runs : running p.slots p.current ≡ Some c.in-Some.slot = rw (← c.self.view_is) (sym c.in-Some.ensures) in
-    subst (λ (s : ProcessorStep). Steps p c.access.new.self c.args.sent.now c.access.new.sent c.access.result s)
-    (instr_needs c.args.code.now c.args.sent.now.stamp p (running p.slots p.current) c.in-Some.slot c.in-Miss.line c.in-Miss.mode runs need) c.access.ensures
+    let inside = c.self.inside in
+    let run = has_run c.args.code.now inside.number.0 inside.width inside.height inside.per_node inside.contexts _ inside.shared _ inside.openings c.in-Some.slot _ c.self.invariant (sym c.in-Some.ensures) c.in-Miss.ensures in
+    let by = rw (← c.self.view_is) at c.requires.begun.by in
+    rw (← c.self.view_is) (miss_steps _ _ _ _ _ _ _ _ _ c.ask.new.openings c.args.sent.now c.ask.new.sent run by c.ask.ensures.openings c.ask.ensures.sends)
+
+pub returns-in_default-take_turn : goal.returns-in_default-take_turn
+returns-in_default-take_turn c =
+    let inside = c.self.inside in
+    let run = has_run c.args.code.now inside.number.0 inside.width inside.height inside.per_node inside.contexts _ inside.shared _ inside.openings c.in-Some.slot _ c.self.invariant (sym c.in-Some.ensures) c.take_turn.ensures in
+    rw (← c.self.view_is) (turn_steps _ _ _ _ _ _ _ _ c.args.sent.now run c.in_default-take_turn.not-Miss c.requires.begun.empty)
