@@ -9,7 +9,7 @@ use alw_model::{Counts, Ended, TrapAt};
 use alw_num::NoMemory;
 use alw_text::{Spell, Text};
 
-/// The seven lines that a summary has too.
+/// The seven lines of a summary.
 #[tactic(auto, unfolding(crate::specs::Reports::summary_text))]
 pub fn put_summary(text: &mut Text, report: &Report) -> Result<(), NoMemory>
     ensures { OnOk result (text.new ≡ text.old ++ summary_text report.now) }

@@ -12,7 +12,7 @@ mod worked_runs;
 pub use head::{put_number, put_params};
 pub use lists::{put_memory, put_prints, put_runs};
 pub use memory::put_line;
-pub use reports::report;
+pub use reports::{report, summary};
 pub use values::{DirectoryLine, DirectoryLines, Report};
 pub use worked_runs::worked_reports;
 

@@ -1,4 +1,4 @@
-use crate::{DirectoryLine, DirectoryLines, Report, report};
+use crate::{DirectoryLine, DirectoryLines, Report, report, summary};
 use alw_image::Params;
 use alw_model::{Counts, Ended, TrapAt};
 use alw_msg::{Prints, Stretches, Words};
@@ -84,6 +84,16 @@ fn each_line_of_a_report(rt: HostRuntime) -> Result<(), Fail> {
     let text = report(alloc, &told(directory, alloc)?)?;
     let wanted =
         b"ALEWIFE REPORT 1\nmesh 3 1 contexts 2 lines 4\nparams pointers 1 sets 8 limit 2000\nended trapped node 2 slot 1 pc 0x00000040 tt 0x09\nentries 260 turns 78 misses 39 evicts 11\nmessages RREQ 14 WREQ 25 REPM 4 UPDATE 14 ACKC 7 RDATA 14 WDATA 21 INV 22 BUSY 5\nhops 116 handlers 8 spills 6\nruns 2\n3 2\n0 76\nprints 1\n5 0xdeadbeef\nmemory 1\n0x40000010 0x00000007\ndirectory 2\n3 RO trap-write hw 1 sw 0,2 acks 0\n11 WT normal hw - sw - acks 2\nend\n";
+    assert_eq!(rt; text.bytes(), wanted.as_slice());
+    Ok(())
+}
+
+#[test]
+fn a_summary_has_seven_lines(rt: HostRuntime) -> Result<(), Fail> {
+    let alloc = rt.alloc();
+    let text = summary(alloc, &told(DirectoryLines::empty(alloc), alloc)?)?;
+    let wanted =
+        b"ALEWIFE REPORT 1\nmesh 3 1 contexts 2 lines 4\nparams pointers 1 sets 8 limit 2000\nended trapped node 2 slot 1 pc 0x00000040 tt 0x09\nentries 260 turns 78 misses 39 evicts 11\nmessages RREQ 14 WREQ 25 REPM 4 UPDATE 14 ACKC 7 RDATA 14 WDATA 21 INV 22 BUSY 5\nhops 116 handlers 8 spills 6\n";
     assert_eq!(rt; text.bytes(), wanted.as_slice());
     Ok(())
 }
