@@ -1,3 +1,5 @@
+pub mod Json
 pub mod Reports
+pub mod Sends
 pub mod Words
 pub mod Worked

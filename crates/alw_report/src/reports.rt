@@ -12,9 +12,9 @@ use std::alloc::Global;
 pub fn summary(alloc: Global, told: &Report) -> Result<Text, NoMemory>
     ensures { IfOk result (λ text. text ≡ summary_text told.now) }
 {
-    let mut text = Text::empty(alloc);
-    put_summary(&mut text, told)?;
-    Ok(text)
+    let mut summary = Text::empty(alloc);
+    put_summary(&mut summary, told)?;
+    Ok(summary)
 }
 
 /// The text of a report.
