@@ -3,3 +3,4 @@ pub mod Reports
 pub mod Sends
 pub mod Words
 pub mod Worked
+pub mod WorkedJson

@@ -16,7 +16,7 @@ pub use lists::{put_memory, put_prints, put_runs};
 pub use memory::put_line;
 pub use reports::{report, summary};
 pub use values::{DirectoryLine, DirectoryLines, Report};
-pub use worked_runs::worked_reports;
+pub use worked_runs::{worked_json, worked_reports};
 
 #[cfg(test)]
 mod tests;
