@@ -29,7 +29,7 @@ MAP_TABLE = ['promise', 'function, clause', 'crate', 'edit that is refused']
 # Words in `code` that the repository doesn't declare: of Rust and its library, of the toolchain, and of the shell.
 OUTSIDE = set('''
     Model Option Some None Result Ok Err Vec String extend_from_slice from_be_bytes strip_prefix split_at where pub mod
-    Appends Consumes IsAtEnd Keeps IsPermutation FinMap take filter eqb-true arith nat_tests yes no
+    serde serde_json compact_text Appends Consumes IsAtEnd Keeps IsPermutation FinMap take filter eqb-true arith nat_tests yes no
     auto using unfolding unfoldable abbrev refl sym subst ap rw simp cc elim search omega grind rt plant renice asm
 '''.split())
 

@@ -76,7 +76,7 @@ head_text r = title ++ (mesh_line r ++ (params_line r.params ++ ended_line r.end
 unfoldable pub counts_text : Counts → List ℕ
 counts_text c = events_line c ++ (requests_text c ++ (replies_text c ++ hops_line c))
 
--- the seven lines that a summary has too
+-- the summary: seven lines, with which the report begins
 unfoldable pub summary_text : Report → List ℕ
 summary_text r = head_text r ++ counts_text r.counts
 
@@ -163,6 +163,9 @@ told_of parts parameters journal ended = record {
   directory = directory_lines parts (state parts parameters journal);
 }
 
--- the report of a run
+-- the summary of a run, and its report, which begins with the summary
+abbrev pub summary_of : Parts → Parameters → List Entry → Ended → List ℕ
+summary_of parts parameters journal ended = summary_text (told_of parts parameters journal ended)
+
 abbrev pub report_of : Parts → Parameters → List Entry → Ended → List ℕ
 report_of parts parameters journal ended = report_text (told_of parts parameters journal ended)

@@ -24,9 +24,9 @@ fn put_states(text: &mut Text, entry: &DirectoryLine) -> Result<(), NoMemory>
 {
     text.put_decimal(u64::from(entry.line.0))?;
     text.put(b" ")?;
-    put_state(text, entry.state)?;
+    text.put(state_name(entry.state).as_bytes())?;
     text.put(b" ")?;
-    put_meta(text, entry.meta)?;
+    text.put(meta_name(entry.meta).as_bytes())?;
     Ok(())
 }
 
@@ -44,25 +44,27 @@ fn put_pointers(text: &mut Text, entry: &DirectoryLine) -> Result<(), NoMemory>
     Ok(())
 }
 
-fn put_state(text: &mut Text, state: State) -> Result<(), NoMemory>
-    ensures { OnOk result (text.new ≡ text.old ++ state_text state) }
+/// The name of a state of the home table.
+pub fn state_name(state: State) -> &'static str
+    ensures { result.now ≡ state_text state }
 {
     match state {
-        State::RO => text.put(b"RO"),
-        State::RW => text.put(b"RW"),
-        State::RT => text.put(b"RT"),
-        State::WT => text.put(b"WT"),
+        State::RO => "RO",
+        State::RW => "RW",
+        State::RT => "RT",
+        State::WT => "WT",
     }
 }
 
-fn put_meta(text: &mut Text, meta: Meta) -> Result<(), NoMemory>
-    ensures { OnOk result (text.new ≡ text.old ++ meta_text meta) }
+/// The name of a meta state.
+pub fn meta_name(meta: Meta) -> &'static str
+    ensures { result.now ≡ meta_text meta }
 {
     match meta {
-        Meta::Normal => text.put(b"normal"),
-        Meta::Progress => text.put(b"progress"),
-        Meta::TrapWrite => text.put(b"trap-write"),
-        Meta::TrapAlways => text.put(b"trap-always"),
+        Meta::Normal => "normal",
+        Meta::Progress => "progress",
+        Meta::TrapWrite => "trap-write",
+        Meta::TrapAlways => "trap-always",
     }
 }
 

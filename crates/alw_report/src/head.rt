@@ -1,4 +1,4 @@
-ghost use Rattle.std.specs.Prelude.{◌≡◌, ◌++◌, OnOk};
+ghost use Rattle.std.specs.Prelude.{◌≡◌, ◌++◌, OnOk, IsUtf8};
 ghost use Rattle.std.specs.Fmt.{decimal};
 ghost use Rattle.alw_model.specs.declared.ends.Ended.TheVariants.{Trapped};
 ghost use Rattle.alw_report.specs.Reports.{title, mesh_line, params_word, params_line, ended_text, ended_line, events_line, requests_text, replies_text, hops_line, head_text, counts_text, summary_text};
@@ -9,7 +9,7 @@ use alw_model::{Counts, Ended, TrapAt};
 use alw_num::NoMemory;
 use alw_text::{Spell, Text};
 
-/// The seven lines that a summary has too.
+/// The seven lines of a summary.
 #[tactic(auto, unfolding(crate::specs::Reports::summary_text))]
 pub fn put_summary(text: &mut Text, report: &Report) -> Result<(), NoMemory>
     ensures { OnOk result (text.new ≡ text.old ++ summary_text report.now) }
@@ -101,9 +101,11 @@ fn put_ended_line(text: &mut Text, ended: &Ended) -> Result<(), NoMemory>
     Ok(())
 }
 
-// How the run ended.
-fn put_ended(text: &mut Text, ended: &Ended) -> Result<(), NoMemory>
-    ensures { OnOk result (text.new ≡ text.old ++ ended_text ended.now) }
+/// How the run ended, in UTF-8.
+#[tactic(auto, using(crate::proofs::Utf8::halted_is_utf8, crate::proofs::Utf8::limit_is_utf8))]
+pub fn put_ended(text: &mut Text, ended: &Ended) -> Result<(), NoMemory>
+    ensures text { OnOk result (text.new ≡ text.old ++ ended_text ended.now) }
+    ensures utf8 { OnOk result (IsUtf8 (ended_text ended.now)) }
 {
     match ended {
         Ended::Halted => text.put(b"halted"),
@@ -114,7 +116,8 @@ fn put_ended(text: &mut Text, ended: &Ended) -> Result<(), NoMemory>
 
 // The first trapping turn.
 fn put_trap(text: &mut Text, at: &TrapAt) -> Result<(), NoMemory>
-    ensures { OnOk result (text.new ≡ text.old ++ ended_text (Trapped at.now)) }
+    ensures text { OnOk result (text.new ≡ text.old ++ ended_text (Trapped at.now)) }
+    ensures utf8 { OnOk result (IsUtf8 (ended_text (Trapped at.now))) }
 {
     put_number(text, b"trapped node ", u64::from(at.node))?;
     put_number(text, b" slot ", u64::from(at.slot))?;

@@ -3,6 +3,7 @@
 
 mod entries;
 mod head;
+mod json_text;
 mod lists;
 mod memory;
 mod reports;
@@ -10,11 +11,12 @@ mod values;
 mod worked_runs;
 
 pub use head::{put_number, put_params};
+pub use json_text::json;
 pub use lists::{put_memory, put_prints, put_runs};
 pub use memory::put_line;
-pub use reports::report;
+pub use reports::{report, summary};
 pub use values::{DirectoryLine, DirectoryLines, Report};
-pub use worked_runs::worked_reports;
+pub use worked_runs::{worked_json, worked_reports};
 
 #[cfg(test)]
 mod tests;

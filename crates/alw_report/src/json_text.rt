@@ -1,0 +1,174 @@
+ghost use Rattle.std.specs.Prelude.{◌≡◌, IfOk, OnOk, IsUtf8};
+ghost use Rattle.alw_num.specs.NodeSets.{nodes_of, members};
+ghost use Rattle.serde_json.specs.Events.{SendsValue};
+ghost use Rattle.alw_report.specs.Json.{natural, listed, counts_data, params_data, entry_data, ended_data, object_text, json_text};
+ghost use Rattle.alw_report.specs.Sends.{Named};
+
+use crate::entries::{meta_name, state_name};
+use crate::head::put_ended;
+use crate::values::{DirectoryLine, Report};
+use alw_image::Params;
+use alw_model::Counts;
+use alw_num::{NoMemory, NodeSet};
+use alw_text::Text;
+use serde::{Described, Serialize, Serializer};
+use std::alloc::Global;
+
+/// The text of a report as JSON (RFC 8259): one object without blanks, the keys of each object in
+/// the order of their bytes, and LF.
+#[tactic(auto, unfolding(crate::specs::Json::json_text))]
+pub fn json(alloc: Global, told: &Report) -> Result<Text, NoMemory>
+    ensures { IfOk result (λ text. text ≡ json_text told.now) }
+{
+    let mut ended = Text::empty(alloc);
+    put_ended(&mut ended, &told.ended)?;
+    let mut text = spelled(alloc, told, str_of(&ended))?;
+    text.push(b'\n')?;
+    Ok(text)
+}
+
+// The bytes of UTF-8 as a `str`.
+fn str_of(text: &Text) -> &str
+    requires { IsUtf8 text.now }
+    ensures { result.now ≡ text.now }
+{
+    match std::str::from_utf8(text.bytes()) {
+        Ok(words) => words,
+        Err(_) => unreachable!(),
+    }
+}
+
+// The object of a report, whose end has these words.
+fn spelled(alloc: Global, told: &Report, ended: &str) -> Result<Text, NoMemory>
+    ensures { IfOk result (λ text. text ≡ object_text told.now ended.now) }
+{
+    match serde_json::to_vec(alloc, &ReportObject { told, ended }) {
+        Ok(bytes) => Ok(Text::from(bytes)),
+        Err(_) => Err(NoMemory),
+    }
+}
+
+// A member of an object: a key and its value.
+fn put<S: Serializer, T: Serialize>(out: &mut S, key: &str, value: &T) -> Result<(), S::Error>
+    ensures { OnOk result (Named key.now (T.writes value.now) (S.written out.old) (S.written out.new)) }
+{
+    out.key(key)?;
+    value.serialize(out)
+}
+
+// A report, with the words of its end.
+#[derive(Clone, Copy)]
+struct ReportObject<'a> {
+    told: &'a Report,
+    ended: &'a str,
+}
+
+impl Described for ReportObject<'_> {
+    ghost writes = { λ o. SendsValue (ended_data o.told.now o.ended.now) };
+}
+
+impl Serialize for ReportObject<'_> {
+    fn serialize<S: Serializer>(&self, out: &mut S) -> Result<(), S::Error> {
+        let told = self.told;
+        out.begin_map(Some(10))?;
+        put(out, "contexts", &told.contexts)?;
+        put(out, "counts", &CountsObject(&told.counts))?;
+        put(out, "directory", &told.directory.members())?;
+        put(out, "ended", &self.ended)?;
+        put(out, "lines", &told.per_node)?;
+        put(out, "memory", &told.memory.members())?;
+        put(out, "mesh", &(told.width, told.height))?;
+        put(out, "params", &ParamsObject(&told.params))?;
+        put(out, "prints", &told.prints.members())?;
+        put(out, "runs", &told.runs.members())?;
+        out.end_map()
+    }
+}
+
+// The counts of a run.
+#[derive(Clone, Copy)]
+struct CountsObject<'a>(&'a Counts);
+
+impl Described for CountsObject<'_> {
+    ghost writes = { λ o. SendsValue (counts_data o.0.now) };
+}
+
+impl Serialize for CountsObject<'_> {
+    fn serialize<S: Serializer>(&self, out: &mut S) -> Result<(), S::Error> {
+        let counts = self.0;
+        out.begin_map(Some(16))?;
+        put(out, "ACKC", &counts.ackc)?;
+        put(out, "BUSY", &counts.busy)?;
+        put(out, "INV", &counts.inv)?;
+        put(out, "RDATA", &counts.rdata)?;
+        put(out, "REPM", &counts.repm)?;
+        put(out, "RREQ", &counts.rreq)?;
+        put(out, "UPDATE", &counts.update)?;
+        put(out, "WDATA", &counts.wdata)?;
+        put(out, "WREQ", &counts.wreq)?;
+        put(out, "entries", &counts.entries)?;
+        put(out, "evicts", &counts.evicts)?;
+        put(out, "handlers", &counts.handlers)?;
+        put(out, "hops", &counts.hops)?;
+        put(out, "misses", &counts.misses)?;
+        put(out, "spills", &counts.spills)?;
+        put(out, "turns", &counts.turns)?;
+        out.end_map()
+    }
+}
+
+// The parameters that a report tells.
+#[derive(Clone, Copy)]
+struct ParamsObject<'a>(&'a Params);
+
+impl Described for ParamsObject<'_> {
+    ghost writes = { λ o. SendsValue (params_data o.0.now) };
+}
+
+impl Serialize for ParamsObject<'_> {
+    fn serialize<S: Serializer>(&self, out: &mut S) -> Result<(), S::Error> {
+        let params = self.0;
+        out.begin_map(Some(3))?;
+        put(out, "limit", &params.limit())?;
+        put(out, "pointers", &params.pointers())?;
+        put(out, "sets", &params.sets())?;
+        out.end_map()
+    }
+}
+
+impl Described for DirectoryLine {
+    ghost writes = { λ d. SendsValue (entry_data d) };
+}
+
+impl Serialize for DirectoryLine {
+    fn serialize<S: Serializer>(&self, out: &mut S) -> Result<(), S::Error> {
+        out.begin_map(Some(6))?;
+        put(out, "acks", &self.acks)?;
+        put(out, "hw", &Nodes(self.hardware))?;
+        put(out, "line", &self.line.0)?;
+        put(out, "meta", &meta_name(self.meta))?;
+        put(out, "state", &state_name(self.state))?;
+        put(out, "sw", &Nodes(self.software))?;
+        out.end_map()
+    }
+}
+
+// A set of nodes, as the list of its members.
+#[derive(Clone, Copy)]
+struct Nodes(NodeSet);
+
+impl Described for Nodes {
+    ghost writes = { λ s. SendsValue (listed natural (members (nodes_of s.0))) };
+}
+
+impl Serialize for Nodes {
+    fn serialize<S: Serializer>(&self, out: &mut S) -> Result<(), S::Error> {
+        let mut rest = self.0;
+        out.begin_seq(Some(rest.count() as usize))?;
+        while let Some(node) = rest.lowest() {
+            out.u64(u64::from(node.0))?;
+            rest = rest.without(node);
+        }
+        out.end_seq()
+    }
+}
