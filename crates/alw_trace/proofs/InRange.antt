@@ -69,18 +69,18 @@ answers text lines (Err fault) form ok err = wrong_lines text lines fault form e
 
 -- ---- what is wrong with the lines of a trace
 
-no_fault : (bytes : List ℕ) (lines : TraceLines) (image : Parts) → bytes ≡ lines.image → IsImageOf bytes image → image_fault lines.image ≡ None
-no_fault bytes lines image e is = ap image_fault (sym e) ∙ is.accepted
+pub no_fault : (bytes other : List ℕ) (image : Parts) → bytes ≡ other → IsImageOf bytes image → image_fault other ≡ None
+no_fault bytes other image e is = ap image_fault (sym e) ∙ is.accepted
 
 pub wrong_params : (bytes : List ℕ) (lines : TraceLines) (image : Parts) (line : ℕ) → bytes ≡ lines.image → IsImageOf bytes image → line ≡ behind_image lines.image → are_parameters lines.params ≡ false → IsWrong lines (Range line)
-wrong_params bytes lines image line e is here unfit = (no_fault bytes lines image e is, params_unfit (node_count (image_in lines.image)) line lines here unfit)
+wrong_params bytes lines image line e is here unfit = (no_fault bytes lines.image image e is, params_unfit (node_count (image_in lines.image)) line lines here unfit)
 
 pub wrong_count : (bytes : List ℕ) (raw : RawTrace) (image : Parts) (line : ℕ) → bytes ≡ raw.image → IsImageOf bytes image → line ≡ behind_image raw.image → are_parameters (lines_of raw).params ≡ true
     → 4294967295 < length raw.entries.items → IsWrong (lines_of raw) (Range (line + 1))
 wrong_count bytes raw image line e is here fit long =
     let size = length-map raw.entries.items entry_of in
     let many : is_short (map entry_of raw.entries.items) ≡ false = grind (arith, nat_tests) in
-    (no_fault bytes (lines_of raw) image e is, count_unfit (node_count (image_in raw.image)) line (lines_of raw) here fit many)
+    (no_fault bytes raw.image image e is, count_unfit (node_count (image_in raw.image)) line (lines_of raw) here fit many)
 
 pub wrong_entry : (bytes : List ℕ) (raw : RawTrace) (image parts : Parts) (params : Parameters) (line nodes sets : ℕ) (entries : List RawEntry) (fault : TextErr) → bytes ≡ raw.image → IsImageOf bytes image
     → line ≡ behind_image raw.image → are_parameters (lines_of raw).params ≡ true → length raw.entries.items ≤ 4294967295 → parts ≡ image → nodes ≡ node_count parts → params ≡ (lines_of raw).params → sets ≡ params.sets → entries ≡ raw.entries.items
@@ -110,5 +110,5 @@ wrong_entry bytes raw image parts params line nodes sets entries fault e is here
         ap (λ (n : ℕ). first_unfit (tested (fits_entry n lines.params.sets) (line + 2) lines.journal)) (sym number)
         ∙ ap (λ (s : ℕ). first_unfit (tested (fits_entry nodes s) (line + 2) lines.journal)) (sym sets-is)
         ∙ ap (λ (es : List RawEntry). first_unfit (tested (fits_entry nodes sets) (line + 2) (map entry_of es))) (sym all) ∙ is_at in
-        (no_fault bytes lines image e is, entry_unfit (node_count (image_in raw.image)) line at lines here fit short there)
+        (no_fault bytes lines.image image e is, entry_unfit (node_count (image_in raw.image)) line at lines here fit short there)
     go NoMemory none = tt

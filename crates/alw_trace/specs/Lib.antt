@@ -3,3 +3,4 @@ pub mod Lines
 pub mod Readings
 pub mod Fields
 pub mod Raw
+pub mod Lists

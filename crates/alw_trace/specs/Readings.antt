@@ -70,6 +70,10 @@ run_tests contexts line turns before [] = []
 run_tests contexts line turns before (run ∷ rest) =
     (line, fits_run contexts turns before run) ∷ run_tests contexts (line + 1) (turns + run.1) (Some run.0) rest
 
+-- the runs behind their heading, which has this number
+abbrev pub runs_tests : ℕ → ℕ → List (ℕ × ℕ) → List (ℕ × Bool)
+runs_tests contexts at runs = (at, is_short runs) ∷ run_tests contexts (at + 1) 0 None runs
+
 -- a print of a context that there is
 abbrev pub fits_print : ℕ → ℕ × ℕ → Bool
 fits_print contexts print = nat_lt print.0 contexts
@@ -86,15 +90,21 @@ abbrev pub word_tests : ℕ → ℕ → Option ℕ → List (ℕ × ℕ) → Lis
 word_tests lines line before [] = []
 word_tests lines line before (word ∷ rest) = (line, fits_word lines before word) ∷ word_tests lines (line + 1) (Some word.0) rest
 
+-- the prints and the words behind theirs
+abbrev pub prints_tests : ℕ → ℕ → List (ℕ × ℕ) → List (ℕ × Bool)
+prints_tests contexts at prints = (at, is_short prints) ∷ tested (fits_print contexts) (at + 1) prints
+
+abbrev pub memory_tests : ℕ → ℕ → List (ℕ × ℕ) → List (ℕ × Bool)
+memory_tests lines at memory = (at, is_short memory) ∷ word_tests lines (at + 1) None memory
+
 -- of a claim of an image
 unfoldable pub claim_tests : Parts → ClaimLines → List (ℕ × Bool)
 claim_tests image c =
     let runs = behind_image c.image in
     let prints = runs + 1 + length c.runs in
     let memory = prints + 1 + length c.prints in
-    (runs, is_short c.runs) ∷ run_tests (context_count image) (runs + 1) 0 None c.runs
-    ++ ((prints, is_short c.prints) ∷ tested (fits_print (context_count image)) (prints + 1) c.prints
-    ++ ((memory, is_short c.memory) ∷ word_tests (line_count image) (memory + 1) None c.memory))
+    runs_tests (context_count image) runs c.runs
+    ++ (prints_tests (context_count image) prints c.prints ++ memory_tests (line_count image) memory c.memory)
 
 -- ---- traces and claims
 

@@ -31,3 +31,16 @@ pub struct RawTrace {
     pub params: RawParams,
     pub entries: Vec<RawEntry>,
 }
+
+/// What the lines of a claim say, in range or not.
+#[derive(Debug, Drop)]
+pub struct RawClaim {
+    /// The bytes of the image.
+    pub image: Bytes,
+    /// Contexts, each with a number of turns.
+    pub runs: Vec<(u64, u64)>,
+    /// Contexts, each with a printed word.
+    pub prints: Vec<(u64, u64)>,
+    /// Addresses, each with a word.
+    pub memory: Vec<(u64, u64)>,
+}

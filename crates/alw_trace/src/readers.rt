@@ -1,9 +1,14 @@
 ghost use Rattle.std.specs.Prelude.{◌≡◌, ◌≢◌, ◌<◌, ◌≤◌, ◌^◌, ◌++◌, ◌∷◌, ◌==◌, List, ℕ, length, position, IfSome, IfNone, MatchOption};
 ghost use Rattle.std.specs.Fmt.{decimal};
+ghost use Rattle.alw_text.specs.Numbers.{hex_word};
+ghost use Rattle.alw_image.specs.Numbers.{IsWord};
 ghost use Rattle.alw_trace.specs.Texts.{byte_digits};
 ghost use Rattle.alw_trace.specs.Lines.{IsByte, Lacks};
 
-use alw_text::{decimal, hex_value};
+use alw_text::{decimal, hex_value, hex32};
+
+// Bytes of a word: `0x` and eight digits.
+const WORD: usize = 10;
 
 // What follows these bytes at the front. None exactly where they don't stand there.
 pub fn behind<'a>(text: &'a [u8], front: &[u8]) -> Option<&'a [u8]>
@@ -58,4 +63,20 @@ pub fn byte_at(text: &[u8]) -> Option<(u8, &[u8])>
     let (second, rest) = rest.split_first()?;
     let low = hex_value(*second)?;
     Some(((high * 16 + low) as u8, rest))
+}
+
+// The word in hexadecimal before such a byte, and what follows that byte. None exactly where no word
+// stands before one.
+pub fn word_before(text: &[u8], stop: u8) -> Option<(u64, &[u8])>
+    ensures found { IfSome result (λ read. text.now ≡ hex_word read.0 ++ stop ∷ read.1.now) }
+    ensures range { IfSome result (λ read. IsWord read.0) }
+    ensures none { IfNone result ((n : ℕ) → (rest : List ℕ) → IsWord n → text.now ≢ hex_word n ++ stop ∷ rest) }
+{
+    if text.len() < WORD {
+        return None;
+    }
+    let (spelled, rest) = text.split_at(WORD);
+    let word = hex32(spelled)?;
+    let rest = behind(rest, &[stop])?;
+    Some((u64::from(word), rest))
 }

@@ -70,7 +70,7 @@ fn lines_at(
 }
 
 // The last line, which has this number, and nothing behind it.
-fn end_at(text: &[u8], last: u64) -> Result<(), TextErr>
+pub fn end_at(text: &[u8], last: u64) -> Result<(), TextErr>
     requires { last < 2 ^ 64 - 1 }
     ensures ok { OnOk result (text.now ≡ codes "end\n") }
     ensures err { IfErr result (IsSyntax (IsFaultAtEnd last text.now)) }
