@@ -10,6 +10,7 @@ use Rattle.alw_image.specs.declared.parts.Parts.{Parts}
 use Rattle.alw_image.specs.declared.parameters.TheConstants.{MOST_POINTERS, MOST_LIMIT}
 use Rattle.alw_image.specs.declared.faults.ImageErr.{ImageErr}
 use Rattle.alw_image.specs.Images.{IsImage, node_count, context_count, line_count}
+use Rattle.alw_image.specs.Numbers.{HasWords}
 use Rattle.alw_image.specs.Parameters.{Parameters, AreParameters, set_counts}
 use Rattle.alw_image.specs.Faults.{image_fault, image_in, first_unfit, is_above, is_within}
 use Rattle.alw_trace.specs.declared.values.Trace.{Trace}
@@ -124,6 +125,10 @@ pub record IsTrace (trace : Trace) : Type 0 where
   pub params : AreParameters trace.params
   pub evict : trace.params.evict ≡ 0
   pub journal : AllByRecursion (IsStamped (node_count trace.image) trace.params.sets) trace.journal
+
+-- what a trace is by its type: its program and data are of 32-bit words, and it has fewer than 2^32 entries
+abbrev pub HasTypes : Trace → Type 0
+HasTypes trace = HasWords trace.image × (length trace.journal < 2 ^ 32)
 
 -- the address of a word of an image's shared data
 abbrev pub IsSharedAddress : Parts → ℕ → Type 0

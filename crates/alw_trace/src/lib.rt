@@ -8,6 +8,7 @@ mod entries;
 mod faults;
 mod image_lines;
 mod images;
+mod laws;
 mod lines;
 mod pairs;
 mod ranges;
@@ -20,6 +21,7 @@ mod writing;
 
 pub use claim_reading::read_claim;
 pub use faults::TextErr;
+pub use laws::traces_are_read_back;
 pub use reading::read_trace;
 pub use values::{Claim, Trace};
 pub use writing::{write_claim, write_trace};
