@@ -34,7 +34,7 @@ is_other_than None c e = tt
 is_other_than (Some before) c e = λ same. true≢false (sym e ∙ ap not (let t : (c == before) ≡ true = grind (arith, nat_tests) in t))
 
 -- the first of some runs is of another context
-abbrev starts_other : Option ℕ → List (ℕ × ℕ) → Type 0
+abbrev pub starts_other : Option ℕ → List (ℕ × ℕ) → Type 0
 starts_other before [] = Unit {0}
 starts_other before (run ∷ rest) = other_than before run.0
 
@@ -49,7 +49,7 @@ all_same : (contexts context count : ℕ) → context < contexts → AllByRecurs
 all_same contexts context zero l = tt
 all_same contexts context (suc count) l = (l, all_same contexts context count l)
 
-length-same : (count context : ℕ) → length (replicate count context) ≡ count
+pub length-same : (count context : ℕ) → length (replicate count context) ≡ count
 length-same zero context = refl
 length-same (suc count) context = let more = length-same count context in omega arith
 
@@ -91,7 +91,7 @@ stretch (suc count) context turns rest is apart =
     ap (in_front context 1) (stretch count context turns rest is apart) ∙ merged context (suc count) rest
     ∙ ap (λ (n : ℕ). (context, n) ∷ rest) (let e : 1 + suc count ≡ suc (suc count) = omega arith in e)
 
-tail_longest : (run : ℕ × ℕ) (rest : List (ℕ × ℕ)) → AreLongest (run ∷ rest) → (1 ≤ run.1) × (AreLongest rest × starts_other (Some run.0) rest)
+pub tail_longest : (run : ℕ × ℕ) (rest : List (ℕ × ℕ)) → AreLongest (run ∷ rest) → (1 ≤ run.1) × (AreLongest rest × starts_other (Some run.0) rest)
 tail_longest run [] are = (are, (tt, tt))
 tail_longest run (next ∷ rest) (some, apart, are) = (some, (are, (λ same. apart (sym same))))
 

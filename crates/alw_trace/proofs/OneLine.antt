@@ -55,7 +55,7 @@ no_fault_in_list IsX line name first fault xs u one all small (list_line count r
 
 -- ---- bytes
 
-one_digit : (a b : ℕ) → a < 16 → b < 16 → hex_digit a ≡ hex_digit b → a ≡ b
+pub one_digit : (a b : ℕ) → a < 16 → b < 16 → hex_digit a ≡ hex_digit b → a ≡ b
 one_digit a b l k e = grind (arith, nat_tests)
 
 one_byte : (a b : ℕ) (u v : List ℕ) → IsByte a → IsByte b → byte_digits a ++ u ≡ byte_digits b ++ v → (a ≡ b) × (u ≡ v)

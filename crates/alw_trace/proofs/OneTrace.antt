@@ -144,7 +144,7 @@ header_bytes p i =
     let behind : AllByRecursion IsByte sides = (omega arith, (omega arith, (omega arith, (omega arith, all_append IsByte per_node (counts p) (half_bytes p.per_node) numbers)))) in
     (omega arith, (omega arith, (omega arith, (omega arith, all_append IsByte (to_be_bytes w16 (version_of p)) sides (half_bytes (version_of p)) behind))))
 
-spelling_bytes : (p : Parts) → IsImage p → AllByRecursion IsByte (spelling p)
+pub spelling_bytes : (p : Parts) → IsImage p → AllByRecursion IsByte (spelling p)
 unfolding spelling
 spelling_bytes p i =
     let always = words_bytes p.always in
@@ -168,10 +168,10 @@ entries nodes sets (entry ∷ rest) few less all =
     let stamp : IsNumber entry.stamp = (let l = all.0.1.0 in omega arith) in
     ((stamp, numbers nodes sets entry.event few less all.0.1.1), entries nodes sets rest few less all.1)
 
-few_nodes : (p : Parts) → IsImage p → node_count p ≤ 256
+pub few_nodes : (p : Parts) → IsImage p → node_count p ≤ 256
 few_nodes p i = product p.width p.height 16 16 i.width.1 i.height.1
 
-short_spelling : (p : Parts) → IsImage p → IsNumber (length (spelling p))
+pub short_spelling : (p : Parts) → IsImage p → IsNumber (length (spelling p))
 short_spelling p i =
     let s = image_sizes p i in
     let code = s.code in
@@ -229,7 +229,7 @@ trace_passes t is types =
     let short : is_short t.journal ≡ true = (let l = types.1 in grind (arith, nat_tests)) in
     rw (fit t.params is.params, short) (all_pass (node_count t.image) t.params.sets _ t.journal is.journal)
 
-image_back : (p : Parts) → IsImage p → HasWords p → image_in (spelling p) ≡ p
+pub image_back : (p : Parts) → IsImage p → HasWords p → image_in (spelling p) ≡ p
 image_back p i w = ap (λ (h : Header). parts_in h (spelling p)) (header-of_spelling p i) ∙ parts_back p i w
 
 -- its text is refused for want of memory alone

@@ -10,7 +10,7 @@ use Rattle.alw_image.specs.declared.parts.Parts.{Parts}
 use Rattle.alw_image.specs.declared.parameters.TheConstants.{MOST_POINTERS, MOST_LIMIT}
 use Rattle.alw_image.specs.declared.faults.ImageErr.{ImageErr}
 use Rattle.alw_image.specs.Images.{IsImage, node_count, context_count, line_count}
-use Rattle.alw_image.specs.Numbers.{HasWords}
+use Rattle.alw_image.specs.Numbers.{IsWord, HasWords}
 use Rattle.alw_image.specs.Parameters.{Parameters, AreParameters, set_counts}
 use Rattle.alw_image.specs.Faults.{image_fault, image_in, first_unfit, is_above, is_within}
 use Rattle.alw_trace.specs.declared.values.Trace.{Trace}
@@ -142,6 +142,14 @@ pub record IsClaim (claim : Claim) : Type 0 where
   pub prints : AllByRecursion (λ print. print.0 < context_count claim.image) claim.prints
   pub memory : AllByRecursion (λ word. IsSharedAddress claim.image word.0 × (word.1 ≢ 0)) claim.memory
   pub ascends : IsStrictlyIncreasing (map (λ word. word.0) claim.memory)
+
+-- what a claim is by its type: its words are of 32 bits, and its lists have fewer than 2^32 members
+pub record HasClaimTypes (claim : Claim) : Type 0 where
+  pub words : HasWords claim.image
+  pub printed : AllByRecursion (λ print. IsWord print.1) claim.prints
+  pub print_count : length claim.prints < 2 ^ 32
+  pub stored : AllByRecursion (λ word. IsWord word.1) claim.memory
+  pub word_count : length claim.memory < 2 ^ 32
 
 -- ---- readings
 

@@ -1,10 +1,11 @@
 ghost use Rattle.std.specs.Prelude.{◌≡◌, ℕ, Err};
+ghost use Rattle.alw_trace.specs.declared.values.Claim.{Claim};
 ghost use Rattle.alw_trace.specs.declared.values.Trace.{Trace};
 ghost use Rattle.alw_trace.specs.declared.faults.TextErr.{TextErr};
 ghost use Rattle.alw_trace.specs.declared.faults.TextErr.TheVariants.{NoMemory};
-ghost use Rattle.alw_trace.specs.Texts.{trace_text};
-ghost use Rattle.alw_trace.specs.Lines.{AreTraceLines, IsTraceFault, TraceLines, trace_lines};
-ghost use Rattle.alw_trace.specs.Readings.{HasTypes, IsTrace, ReadsTrace};
+ghost use Rattle.alw_trace.specs.Texts.{claim_text, trace_text};
+ghost use Rattle.alw_trace.specs.Lines.{AreClaimLines, AreTraceLines, ClaimLines, IsClaimFault, IsTraceFault, TraceLines, claim_lines, trace_lines};
+ghost use Rattle.alw_trace.specs.Readings.{HasClaimTypes, HasTypes, IsClaim, IsTrace, ReadsClaim, ReadsTrace};
 
 /// A text says one thing. A text of the form of a trace has no line at fault, and says one thing; no two
 /// traces have the same text; and a trace's text is refused for want of memory alone. So what `write_trace`
@@ -16,4 +17,13 @@ pub fn traces_are_read_back()
     ensures said { (one other : TraceLines) → AreTraceLines one → AreTraceLines other → trace_lines one ≡ trace_lines other → one ≡ other }
     ensures same { (one other : Trace) → IsTrace one → IsTrace other → HasTypes one → HasTypes other → trace_text one ≡ trace_text other → one ≡ other }
     ensures read { (trace : Trace) → (fault : TextErr) → IsTrace trace → HasTypes trace → ReadsTrace (trace_text trace) (Err fault) → fault ≡ NoMemory }
+{}
+
+/// The same of claims.
+#[tactic(auto, using(crate::proofs::OneClaim::one_claim, crate::proofs::ReadClaims::same_claim, crate::proofs::ReadClaims::claim_back))]
+pub fn claims_are_read_back()
+    ensures formed { (lines : ClaimLines) → (fault : ℕ) → AreClaimLines lines → ¬ IsClaimFault (claim_lines lines) fault }
+    ensures said { (one other : ClaimLines) → AreClaimLines one → AreClaimLines other → claim_lines one ≡ claim_lines other → one ≡ other }
+    ensures same { (one other : Claim) → IsClaim one → IsClaim other → HasClaimTypes one → HasClaimTypes other → claim_text one ≡ claim_text other → one ≡ other }
+    ensures read { (claim : Claim) → (fault : TextErr) → IsClaim claim → HasClaimTypes claim → ReadsClaim (claim_text claim) (Err fault) → fault ≡ NoMemory }
 {}

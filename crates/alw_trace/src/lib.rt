@@ -21,7 +21,7 @@ mod writing;
 
 pub use claim_reading::read_claim;
 pub use faults::TextErr;
-pub use laws::traces_are_read_back;
+pub use laws::{claims_are_read_back, traces_are_read_back};
 pub use reading::read_trace;
 pub use values::{Claim, Trace};
 pub use writing::{write_claim, write_trace};
