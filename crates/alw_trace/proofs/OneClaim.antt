@@ -64,29 +64,29 @@ one_text IsX line name one xs ys u v are all small few e =
     (sym (append_assoc (heading name (length xs)) (flat_map line xs) u) ∙ e ∙ append_assoc (heading name (length ys)) (flat_map line ys) v) in
     one_list IsX line one xs ys u v are all head.0 head.1
 
-one_runs : (xs ys : List (ℕ × ℕ)) (u v : List ℕ) → AllByRecursion IsRun xs → AllByRecursion IsRun ys → IsNumber (length xs) → IsNumber (length ys) → runs_text xs ++ u ≡ runs_text ys ++ v → (xs ≡ ys) × (u ≡ v)
+pub one_runs : (xs ys : List (ℕ × ℕ)) (u v : List ℕ) → AllByRecursion IsRun xs → AllByRecursion IsRun ys → IsNumber (length xs) → IsNumber (length ys) → runs_text xs ++ u ≡ runs_text ys ++ v → (xs ≡ ys) × (u ≡ v)
 unfolding runs_text
 one_runs xs ys u v are all small few e = one_text IsRun run_line (codes "runs") one_run xs ys u v are all small few e
 
-one_prints : (xs ys : List (ℕ × ℕ)) (u v : List ℕ) → AllByRecursion IsPrint xs → AllByRecursion IsPrint ys → IsNumber (length xs) → IsNumber (length ys) → prints_text xs ++ u ≡ prints_text ys ++ v → (xs ≡ ys) × (u ≡ v)
+pub one_prints : (xs ys : List (ℕ × ℕ)) (u v : List ℕ) → AllByRecursion IsPrint xs → AllByRecursion IsPrint ys → IsNumber (length xs) → IsNumber (length ys) → prints_text xs ++ u ≡ prints_text ys ++ v → (xs ≡ ys) × (u ≡ v)
 unfolding prints_text
 one_prints xs ys u v are all small few e = one_text IsPrint print_line (codes "prints") one_print xs ys u v are all small few e
 
-one_memory : (xs ys : List (ℕ × ℕ)) (u v : List ℕ) → AllByRecursion IsMemoryWord xs → AllByRecursion IsMemoryWord ys → IsNumber (length xs) → IsNumber (length ys) → memory_text xs ++ u ≡ memory_text ys ++ v → (xs ≡ ys) × (u ≡ v)
+pub one_memory : (xs ys : List (ℕ × ℕ)) (u v : List ℕ) → AllByRecursion IsMemoryWord xs → AllByRecursion IsMemoryWord ys → IsNumber (length xs) → IsNumber (length ys) → memory_text xs ++ u ≡ memory_text ys ++ v → (xs ≡ ys) × (u ≡ v)
 unfolding memory_text
 one_memory xs ys u v are all small few e = one_text IsMemoryWord word_line (codes "memory") one_memory_word xs ys u v are all small few e
 
-no_fault_in_runs : (xs : List (ℕ × ℕ)) (u : List ℕ) (first fault : ℕ) → AllByRecursion IsRun xs → IsNumber (length xs) → ¬ IsFaultInList IsRun run_line (codes "runs") first (runs_text xs ++ u) fault
+pub no_fault_in_runs : (xs : List (ℕ × ℕ)) (u : List ℕ) (first fault : ℕ) → AllByRecursion IsRun xs → IsNumber (length xs) → ¬ IsFaultInList IsRun run_line (codes "runs") first (runs_text xs ++ u) fault
 unfolding runs_text
 no_fault_in_runs xs u first fault all small is = no_fault_in_list IsRun run_line (codes "runs") first fault xs u one_run all small
     (subst (λ (t : List ℕ). IsFaultInList IsRun run_line (codes "runs") first t fault) (append_assoc (heading (codes "runs") (length xs)) (flat_map run_line xs) u) is)
 
-no_fault_in_prints : (xs : List (ℕ × ℕ)) (u : List ℕ) (first fault : ℕ) → AllByRecursion IsPrint xs → IsNumber (length xs) → ¬ IsFaultInList IsPrint print_line (codes "prints") first (prints_text xs ++ u) fault
+pub no_fault_in_prints : (xs : List (ℕ × ℕ)) (u : List ℕ) (first fault : ℕ) → AllByRecursion IsPrint xs → IsNumber (length xs) → ¬ IsFaultInList IsPrint print_line (codes "prints") first (prints_text xs ++ u) fault
 unfolding prints_text
 no_fault_in_prints xs u first fault all small is = no_fault_in_list IsPrint print_line (codes "prints") first fault xs u one_print all small
     (subst (λ (t : List ℕ). IsFaultInList IsPrint print_line (codes "prints") first t fault) (append_assoc (heading (codes "prints") (length xs)) (flat_map print_line xs) u) is)
 
-no_fault_in_memory : (xs : List (ℕ × ℕ)) (u : List ℕ) (first fault : ℕ) → AllByRecursion IsMemoryWord xs → IsNumber (length xs) → ¬ IsFaultInList IsMemoryWord word_line (codes "memory") first (memory_text xs ++ u) fault
+pub no_fault_in_memory : (xs : List (ℕ × ℕ)) (u : List ℕ) (first fault : ℕ) → AllByRecursion IsMemoryWord xs → IsNumber (length xs) → ¬ IsFaultInList IsMemoryWord word_line (codes "memory") first (memory_text xs ++ u) fault
 unfolding memory_text
 no_fault_in_memory xs u first fault all small is = no_fault_in_list IsMemoryWord word_line (codes "memory") first fault xs u one_memory_word all small
     (subst (λ (t : List ℕ). IsFaultInList IsMemoryWord word_line (codes "memory") first t fault) (append_assoc (heading (codes "memory") (length xs)) (flat_map word_line xs) u) is)

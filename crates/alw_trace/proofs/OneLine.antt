@@ -34,7 +34,7 @@ one_list IsX line one (x ∷ xs) (y ∷ ys) u v are all long e =
     (same, rest.1)
 
 -- where a line stands, a line isn't lacking
-not_lacking : {X : Type 0} (IsX : X → Type 0) (line : X → List ℕ) → OneLine IsX line → (read xs : List X) (rest u : List ℕ) → AllByRecursion IsX read → AllByRecursion IsX xs → length read < length xs
+pub not_lacking : {X : Type 0} (IsX : X → Type 0) (line : X → List ℕ) → OneLine IsX line → (read xs : List X) (rest u : List ℕ) → AllByRecursion IsX read → AllByRecursion IsX xs → length read < length xs
     → flat_map line read ++ rest ≡ flat_map line xs ++ u → ¬ Lacks IsX line rest
 not_lacking IsX line one read [] rest u are all few e lacks = absurd (omega (arith, few))
 not_lacking IsX line one [] (x ∷ xs) rest u are all few e lacks = lacks x (flat_map line xs ++ u) all.0 (e ∙ append_assoc (line x) (flat_map line xs) u)
@@ -68,17 +68,17 @@ one_byte a b u v l k e =
 row-is : (row u : List ℕ) → hex_line row ++ u ≡ flat_map byte_digits row ++ 10 ∷ u
 row-is row u = append_assoc (flat_map byte_digits row) (10 ∷ []) u
 
-one_row : (a b u v : List ℕ) → AllByRecursion IsByte a → AllByRecursion IsByte b → length a ≡ length b → hex_line a ++ u ≡ hex_line b ++ v → (a ≡ b) × (u ≡ v)
+pub one_row : (a b u v : List ℕ) → AllByRecursion IsByte a → AllByRecursion IsByte b → length a ≡ length b → hex_line a ++ u ≡ hex_line b ++ v → (a ≡ b) × (u ≡ v)
 one_row a b u v are all long e =
     let same = one_list IsByte byte_digits one_byte a b (10 ∷ u) (10 ∷ v) are all long (sym (row-is a u) ∙ e ∙ row-is b v) in
     (same.0, ap (drop 1) same.1)
 
-all_take : (n : ℕ) (xs : List ℕ) → AllByRecursion IsByte xs → AllByRecursion IsByte (take n xs)
+pub all_take : (n : ℕ) (xs : List ℕ) → AllByRecursion IsByte xs → AllByRecursion IsByte (take n xs)
 all_take zero xs all = tt
 all_take (suc n) [] all = tt
 all_take (suc n) (x ∷ xs) all = (all.0, all_take n xs all.1)
 
-all_drop : (n : ℕ) (xs : List ℕ) → AllByRecursion IsByte xs → AllByRecursion IsByte (drop n xs)
+pub all_drop : (n : ℕ) (xs : List ℕ) → AllByRecursion IsByte xs → AllByRecursion IsByte (drop n xs)
 all_drop zero xs all = all
 all_drop (suc n) [] all = tt
 all_drop (suc n) (x ∷ xs) all = all_drop n xs all.1

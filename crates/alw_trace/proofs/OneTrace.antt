@@ -34,11 +34,11 @@ use Rattle.alw_trace.proofs.OneLine.{one_list, one_heading, no_fault_in_list, on
 
 -- ---- entries behind their heading
 
-entries-is : (journal : List Entry) (u : List ℕ) → entries_text journal ++ u ≡ heading (codes "entries") (length journal) ++ (flat_map entry_line journal ++ u)
+pub entries-is : (journal : List Entry) (u : List ℕ) → entries_text journal ++ u ≡ heading (codes "entries") (length journal) ++ (flat_map entry_line journal ++ u)
 unfolding entries_text
 entries-is journal u = append_assoc (heading (codes "entries") (length journal)) (flat_map entry_line journal) u
 
-one_journal : (one other : List Entry) (u v : List ℕ) → AllByRecursion IsEntry one → AllByRecursion IsEntry other → IsNumber (length one) → IsNumber (length other) → entries_text one ++ u ≡ entries_text other ++ v → (one ≡ other) × (u ≡ v)
+pub one_journal : (one other : List Entry) (u v : List ℕ) → AllByRecursion IsEntry one → AllByRecursion IsEntry other → IsNumber (length one) → IsNumber (length other) → entries_text one ++ u ≡ entries_text other ++ v → (one ≡ other) × (u ≡ v)
 one_journal one other u v are all small few e =
     let head = one_heading (codes "entries") (length one) (length other) (flat_map entry_line one ++ u) (flat_map entry_line other ++ v) small few (sym (entries-is one u) ∙ e ∙ entries-is other v) in
     one_list IsEntry entry_line one_entry one other u v are all head.0 head.1
