@@ -27,7 +27,7 @@ use Rattle.alw_trace.specs.declared.faults.TextErr.{TextErr}
 use Rattle.alw_trace.specs.declared.faults.TextErr.TheVariants.{Syntax, Image, Range, NoMemory}
 use Rattle.alw_trace.specs.Texts.{image_text, entry_line, entries_text, trace_title, trace_text}
 use Rattle.alw_trace.specs.Lines.{IsNumber, IsByte, AreBytes, HasThree, HasNumbers, IsEntry, TraceLines, AreTraceLines, trace_lines, behind_image, IsFaultInList, IsFaultAtEnd, IsFaultInImage, IsTraceFault, title_of_trace, image_of_trace, params_of_trace, entries_of_trace, end_of_trace}
-use Rattle.alw_trace.specs.Readings.{is_short, fits_event, fits_entry, tested, trace_tests, IsOfMachine, IsStamped, IsTrace, HasTypes, ReadsTrace}
+use Rattle.alw_trace.specs.Readings.{is_short, fits_event, fits_entry, tested, trace_tests, IsOfMachine, IsStamped, IsTrace, HasTypes, without_evict, ReadsTrace}
 use Rattle.alw_trace.proofs.RowReads.{all_append}
 use Rattle.alw_trace.proofs.ParamRanges.{fit, sets_within}
 use Rattle.alw_trace.proofs.OneLine.{one_list, one_heading, no_fault_in_list, one_image, no_fault_in_image, no_fault_at_end, one_params, one_entry}
@@ -197,6 +197,11 @@ trace_form t is types =
 text-is : (t : Trace) → trace_text t ≡ trace_lines (lines_in t)
 unfolding trace_text trace_lines
 text-is t = refl
+
+-- it says nothing of evictions
+pub no_evict : (t : Trace) → trace_text (without_evict t) ≡ trace_text t
+unfolding trace_text params_line
+no_evict t = refl
 
 -- one text is one trace's
 pub same_trace : (one other : Trace) → IsTrace one → IsTrace other → HasTypes one → HasTypes other → trace_text one ≡ trace_text other → one ≡ other

@@ -126,6 +126,14 @@ pub record IsTrace (trace : Trace) : Type 0 where
   pub evict : trace.params.evict ≡ 0
   pub journal : AllByRecursion (IsStamped (node_count trace.image) trace.params.sets) trace.journal
 
+-- the same trace, as its text says it
+abbrev pub without_evict : Trace → Trace
+without_evict trace = record {
+  image = trace.image;
+  params = record { pointers = trace.params.pointers; sets = trace.params.sets; limit = trace.params.limit; evict = 0 };
+  journal = trace.journal;
+}
+
 -- what a trace is by its type: its program and data are of 32-bit words, and it has fewer than 2^32 entries
 abbrev pub HasTypes : Trace → Type 0
 HasTypes trace = HasWords trace.image × (length trace.journal < 2 ^ 32)
