@@ -57,7 +57,8 @@ longer : (run : ℕ × ℕ) (rest : List (ℕ × ℕ)) → 1 ≤ run.1 → AreLo
 longer run [] some are apart = some
 longer run (next ∷ rest) some are apart = (some, (λ same. apart (sym same)), are)
 
-pub runs_fit : (contexts line turns : ℕ) (before : Option ℕ) (runs : List (ℕ × ℕ)) → turns ≤ most_turns → first_unfit (run_tests contexts line turns before runs) ≡ None → AreRuns contexts turns before runs
+pub runs_fit : (contexts line turns : ℕ) (before : Option ℕ) (runs : List (ℕ × ℕ)) → turns ≤ most_turns
+    → first_unfit (run_tests contexts line turns before runs) ≡ None → AreRuns contexts turns before runs
 runs_fit contexts line turns before [] most none = record { each = tt; most = omega arith; longest = tt; apart = tt }
 runs_fit contexts line turns before (run ∷ rest) most none =
     let h = head_fits (fits_run contexts turns before run) line (run_tests contexts (line + 1) (turns + run.1) (Some run.0) rest) none in
@@ -83,9 +84,11 @@ merged context count rest = let e : (context == context) ≡ true = grind (arith
 
 apart_front : (context : ℕ) (rest : List (ℕ × ℕ)) → starts_other (Some context) rest → in_front context 1 rest ≡ (context, 1) ∷ rest
 apart_front context [] apart = refl
-apart_front context (next ∷ rest) apart = let e : (context == next.0) ≡ false = (let other : context ≢ next.0 = (λ same. apart (sym same)) in grind (arith, nat_tests)) in rw e
+apart_front context (next ∷ rest) apart = let e : (context == next.0) ≡ false =
+    (let other : context ≢ next.0 = (λ same. apart (sym same)) in grind (arith, nat_tests)) in rw e
 
-stretch : (count context : ℕ) (turns : List ℕ) (rest : List (ℕ × ℕ)) → stretches turns ≡ rest → starts_other (Some context) rest → stretches (replicate (suc count) context ++ turns) ≡ (context, suc count) ∷ rest
+stretch : (count context : ℕ) (turns : List ℕ) (rest : List (ℕ × ℕ)) → stretches turns ≡ rest → starts_other (Some context) rest
+    → stretches (replicate (suc count) context ++ turns) ≡ (context, suc count) ∷ rest
 stretch zero context turns rest is apart = ap (in_front context 1) is ∙ apart_front context rest apart
 stretch (suc count) context turns rest is apart =
     ap (in_front context 1) (stretch count context turns rest is apart) ∙ merged context (suc count) rest
@@ -104,7 +107,8 @@ same_runs ((context, suc count) ∷ rest) are =
 
 -- ---- prints and words
 
-pub prints_fit : (contexts line : ℕ) (prints : List (ℕ × ℕ)) → first_unfit (tested (fits_print contexts) line prints) ≡ None → AllByRecursion (λ print. print.0 < contexts) prints
+pub prints_fit : (contexts line : ℕ) (prints : List (ℕ × ℕ)) → first_unfit (tested (fits_print contexts) line prints) ≡ None
+    → AllByRecursion (λ print. print.0 < contexts) prints
 prints_fit contexts line [] none = tt
 prints_fit contexts line (print ∷ rest) none =
     let h = head_fits (fits_print contexts print) line (tested (fits_print contexts) (line + 1) rest) none in
@@ -119,7 +123,8 @@ shared-is parts address is =
 not_zero : (word : ℕ) → not (word == 0) ≡ true → word ≢ 0
 not_zero word is zero-is = true≢false (sym is ∙ ap not (let t : (word == 0) ≡ true = grind (arith, nat_tests) in t))
 
-pub words_fit : (parts : Parts) (line : ℕ) (before : Option ℕ) (words : List (ℕ × ℕ)) → first_unfit (word_tests (line_count parts) line before words) ≡ None → AllByRecursion (λ word. IsSharedAddress parts word.0 × (word.1 ≢ 0)) words
+pub words_fit : (parts : Parts) (line : ℕ) (before : Option ℕ) (words : List (ℕ × ℕ)) → first_unfit (word_tests (line_count parts) line before words) ≡ None
+    → AllByRecursion (λ word. IsSharedAddress parts word.0 × (word.1 ≢ 0)) words
 words_fit parts line before [] none = tt
 words_fit parts line before (word ∷ rest) none =
     let h = head_fits (fits_word (line_count parts) before word) line (word_tests (line_count parts) (line + 1) (Some word.0) rest) none in
@@ -133,7 +138,8 @@ step a b rest first others (suc k) within =
     let e : suc k + 1 ≡ suc (k + 1) = omega arith in
     subst (λ (m : ℕ). slice_index (b ∷ rest) k < slice_index (a ∷ b ∷ rest) m) (sym e) (others k (omega arith))
 
-ascends_from : (lines line before : ℕ) (words : List (ℕ × ℕ)) → first_unfit (word_tests lines line (Some before) words) ≡ None → IsStrictlyIncreasing (before ∷ map (λ word. word.0) words)
+ascends_from : (lines line before : ℕ) (words : List (ℕ × ℕ)) → first_unfit (word_tests lines line (Some before) words) ≡ None
+    → IsStrictlyIncreasing (before ∷ map (λ word. word.0) words)
 ascends_from lines line before [] none = λ k within. absurd (omega arith)
 ascends_from lines line before (word ∷ rest) none =
     let h = head_fits (fits_word lines (Some before) word) line (word_tests lines (line + 1) (Some word.0) rest) none in
@@ -141,7 +147,8 @@ ascends_from lines line before (word ∷ rest) none =
     let above : before < word.0 = (let t = a.0 in grind (arith, nat_tests)) in
     step before word.0 (map (λ word. word.0) rest) above (ascends_from lines (line + 1) word.0 rest h.1)
 
-pub words_ascend : (lines line : ℕ) (words : List (ℕ × ℕ)) → first_unfit (word_tests lines line None words) ≡ None → IsStrictlyIncreasing (map (λ word. word.0) words)
+pub words_ascend : (lines line : ℕ) (words : List (ℕ × ℕ)) → first_unfit (word_tests lines line None words) ≡ None
+    → IsStrictlyIncreasing (map (λ word. word.0) words)
 words_ascend lines line [] none = λ k within. absurd (omega arith)
 words_ascend lines line (word ∷ rest) none =
     let h = head_fits (fits_word lines None word) line (word_tests lines (line + 1) (Some word.0) rest) none in
@@ -159,6 +166,7 @@ pub first_stopped : (xs ys : List (ℕ × Bool)) (line : ℕ) → first_unfit xs
 first_stopped [] ys line is = absurd (none-some line is)
 first_stopped (x ∷ xs) ys line is = go x.1 refl (first_stopped xs ys line) is
   where
-    go : (b : Bool) → x.1 ≡ b → (first_unfit xs ≡ Some line → first_unfit (xs ++ ys) ≡ Some line) → (if b then first_unfit xs else Some x.0) ≡ Some line → (if b then first_unfit (xs ++ ys) else Some x.0) ≡ Some line
+    go : (b : Bool) → x.1 ≡ b → (first_unfit xs ≡ Some line → first_unfit (xs ++ ys) ≡ Some line) → (if b then first_unfit xs else Some x.0) ≡ Some line
+        → (if b then first_unfit (xs ++ ys) else Some x.0) ≡ Some line
     go true e more is = more is
     go false e more is = is

@@ -30,7 +30,8 @@ pub record IsMemoryFront (text : List ℕ) (lines : ClaimLines) (rest : List ℕ
   pub form : AreClaimLines lines
   pub parts : text ≡ claim_title ++ (image_text lines.image ++ (runs_text lines.runs ++ (prints_text lines.prints ++ (memory_text lines.memory ++ rest))))
 
-pub runs_front : (text one image two : List ℕ) (runs : List (ℕ × ℕ)) (rest : List ℕ) → text ≡ codes "ALEWIFE CLAIM 1\n" ++ one → IsImageRead one image two → IsListRead Runs two runs rest → IsRunsFront text image runs rest
+pub runs_front : (text one image two : List ℕ) (runs : List (ℕ × ℕ)) (rest : List ℕ) → text ≡ codes "ALEWIFE CLAIM 1\n" ++ one → IsImageRead one image two
+    → IsListRead Runs two runs rest → IsRunsFront text image runs rest
 unfolding claim_title runs_text
 runs_front text one image two runs rest e read list = record {
   bytes = read.bytes;
@@ -39,7 +40,8 @@ runs_front text one image two runs rest e read list = record {
   parts = e ∙ ap (λ (t : List ℕ). claim_title ++ t) (read.parts ∙ ap (λ (t : List ℕ). image_text image ++ t) list.parts);
 }
 
-pub prints_front : (text image : List ℕ) (runs : List (ℕ × ℕ)) (behind : List ℕ) (prints : List (ℕ × ℕ)) (rest : List ℕ) → IsRunsFront text image runs behind → IsListRead Prints behind prints rest
+pub prints_front : (text image : List ℕ) (runs : List (ℕ × ℕ)) (behind : List ℕ) (prints : List (ℕ × ℕ)) (rest : List ℕ) → IsRunsFront text image runs behind
+    → IsListRead Prints behind prints rest
     → IsPrintsFront text image runs prints rest
 unfolding prints_text
 prints_front text image runs behind prints rest front list = record {
@@ -51,7 +53,8 @@ prints_front text image runs behind prints rest front list = record {
   parts = front.parts ∙ ap (λ (t : List ℕ). claim_title ++ (image_text image ++ (runs_text runs ++ t))) list.parts;
 }
 
-pub memory_front : (text image : List ℕ) (runs prints : List (ℕ × ℕ)) (behind : List ℕ) (memory : List (ℕ × ℕ)) (rest : List ℕ) → IsPrintsFront text image runs prints behind → IsListRead Memory behind memory rest
+pub memory_front : (text image : List ℕ) (runs prints : List (ℕ × ℕ)) (behind : List ℕ) (memory : List (ℕ × ℕ)) (rest : List ℕ)
+    → IsPrintsFront text image runs prints behind → IsListRead Memory behind memory rest
     → IsMemoryFront text (record { image = image; runs = runs; prints = prints; memory = memory }) rest
 unfolding memory_text
 memory_front text image runs prints behind memory rest front list = record {
@@ -74,31 +77,37 @@ pub title_lacks : (text : List ℕ) → ((rest : List ℕ) → text ≢ codes "A
 unfolding claim_title
 title_lacks text lacks = title_of_claim lacks refl
 
-pub image_lacks : (text rest : List ℕ) (fault : TextErr) → text ≡ codes "ALEWIFE CLAIM 1\n" ++ rest → IsSyntax (IsFaultInImage rest) fault → IsSyntax (IsClaimFault text) fault
+pub image_lacks : (text rest : List ℕ) (fault : TextErr) → text ≡ codes "ALEWIFE CLAIM 1\n" ++ rest → IsSyntax (IsFaultInImage rest) fault
+    → IsSyntax (IsClaimFault text) fault
 unfolding claim_title
 image_lacks text rest (Syntax at) e is = image_of_claim rest e is
 image_lacks text rest (Image f) e is = is
 image_lacks text rest (Range at) e is = is
 image_lacks text rest NoMemory e is = tt
 
-pub runs_lack : (text one image two : List ℕ) (line : ℕ) (fault : TextErr) → text ≡ codes "ALEWIFE CLAIM 1\n" ++ one → IsImageRead one image two → line ≡ behind_image image
+pub runs_lack : (text one image two : List ℕ) (line : ℕ) (fault : TextErr) → text ≡ codes "ALEWIFE CLAIM 1\n" ++ one → IsImageRead one image two
+    → line ≡ behind_image image
     → IsSyntax (IsFaultInList IsRun run_line (codes "runs") line two) fault → IsSyntax (IsClaimFault text) fault
 unfolding claim_title
 runs_lack text one image two line (Syntax at) e read here is =
-    runs_of_claim image two read.bytes (e ∙ ap (λ (t : List ℕ). claim_title ++ t) read.parts) (subst (λ (n : ℕ). IsFaultInList IsRun run_line (codes "runs") n two at) here is)
+    runs_of_claim image two read.bytes (e ∙ ap (λ (t : List ℕ). claim_title ++ t) read.parts)
+    (subst (λ (n : ℕ). IsFaultInList IsRun run_line (codes "runs") n two at) here is)
 runs_lack text one image two line (Image f) e read here is = is
 runs_lack text one image two line (Range at) e read here is = is
 runs_lack text one image two line NoMemory e read here is = tt
 
-pub prints_lack : (text image : List ℕ) (runs : List (ℕ × ℕ)) (rest : List ℕ) (line : ℕ) (fault : TextErr) → IsRunsFront text image runs rest → line ≡ behind_image image + 1 + length runs
+pub prints_lack : (text image : List ℕ) (runs : List (ℕ × ℕ)) (rest : List ℕ) (line : ℕ) (fault : TextErr) → IsRunsFront text image runs rest
+    → line ≡ behind_image image + 1 + length runs
     → IsSyntax (IsFaultInList IsPrint print_line (codes "prints") line rest) fault → IsSyntax (IsClaimFault text) fault
 prints_lack text image runs rest line (Syntax at) front here is =
-    prints_of_claim image runs rest front.bytes front.each front.count front.parts (subst (λ (n : ℕ). IsFaultInList IsPrint print_line (codes "prints") n rest at) here is)
+    prints_of_claim image runs rest front.bytes front.each front.count front.parts
+    (subst (λ (n : ℕ). IsFaultInList IsPrint print_line (codes "prints") n rest at) here is)
 prints_lack text image runs rest line (Image f) front here is = is
 prints_lack text image runs rest line (Range at) front here is = is
 prints_lack text image runs rest line NoMemory front here is = tt
 
-pub memory_lacks : (text image : List ℕ) (runs prints : List (ℕ × ℕ)) (rest : List ℕ) (line : ℕ) (fault : TextErr) → IsPrintsFront text image runs prints rest → line ≡ behind_image image + 2 + length runs + length prints
+pub memory_lacks : (text image : List ℕ) (runs prints : List (ℕ × ℕ)) (rest : List ℕ) (line : ℕ) (fault : TextErr) → IsPrintsFront text image runs prints rest
+    → line ≡ behind_image image + 2 + length runs + length prints
     → IsSyntax (IsFaultInList IsMemoryWord word_line (codes "memory") line rest) fault → IsSyntax (IsClaimFault text) fault
 memory_lacks text image runs prints rest line (Syntax at) front here is =
     memory_of_claim image runs prints rest front.before front.runs_are front.run_count front.each front.count front.parts
@@ -108,7 +117,8 @@ memory_lacks text image runs prints rest line (Range at) front here is = is
 memory_lacks text image runs prints rest line NoMemory front here is = tt
 
 pub end_lacks : (text : List ℕ) (lines : ClaimLines) (rest : List ℕ) (last : ℕ) (fault : TextErr) → IsMemoryFront text lines rest
-    → last ≡ behind_image lines.image + 3 + length lines.runs + length lines.prints + length lines.memory → IsSyntax (IsFaultAtEnd last rest) fault → IsSyntax (IsClaimFault text) fault
+    → last ≡ behind_image lines.image + 3 + length lines.runs + length lines.prints + length lines.memory → IsSyntax (IsFaultAtEnd last rest) fault
+    → IsSyntax (IsClaimFault text) fault
 end_lacks text lines rest last (Syntax at) front here is = end_of_claim lines rest front.form front.parts (subst (λ (n : ℕ). IsFaultAtEnd n rest at) here is)
 end_lacks text lines rest last (Image f) front here is = is
 end_lacks text lines rest last (Range at) front here is = is
@@ -118,5 +128,6 @@ pub whole : (text : List ℕ) (lines : ClaimLines) (rest : List ℕ) → IsMemor
 unfolding claim_lines
 whole text lines rest front e = record {
   form = front.form;
-  text_is = front.parts ∙ ap (λ (t : List ℕ). claim_title ++ (image_text lines.image ++ (runs_text lines.runs ++ (prints_text lines.prints ++ (memory_text lines.memory ++ t))))) e;
+  text_is = front.parts ∙ ap (λ (t : List ℕ). claim_title ++
+      (image_text lines.image ++ (runs_text lines.runs ++ (prints_text lines.prints ++ (memory_text lines.memory ++ t))))) e;
 }

@@ -18,13 +18,16 @@ pub record LinesSoFar {X : Type 0} (IsX : X → Type 0) (line : X → List ℕ) 
   pub each : AllByRecursion IsX read
   pub parts : text ≡ flat_map line read ++ rest
 
-pub no_line : {X : Type 0} (IsX : X → Type 0) (line : X → List ℕ) (count first : ℕ) (text : List ℕ) (read : List X) (rest : List ℕ) → LinesSoFar IsX line text read rest → length read < count → Lacks IsX line rest
+pub no_line : {X : Type 0} (IsX : X → Type 0) (line : X → List ℕ) (count first : ℕ) (text : List ℕ) (read : List X) (rest : List ℕ)
+    → LinesSoFar IsX line text read rest → length read < count → Lacks IsX line rest
     → IsFaultInLines IsX line count first text (first + length read)
-no_line IsX line count first text read rest so_far few lacks = record { read = read; rest = rest; each = so_far.each; fewer = few; parts = so_far.parts; lacks = lacks; place = refl }
+no_line IsX line count first text read rest so_far few lacks =
+    record { read = read; rest = rest; each = so_far.each; fewer = few; parts = so_far.parts; lacks = lacks; place = refl }
 
 -- ---- entries
 
-pub entries_found : (count : ℕ) (text behind : List ℕ) (journal : List Entry) (rest : List ℕ) → IsNumber count → text ≡ codes "entries " ++ (decimal count ++ 10 ∷ behind) → AreLinesRead count behind journal rest
+pub entries_found : (count : ℕ) (text behind : List ℕ) (journal : List Entry) (rest : List ℕ) → IsNumber count
+    → text ≡ codes "entries " ++ (decimal count ++ 10 ∷ behind) → AreLinesRead count behind journal rest
     → AreEntriesRead text journal rest
 unfolding entries_text
 entries_found count text behind journal rest small e read =
@@ -38,7 +41,8 @@ entries_found count text behind journal rest small e read =
     }
 
 pub entries_fault : (count first : ℕ) (text behind : List ℕ) (fault : TextErr) → IsNumber count → text ≡ codes "entries " ++ (decimal count ++ 10 ∷ behind)
-    → IsSyntax (IsFaultInLines IsEntry entry_line count (first + 1) behind) fault → IsSyntax (IsFaultInList IsEntry entry_line (codes "entries") first text) fault
+    → IsSyntax (IsFaultInLines IsEntry entry_line count (first + 1) behind) fault
+    → IsSyntax (IsFaultInList IsEntry entry_line (codes "entries") first text) fault
 entries_fault count first text behind (Syntax at) small e is = list_line count behind small (e ∙ sym (heading-is (codes "entries") count behind)) is
 entries_fault count first text behind (Image f) small e is = is
 entries_fault count first text behind (Range at) small e is = is
@@ -56,18 +60,22 @@ pub title_lacks : (text : List ℕ) → ((rest : List ℕ) → text ≢ codes "A
 unfolding trace_title
 title_lacks text lacks = title_of_trace lacks refl
 
-pub image_lacks : (text rest : List ℕ) (fault : TextErr) → text ≡ codes "ALEWIFE TRACE 1\n" ++ rest → IsSyntax (IsFaultInImage rest) fault → IsSyntax (IsTraceFault text) fault
+pub image_lacks : (text rest : List ℕ) (fault : TextErr) → text ≡ codes "ALEWIFE TRACE 1\n" ++ rest → IsSyntax (IsFaultInImage rest) fault
+    → IsSyntax (IsTraceFault text) fault
 unfolding trace_title
 image_lacks text rest (Syntax at) e is = image_of_trace rest e is
 image_lacks text rest (Image f) e is = is
 image_lacks text rest (Range at) e is = is
 image_lacks text rest NoMemory e is = tt
 
-pub params_lacks : (text one image two : List ℕ) (line : ℕ) → text ≡ codes "ALEWIFE TRACE 1\n" ++ one → IsImageRead one image two → line ≡ behind_image image → Lacks HasThree params_line two → IsTraceFault text line
+pub params_lacks : (text one image two : List ℕ) (line : ℕ) → text ≡ codes "ALEWIFE TRACE 1\n" ++ one → IsImageRead one image two → line ≡ behind_image image
+    → Lacks HasThree params_line two → IsTraceFault text line
 unfolding trace_title
-params_lacks text one image two line e read here lacks = params_of_trace image two read.bytes (e ∙ ap (λ (t : List ℕ). trace_title ++ t) read.parts) lacks here
+params_lacks text one image two line e read here lacks =
+    params_of_trace image two read.bytes (e ∙ ap (λ (t : List ℕ). trace_title ++ t) read.parts) lacks here
 
-pub head : (text one image two : List ℕ) (params : Parameters) (rest : List ℕ) → text ≡ codes "ALEWIFE TRACE 1\n" ++ one → IsImageRead one image two → HasThree params → two ≡ params_line params ++ rest → IsHead text image params rest
+pub head : (text one image two : List ℕ) (params : Parameters) (rest : List ℕ) → text ≡ codes "ALEWIFE TRACE 1\n" ++ one → IsImageRead one image two
+    → HasThree params → two ≡ params_line params ++ rest → IsHead text image params rest
 unfolding trace_title
 head text one image two params rest e read fits line = record {
   bytes = read.bytes;
@@ -75,7 +83,8 @@ head text one image two params rest e read fits line = record {
   parts = e ∙ ap (λ (t : List ℕ). trace_title ++ t) (read.parts ∙ ap (λ (t : List ℕ). image_text image ++ t) line);
 }
 
-pub entries_lack : (text image : List ℕ) (params : Parameters) (rest : List ℕ) (line : ℕ) (fault : TextErr) → IsHead text image params rest → line ≡ behind_image image
+pub entries_lack : (text image : List ℕ) (params : Parameters) (rest : List ℕ) (line : ℕ) (fault : TextErr) → IsHead text image params rest
+    → line ≡ behind_image image
     → IsSyntax (IsFaultInList IsEntry entry_line (codes "entries") (line + 1) rest) fault → IsSyntax (IsTraceFault text) fault
 entries_lack text image params rest line (Syntax at) h here is =
     entries_of_trace image params rest h.bytes h.three h.parts (subst (λ (n : ℕ). IsFaultInList IsEntry entry_line (codes "entries") (n + 1) rest at) here is)
@@ -83,11 +92,14 @@ entries_lack text image params rest line (Image f) h here is = is
 entries_lack text image params rest line (Range at) h here is = is
 entries_lack text image params rest line NoMemory h here is = tt
 
-entries_parts : (text image : List ℕ) (params : Parameters) (behind : List ℕ) (journal : List Entry) (rest : List ℕ) → IsHead text image params behind → AreEntriesRead behind journal rest
+entries_parts : (text image : List ℕ) (params : Parameters) (behind : List ℕ) (journal : List Entry) (rest : List ℕ) → IsHead text image params behind
+    → AreEntriesRead behind journal rest
     → text ≡ trace_title ++ (image_text image ++ (params_line params ++ (entries_text journal ++ rest)))
-entries_parts text image params behind journal rest h read = h.parts ∙ ap (λ (t : List ℕ). trace_title ++ (image_text image ++ (params_line params ++ t))) read.parts
+entries_parts text image params behind journal rest h read = h.parts
+    ∙ ap (λ (t : List ℕ). trace_title ++ (image_text image ++ (params_line params ++ t))) read.parts
 
-pub end_lacks : (text image : List ℕ) (params : Parameters) (behind : List ℕ) (journal : List Entry) (rest : List ℕ) (line last : ℕ) (fault : TextErr) → IsHead text image params behind → AreEntriesRead behind journal rest
+pub end_lacks : (text image : List ℕ) (params : Parameters) (behind : List ℕ) (journal : List Entry) (rest : List ℕ) (line last : ℕ) (fault : TextErr)
+    → IsHead text image params behind → AreEntriesRead behind journal rest
     → line ≡ behind_image image → last ≡ line + 2 + length journal → IsSyntax (IsFaultAtEnd last rest) fault → IsSyntax (IsTraceFault text) fault
 end_lacks text image params behind journal rest line last (Syntax at) h read here place is =
     end_of_trace image params journal rest h.bytes h.three read.each read.count (entries_parts text image params behind journal rest h read)
@@ -96,12 +108,14 @@ end_lacks text image params behind journal rest line last (Image f) h read here 
 end_lacks text image params behind journal rest line last (Range at) h read here place is = is
 end_lacks text image params behind journal rest line last NoMemory h read here place is = tt
 
-pub whole : (text image : List ℕ) (params : Parameters) (behind : List ℕ) (journal : List Entry) (rest : List ℕ) → IsHead text image params behind → AreEntriesRead behind journal rest → rest ≡ codes "end\n"
+pub whole : (text image : List ℕ) (params : Parameters) (behind : List ℕ) (journal : List Entry) (rest : List ℕ) → IsHead text image params behind
+    → AreEntriesRead behind journal rest → rest ≡ codes "end\n"
     → IsOfTrace text (record { image = image; params = params; journal = journal })
 unfolding trace_lines
 whole text image params behind journal rest h read e = record {
   form = record { bytes = h.bytes.0; size = h.bytes.1; params = h.three; entries = read.each; count = read.count };
-  text_is = entries_parts text image params behind journal rest h read ∙ ap (λ (t : List ℕ). trace_title ++ (image_text image ++ (params_line params ++ (entries_text journal ++ t)))) e;
+  text_is = entries_parts text image params behind journal rest h read
+      ∙ ap (λ (t : List ℕ). trace_title ++ (image_text image ++ (params_line params ++ (entries_text journal ++ t)))) e;
 }
 
 pub more_behind : (text rest : List ℕ) (last : ℕ) → text ≡ codes "end\n" ++ rest → (length rest == 0) ≡ false → IsFaultAtEnd last text (last + 1)

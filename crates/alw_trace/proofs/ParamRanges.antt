@@ -50,5 +50,13 @@ any_within most x (n ∷ rest) all is = go (x == n) refl is (any_within most x r
     go false e is more = more is
 
 pub sets_within : (p : Parameters) → AreParameters p → p.sets ≤ 4096
-sets_within p are = any_within 4096 p.sets set_counts
-    (omega arith, (omega arith, (omega arith, (omega arith, (omega arith, (omega arith, (omega arith, (omega arith, (omega arith, (omega arith, (omega arith, tt))))))))))) are.sets
+sets_within p are = any_within 4096 p.sets set_counts (
+  omega arith,
+  (
+    omega arith,
+    (
+      omega arith,
+      (omega arith, (omega arith, (omega arith, (omega arith, (omega arith, (omega arith, (omega arith, (omega arith, tt)))))))),
+    ),
+  ),
+) are.sets

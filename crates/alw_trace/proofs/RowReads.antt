@@ -28,24 +28,28 @@ line-is : (row behind : List ℕ) → hex_line row ++ behind ≡ flat_map byte_d
 line-is row behind = append_assoc (flat_map byte_digits row) (10 ∷ []) behind
 
 -- no line of so many bytes goes on where no byte stands
-no_more : (read rest row behind : List ℕ) (count : ℕ) → length read < count → Lacks IsByte byte_digits rest → IsRow count row → flat_map byte_digits read ++ rest ≢ flat_map byte_digits row ++ 10 ∷ behind
+no_more : (read rest row behind : List ℕ) (count : ℕ) → length read < count → Lacks IsByte byte_digits rest → IsRow count row
+    → flat_map byte_digits read ++ rest ≢ flat_map byte_digits row ++ 10 ∷ behind
 no_more read rest [] behind count few lacks is e = absurd (omega (arith, is.0))
 no_more [] rest (byte ∷ row) behind count few lacks is e = lacks byte (flat_map byte_digits row ++ 10 ∷ behind) is.1.0 e
 no_more (one ∷ read) rest (byte ∷ row) behind count few lacks is e =
     no_more read rest row behind (count - 1) (omega arith) lacks ((let n = is.0 in omega arith), is.1.1) (ap (drop 2) e)
 
 -- nor where no line ends behind its bytes
-no_end : (read rest row behind : List ℕ) → length read ≡ length row → ((tail : List ℕ) → rest ≢ 10 ∷ tail) → flat_map byte_digits read ++ rest ≢ flat_map byte_digits row ++ 10 ∷ behind
+no_end : (read rest row behind : List ℕ) → length read ≡ length row → ((tail : List ℕ) → rest ≢ 10 ∷ tail)
+    → flat_map byte_digits read ++ rest ≢ flat_map byte_digits row ++ 10 ∷ behind
 no_end [] rest [] behind long lacks e = lacks behind e
 no_end [] rest (byte ∷ row) behind long lacks e = absurd (omega (arith, long))
 no_end (one ∷ read) rest [] behind long lacks e = absurd (omega (arith, long))
 no_end (one ∷ read) rest (byte ∷ row) behind long lacks e = no_end read rest row behind (omega (arith, long)) lacks (ap (drop 2) e)
 
-pub no_byte : (n count : ℕ) (before after text rest : List ℕ) → RowSoFar n before after text rest → n < count → Lacks IsByte byte_digits rest → Lacks (IsRow count) hex_line text
+pub no_byte : (n count : ℕ) (before after text rest : List ℕ) → RowSoFar n before after text rest → n < count → Lacks IsByte byte_digits rest
+    → Lacks (IsRow count) hex_line text
 no_byte n count before after text rest so_far few lacks row behind is e =
     no_more so_far.read rest row behind count (omega (arith, so_far.is_row.0)) lacks is (sym so_far.parts ∙ e ∙ line-is row behind)
 
-pub no_feed : (n count : ℕ) (before after text rest : List ℕ) → n ≡ count → RowSoFar n before after text rest → ((tail : List ℕ) → rest ≢ 10 ∷ tail) → Lacks (IsRow count) hex_line text
+pub no_feed : (n count : ℕ) (before after text rest : List ℕ) → n ≡ count → RowSoFar n before after text rest → ((tail : List ℕ) → rest ≢ 10 ∷ tail)
+    → Lacks (IsRow count) hex_line text
 no_feed n count before after text rest all so_far lacks row behind is e =
     no_end so_far.read rest row behind (so_far.is_row.0 ∙ all ∙ sym is.0) lacks (sym so_far.parts ∙ e ∙ line-is row behind)
 
@@ -75,7 +79,8 @@ row_more (suc k) image row long short =
     ∙ ap (λ (t : List ℕ). hex_line (take 32 image) ++ t) (row_more k (drop 32 image) row less short)
     ∙ sym (append_assoc (hex_line (take 32 image)) (hex_lines k (drop 32 image)) (hex_line row))
 
-pub rows_go_on : (count size : ℕ) (text image grown rest behind : List ℕ) → RowsSoFar count text image rest → length image < count → size ≡ min (count - length image) 32 → IsRowRead size image grown rest behind
+pub rows_go_on : (count size : ℕ) (text image grown rest behind : List ℕ) → RowsSoFar count text image rest → length image < count
+    → size ≡ min (count - length image) 32 → IsRowRead size image grown rest behind
     → RowsSoFar count text grown behind
 rows_go_on count size text image grown rest behind so_far left few read =
     let n = length image in let k = n / 32 in
@@ -91,13 +96,15 @@ rows_go_on count size text image grown rest behind so_far left few read =
       most = omega (arith, some, sum, left);
       full = λ short. omega (arith, some, sum, short, full);
       parts = so_far.parts ∙ ap (λ (m : ℕ). hex_lines m image ++ rest) lines ∙ ap (λ (t : List ℕ). hex_lines k image ++ t) read.parts
-          ∙ sym (append_assoc (hex_lines k image) (hex_line row) behind) ∙ ap (λ (t : List ℕ). t ++ behind) (sym (row_more k image row long (omega (arith, some))))
+          ∙ sym (append_assoc (hex_lines k image) (hex_line row) behind)
+          ∙ ap (λ (t : List ℕ). t ++ behind) (sym (row_more k image row long (omega (arith, some))))
           ∙ ap (λ (t : List ℕ). hex_lines (suc k) t ++ behind) (sym read.grown) ∙ ap (λ (m : ℕ). hex_lines m grown ++ behind) (sym more);
     }
 
 -- ---- behind the heading
 
-pub image_found : (count : ℕ) (text behind image rest : List ℕ) → IsNumber count → text ≡ codes "image " ++ (decimal count ++ 10 ∷ behind) → AreRowsRead count behind image rest → IsImageRead text image rest
+pub image_found : (count : ℕ) (text behind image rest : List ℕ) → IsNumber count → text ≡ codes "image " ++ (decimal count ++ 10 ∷ behind)
+    → AreRowsRead count behind image rest → IsImageRead text image rest
 unfolding image_text
 image_found count text behind image rest small e read =
     let same : length image ≡ count = read.is_row.0 in
@@ -108,7 +115,8 @@ image_found count text behind image rest small e read =
           ∙ ap (λ (n : ℕ). (heading (codes "image") n ++ hex_lines (line_number n) image) ++ rest) (sym same);
     }
 
-pub image_fault_in : (count : ℕ) (text behind : List ℕ) (fault : TextErr) → IsNumber count → text ≡ codes "image " ++ (decimal count ++ 10 ∷ behind) → IsSyntax (IsFaultInRows count 3 behind) fault
+pub image_fault_in : (count : ℕ) (text behind : List ℕ) (fault : TextErr) → IsNumber count → text ≡ codes "image " ++ (decimal count ++ 10 ∷ behind)
+    → IsSyntax (IsFaultInRows count 3 behind) fault
     → IsSyntax (IsFaultInImage text) fault
 image_fault_in count text behind (Syntax at) small e is = image_row count behind small (e ∙ sym (heading-is (codes "image") count behind)) is
 image_fault_in count text behind (Image f) small e is = is

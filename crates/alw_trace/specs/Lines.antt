@@ -121,12 +121,14 @@ pub record IsFaultInRows (count first : ℕ) (text : List ℕ) (fault : ℕ) : T
 -- a list behind its heading, which has this number
 pub data IsFaultInList {X : Type 0} (IsX : X → Type 0) (line : X → List ℕ) (name : List ℕ) (first : ℕ) (text : List ℕ) (fault : ℕ) : Type 0 where
   list_heading : LacksHeading name text → fault ≡ first → IsFaultInList IsX line name first text fault
-  list_line : (count : ℕ) → (rest : List ℕ) → IsNumber count → text ≡ heading name count ++ rest → IsFaultInLines IsX line count (first + 1) rest fault → IsFaultInList IsX line name first text fault
+  list_line : (count : ℕ) → (rest : List ℕ) → IsNumber count → text ≡ heading name count ++ rest → IsFaultInLines IsX line count (first + 1) rest fault
+      → IsFaultInList IsX line name first text fault
 
 -- an image behind the heading, which is the second line
 pub data IsFaultInImage (text : List ℕ) (fault : ℕ) : Type 0 where
   image_heading : LacksHeading (codes "image") text → fault ≡ 2 → IsFaultInImage text fault
-  image_row : (count : ℕ) → (rest : List ℕ) → IsNumber count → text ≡ heading (codes "image") count ++ rest → IsFaultInRows count 3 rest fault → IsFaultInImage text fault
+  image_row : (count : ℕ) → (rest : List ℕ) → IsNumber count → text ≡ heading (codes "image") count ++ rest → IsFaultInRows count 3 rest fault
+      → IsFaultInImage text fault
 
 -- the last line, which has this number, behind which nothing stands
 pub data IsFaultAtEnd (last : ℕ) (text : List ℕ) (fault : ℕ) : Type 0 where

@@ -1,4 +1,5 @@
--- What a text of a trace or a claim is read as: what it says, or the deciding fault. A line's form comes before the image, and the image before what is out of range.
+-- What a text of a trace or a claim is read as: what it says, or the deciding fault. A line's form comes before the image, and the image
+-- before what is out of range.
 use Rattle.std.specs.Prelude.{◌≡◌, ◌≢◌, ℕ, ◌+◌, ◌*◌, ◌%◌, ◌^◌, ◌<◌, ◌≤◌, ◌==◌, ◌&&◌, Bool, true, not, nat_le, nat_lt, Option, None, Some, Result, Ok, Err, List, [], ◌∷◌, ◌++◌, length, map, ⊤}
 use Rattle.std.specs.List.{AllByRecursion, list_any}
 use Rattle.std.specs.List.Sorted.{IsStrictlyIncreasing}
@@ -135,8 +136,8 @@ without_evict trace = record {
 }
 
 -- what a trace is by its type: its program and data are of 32-bit words, and it has fewer than 2^32 entries
-abbrev pub HasTypes : Trace → Type 0
-HasTypes trace = HasWords trace.image × (length trace.journal < 2 ^ 32)
+abbrev pub HasTraceTypes : Trace → Type 0
+HasTraceTypes trace = HasWords trace.image × (length trace.journal < 2 ^ 32)
 
 -- the address of a word of an image's shared data
 abbrev pub IsSharedAddress : Parts → ℕ → Type 0

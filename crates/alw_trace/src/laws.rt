@@ -5,7 +5,7 @@ ghost use Rattle.alw_trace.specs.declared.faults.TextErr.{TextErr};
 ghost use Rattle.alw_trace.specs.declared.faults.TextErr.TheVariants.{NoMemory};
 ghost use Rattle.alw_trace.specs.Texts.{claim_text, trace_text};
 ghost use Rattle.alw_trace.specs.Lines.{AreClaimLines, AreTraceLines, ClaimLines, IsClaimFault, IsTraceFault, TraceLines, claim_lines, trace_lines};
-ghost use Rattle.alw_trace.specs.Readings.{HasClaimTypes, HasTypes, IsClaim, IsTrace, ReadsClaim, ReadsTrace, without_evict};
+ghost use Rattle.alw_trace.specs.Readings.{HasClaimTypes, HasTraceTypes, IsClaim, IsTrace, ReadsClaim, ReadsTrace, without_evict};
 
 /// A text has one answer. It has at most one line at fault as a trace, and none where it has a trace's
 /// form; then it says one thing. No two traces have the same text, and a trace's text is refused for want
@@ -17,8 +17,8 @@ pub fn traces_are_read_back()
     ensures fault { (text : List ℕ) → (one other : ℕ) → IsTraceFault text one → IsTraceFault text other → one ≡ other }
     ensures said { (one other : TraceLines) → AreTraceLines one → AreTraceLines other → trace_lines one ≡ trace_lines other → one ≡ other }
     ensures evict { (trace : Trace) → trace_text (without_evict trace) ≡ trace_text trace }
-    ensures same { (one other : Trace) → IsTrace one → IsTrace other → HasTypes one → HasTypes other → trace_text one ≡ trace_text other → one ≡ other }
-    ensures read { (trace : Trace) → (fault : TextErr) → IsTrace trace → HasTypes trace → ReadsTrace (trace_text trace) (Err fault) → fault ≡ NoMemory }
+    ensures same { (one other : Trace) → IsTrace one → IsTrace other → HasTraceTypes one → HasTraceTypes other → trace_text one ≡ trace_text other → one ≡ other }
+    ensures read { (trace : Trace) → (fault : TextErr) → IsTrace trace → HasTraceTypes trace → ReadsTrace (trace_text trace) (Err fault) → fault ≡ NoMemory }
 {}
 
 /// The same of claims, whose texts say all of them.

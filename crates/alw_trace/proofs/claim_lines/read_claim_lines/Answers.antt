@@ -28,7 +28,8 @@ returns-in_err-memory-clause-err c =
     let e = err_from_is_err_and c.from_residual-in_err-memory.result c.from_residual-in_err-memory.ensures.1 in
     let runs = runs_front _ _ _ _ _ _ c.in-Some.ensures c.in_ok-image.ensures.ok c.in_ok-runs.ensures.ok in
     let prints = prints_front _ _ _ _ _ _ runs c.in_ok-prints.ensures.ok in
-    rw (e.1, e.2) (memory_lacks _ _ _ _ _ _ _ prints (omega (arith, c.line_behind-line.ensures.line, c.len.ensures, c.len-2.ensures)) c.in_err-memory.ensures.err)
+    rw (e.1, e.2) (memory_lacks _ _ _ _ _ _ _ prints (omega (arith, c.line_behind-line.ensures.line, c.len.ensures, c.len-2.ensures))
+    c.in_err-memory.ensures.err)
 
 pub returns-in_err-end_at-clause-err : goal.returns-in_err-end_at-clause-err
 returns-in_err-end_at-clause-err c =
@@ -36,7 +37,8 @@ returns-in_err-end_at-clause-err c =
     let runs = runs_front _ _ _ _ _ _ c.in-Some.ensures c.in_ok-image.ensures.ok c.in_ok-runs.ensures.ok in
     let prints = prints_front _ _ _ _ _ _ runs c.in_ok-prints.ensures.ok in
     let memory = memory_front _ _ _ _ _ _ _ prints c.in_ok-memory.ensures.ok in
-    rw (e.1, e.2) (end_lacks _ _ _ _ _ memory (omega (arith, c.line_behind-line.ensures.line, c.len.ensures, c.len-2.ensures, c.len-3.ensures)) c.in_err-end_at.ensures.err)
+    rw (e.1, e.2) (end_lacks _ _ _ _ _ memory (omega (arith, c.line_behind-line.ensures.line, c.len.ensures, c.len-2.ensures, c.len-3.ensures))
+    c.in_err-end_at.ensures.err)
 
 pub returns-clause-ok : goal.returns-clause-ok
 returns-clause-ok c =

@@ -15,7 +15,8 @@ returns-in_err-image-clause-err c =
     rw (e.1, e.2) (image_lacks _ _ _ c.in-Some.ensures c.in_err-image.ensures.err)
 
 pub returns-in_default-params_at-clause-err : goal.returns-in_default-params_at-clause-err
-returns-in_default-params_at-clause-err c = params_lacks _ _ _ _ _ c.in-Some.ensures c.in_ok-image.ensures.ok c.line_behind-line.ensures.line c.in_default-params_at.ensures.none
+returns-in_default-params_at-clause-err c =
+    params_lacks _ _ _ _ _ c.in-Some.ensures c.in_ok-image.ensures.ok c.line_behind-line.ensures.line c.in_default-params_at.ensures.none
 
 pub returns-in_err-entries-clause-err : goal.returns-in_err-entries-clause-err
 returns-in_err-entries-clause-err c =
@@ -27,7 +28,8 @@ pub returns-in_err-end_at-clause-err : goal.returns-in_err-end_at-clause-err
 returns-in_err-end_at-clause-err c =
     let e = err_from_is_err_and c.from_residual-in_err-end_at.result c.from_residual-in_err-end_at.ensures.1 in
     let h = head _ _ _ _ _ _ c.in-Some.ensures c.in_ok-image.ensures.ok c.in-Some-params_at.ensures.range c.in-Some-params_at.ensures.found in
-    rw (e.1, e.2) (end_lacks _ _ _ _ _ _ _ _ _ h c.in_ok-entries.ensures.ok c.line_behind-line.ensures.line (omega (arith, c.len.ensures, length-map c.in_ok-entries.entries.items entry_of)) c.in_err-end_at.ensures.err)
+    rw (e.1, e.2) (end_lacks _ _ _ _ _ _ _ _ _ h c.in_ok-entries.ensures.ok c.line_behind-line.ensures.line
+    (omega (arith, c.len.ensures, length-map c.in_ok-entries.entries.items entry_of)) c.in_err-end_at.ensures.err)
 
 pub returns-clause-ok : goal.returns-clause-ok
 returns-clause-ok c =
