@@ -1,1 +1,6 @@
 pub mod Texts
+pub mod Lines
+pub mod Readings
+pub mod Fields
+pub mod Raw
+pub mod Lists

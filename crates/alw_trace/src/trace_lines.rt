@@ -1,0 +1,86 @@
+ghost use Rattle.std.specs.Prelude.{◌≡◌, ◌≤◌, ◌<◌, ◌-◌, ◌^◌, ◌+◌, length, map, codes, IfOk, IfErr, OnOk};
+ghost use Rattle.alw_trace.specs.Texts.{entry_line};
+ghost use Rattle.alw_trace.specs.Lines.{IsEntry, IsFaultAtEnd, IsFaultInLines, IsFaultInList, IsTraceFault};
+ghost use Rattle.alw_trace.specs.Raw.{AreEntriesRead, AreLinesRead, IsOfTrace, IsSyntax, entry_of, lines_of};
+
+use crate::faults::TextErr;
+use crate::image_lines::{image_at, line_behind};
+use crate::lines::{entry_at, params_at};
+use crate::raw::{RawEntry, RawTrace};
+use crate::readers::{behind, number_behind};
+use std::alloc::Global;
+
+/// What the lines of a trace say, in range or not, or the first line that isn't of its form.
+pub fn read_lines(alloc: Global, text: &[u8]) -> Result<RawTrace, TextErr>
+    ensures ok { IfOk result (λ trace. IsOfTrace text.now (lines_of trace)) }
+    ensures err { IfErr result (IsSyntax (IsTraceFault text.now)) }
+{
+    let Some(rest) = behind(text, b"ALEWIFE TRACE 1\n") else {
+        return Err(TextErr::Syntax { line: 1 });
+    };
+    let (image, rest) = image_at(alloc, rest)?;
+    let line = line_behind(&image);
+    let Some((params, rest)) = params_at(rest) else {
+        return Err(TextErr::Syntax { line });
+    };
+    let (entries, rest) = entries_at(alloc, rest, line + 1)?;
+    end_at(rest, line + 2 + entries.len() as u64)?;
+    Ok(RawTrace {
+        image,
+        params,
+        entries,
+    })
+}
+
+// The entries behind their number, in a line of this number and those behind it, and what follows them.
+fn entries_at(alloc: Global, text: &[u8], first: u64) -> Result<(Vec<RawEntry>, &[u8]), TextErr>
+    requires { first ≤ 2 ^ 60 }
+    ensures ok { IfOk result (λ read. AreEntriesRead text.now (map entry_of read.0.items) read.1.now) }
+    ensures err { IfErr result (IsSyntax (IsFaultInList IsEntry entry_line (codes "entries") first text.now)) }
+{
+    match number_behind(text, b"entries ", b'\n') {
+        Some((count, rest)) => lines_at(alloc, rest, count, first + 1),
+        None => Err(TextErr::Syntax { line: first }),
+    }
+}
+
+// So many entries, of which the first line has this number, and what follows them.
+fn lines_at(
+    alloc: Global,
+    text: &[u8],
+    count: u64,
+    first: u64,
+) -> Result<(Vec<RawEntry>, &[u8]), TextErr>
+    requires { first ≤ 2 ^ 61 }
+    ensures ok { IfOk result (λ read. AreLinesRead count text.now (map entry_of read.0.items) read.1.now) }
+    ensures err { IfErr result (IsSyntax (IsFaultInLines IsEntry entry_line count first text.now)) }
+{
+    let mut entries = Vec::new(alloc);
+    let mut rest = text;
+    while (entries.len() as u64) < count {
+        let Some((entry, after)) = entry_at(rest) else {
+            return Err(TextErr::Syntax {
+                line: first + entries.len() as u64,
+            });
+        };
+        entries.push(entry)?;
+        rest = after;
+    }
+    Ok((entries, rest))
+}
+
+// The last line, which has this number, and nothing behind it.
+pub fn end_at(text: &[u8], last: u64) -> Result<(), TextErr>
+    requires { last < 2 ^ 64 - 1 }
+    ensures ok { OnOk result (text.now ≡ codes "end\n") }
+    ensures err { IfErr result (IsSyntax (IsFaultAtEnd last text.now)) }
+{
+    let Some(rest) = behind(text, b"end\n") else {
+        return Err(TextErr::Syntax { line: last });
+    };
+    if rest.is_empty() {
+        Ok(())
+    } else {
+        Err(TextErr::Syntax { line: last + 1 })
+    }
+}
