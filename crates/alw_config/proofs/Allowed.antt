@@ -108,10 +108,21 @@ defaults_allowed names.Run (suc (suc (suc zero))) l = refl
 defaults_allowed names.Run (suc (suc (suc (suc zero)))) l = refl
 defaults_allowed names.Run (suc (suc (suc (suc (suc zero))))) l = refl
 defaults_allowed names.Run (suc (suc (suc (suc (suc (suc k)))))) l = absurd (omega arith)
+defaults_allowed names.Replay zero l = refl
+defaults_allowed names.Replay (suc k) l = absurd (omega arith)
+defaults_allowed names.Audit k l = absurd (omega arith)
+defaults_allowed names.Gen zero l = refl
+defaults_allowed names.Gen (suc zero) l = refl
+defaults_allowed names.Gen (suc (suc zero)) l = refl
+defaults_allowed names.Gen (suc (suc (suc zero))) l = refl
+defaults_allowed names.Gen (suc (suc (suc (suc k)))) l = absurd (omega arith)
 
 pub few_defaults : (name : Name) → length (defaults_of name) ≤ MOST_CHOICES
 few_defaults names.Asm = omega arith
 few_defaults names.Run = omega arith
+few_defaults names.Replay = omega arith
+few_defaults names.Audit = omega arith
+few_defaults names.Gen = omega arith
 
 pub value_allowed : (name : Name) (chosen : List (Option Made)) (k : ℕ) → AreAllowed (options_of name) chosen → k < length (defaults_of name)
     → IsTrue (is_allowed (options_of name) k (value_by chosen (defaults_of name) k))
@@ -124,5 +135,5 @@ value_allowed name chosen k allowed l = go (slice_index_or chosen k None) (allow
 
 -- the choices of a rule have places
 pub rule_has : (name : Name) → IfSome (rule_of name) HasChoices
-rule_has names.Asm = tt
-rule_has names.Run = tt
+rule_has names.Gen = record { one = omega arith; other = omega arith; third = omega arith }
+rule_has _ = tt

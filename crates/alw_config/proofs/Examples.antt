@@ -2,14 +2,11 @@
 use Rattle.std.proofs.Common.{◌≡◌, ℕ, zero, suc, ◌<◌, Bool, true, false, List, [], ◌∷◌, codes, refl, inl, arith}
 use Rattle.std.specs.Prelude.{Option, None, Some}
 use Rattle.std.specs.Fmt.{digits}
-use Rattle.alw_config.specs.declared.commands.Command.TheVariants.{Asm, Run}
+use Rattle.alw_config.specs.declared.commands.Command.TheVariants.{Asm, Run, Replay, Audit, Gen}
 use Rattle.alw_config.specs.declared.commands.How.TheVariants.{Seed}
 use Rattle.alw_config.specs.declared.commands.AsmForm.TheVariants.{Image, Listing}
-use Rattle.alw_config.specs.declared.commands.Form.TheVariants.{Report}
-use Rattle.alw_config.specs.declared.rows.Kind.TheVariants as kinds
-use Rattle.alw_config.specs.declared.rows.Value.TheVariants.{Number}
-use Rattle.alw_config.specs.Table.{Options, misfit}
-use Rattle.alw_config.specs.Places.{IsFirst, IsRefusedAt, is_bad, is_bad_option, asked}
+use Rattle.alw_config.specs.declared.commands.Form.TheVariants.{Report, Claim}
+use Rattle.alw_config.specs.Places.{IsFirst, IsRefusedAt, is_bad, asked, misfit_in}
 
 -- the first place that passes a test is 2
 at_two : (test : ℕ → Bool) → test 0 ≡ false → test 1 ≡ false → test 2 ≡ true → IsFirst test 2
@@ -83,32 +80,24 @@ evictions : (is_bad_of (codes "--evict") (codes "0") ≡ false) × (is_bad_of (c
 unfolding digits
 evictions = (refl, refl)
 
--- ---- what no command has yet: two options of one choice, and a rule over three
+replayed : asked (codes "replay" ∷ codes "--write" ∷ codes "claim" ∷ []) ≡ Some (Replay Claim)
+replayed = refl
 
-one_choice : Options
-one_choice = (codes "--seed", record { choice = 0; kind = kinds.Seed }) ∷ (codes "--workers", record { choice = 0; kind = kinds.Between 1 256 }) ∷ []
+audited : asked (codes "audit" ∷ []) ≡ Some Audit
+audited = refl
 
-shut_out : (is_bad_option one_choice (codes "--workers" ∷ codes "2" ∷ codes "--seed" ∷ codes "1" ∷ []) 2 ≡ true)
-    × (is_bad_option one_choice (codes "--seed" ∷ codes "1" ∷ codes "--workers" ∷ codes "2" ∷ []) 2 ≡ true)
-unfolding one_choice digits
-shut_out = (refl, refl)
+made : asked (codes "gen" ∷ []) ≡ Some (Gen 0 4 4 16)
+made = refl
 
-sizes : Options
-sizes = (codes "--width", record { choice = 0; kind = kinds.Between 1 16 }) ∷ (codes "--height", record { choice = 1; kind = kinds.Between 1 16 })
-    ∷ (codes "--size", record { choice = 2; kind = kinds.Between 1 255 }) ∷ []
+-- ---- where a mesh has more than 8 columns or rows, its nodes do at most 63 operations
 
--- where width or height is above 8, size is at most 63; the defaults are 4, 4 and 16
-misfit_of : List (List ℕ) → Option ℕ
-unfolding sizes
-misfit_of words = misfit (record { one = 0; other = 1; above = 8; third = 2; most = 63 }) sizes (Number 4 ∷ Number 4 ∷ Number 16 ∷ []) words
-
-small_enough : (misfit_of (codes "--size" ∷ codes "64" ∷ codes "--width" ∷ codes "8" ∷ []) ≡ None)
-    × (misfit_of (codes "--size" ∷ codes "63" ∷ codes "--height" ∷ codes "16" ∷ []) ≡ None)
-    × (misfit_of (codes "--width" ∷ codes "9" ∷ []) ≡ None)
-unfolding sizes misfit_of digits
+small_enough : (misfit_in (codes "gen" ∷ codes "--size" ∷ codes "64" ∷ codes "--width" ∷ codes "8" ∷ []) ≡ None)
+    × (misfit_in (codes "gen" ∷ codes "--size" ∷ codes "63" ∷ codes "--height" ∷ codes "16" ∷ []) ≡ None)
+    × (misfit_in (codes "gen" ∷ codes "--width" ∷ codes "9" ∷ []) ≡ None)
+unfolding digits
 small_enough = (refl, refl, refl)
 
-too_great : (misfit_of (codes "--size" ∷ codes "64" ∷ codes "--width" ∷ codes "9" ∷ []) ≡ Some 2)
-    × (misfit_of (codes "--height" ∷ codes "9" ∷ codes "--size" ∷ codes "255" ∷ []) ≡ Some 4)
-unfolding sizes misfit_of digits
+too_great : (misfit_in (codes "gen" ∷ codes "--size" ∷ codes "64" ∷ codes "--width" ∷ codes "9" ∷ []) ≡ Some 2)
+    × (misfit_in (codes "gen" ∷ codes "--height" ∷ codes "9" ∷ codes "--size" ∷ codes "255" ∷ []) ≡ Some 4)
+unfolding digits
 too_great = (refl, refl)

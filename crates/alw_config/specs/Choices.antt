@@ -1,5 +1,5 @@
 -- How the program holds the choices that options make.
-use Rattle.std.specs.Prelude.{◌≡◌, ℕ, suc, ◌<◌, ◌==◌, ◌&&◌, nat_le, Bool, true, false}
+use Rattle.std.specs.Prelude.{◌≡◌, ℕ, suc, ◌<◌, ◌≤◌, ◌==◌, ◌&&◌, nat_le, Bool, true, false}
 use Rattle.std.specs.Prelude.{⊤, IsTrue, List, [], ◌∷◌, slice_index_or, if◌then◌else◌, Option, None, IfSome, option_map}
 use Rattle.std.specs.Option.{option_map_or}
 use Rattle.std.specs.List.{AllByRecursion, list_any}
@@ -78,7 +78,15 @@ abbrev pub IsForm : Value → Type 0
 IsForm (values.Form form) = ⊤
 IsForm _ = ⊥
 
--- a run's parameters are parameters
+-- the numbers of a workload are within their ranges, and its operations fit the mesh
+pub record IsWorkload (width height size : ℕ) : Type 0 where
+  pub columns : (1 ≤ width) × (width ≤ 16)
+  pub rows : (1 ≤ height) × (height ≤ 16)
+  pub some : 1 ≤ size
+  pub most : size ≤ (if nat_le width 8 && nat_le height 8 then 255 else 63)
+
+-- a run's parameters are parameters, and a workload's numbers fit together
 abbrev pub IsWithin : Command → Type 0
-IsWithin (command.Asm write) = ⊤
 IsWithin (command.Run how params write) = AreParameters params
+IsWithin (command.Gen seed width height size) = IsWorkload width height size
+IsWithin _ = ⊤

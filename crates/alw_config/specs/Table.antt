@@ -8,11 +8,12 @@ use Rattle.alw_config.specs.declared.commands.Command.TheVariants as command
 use Rattle.alw_config.specs.declared.rows.Value.{Value}
 use Rattle.alw_config.specs.declared.rows.Value.TheVariants.{Number, How, AsmForm, Form}
 use Rattle.alw_config.specs.declared.rows.Name.{Name}
-use Rattle.alw_config.specs.declared.rows.Name.TheVariants.{Asm, Run}
+use Rattle.alw_config.specs.declared.rows.Name.TheVariants.{Asm, Run, Replay, Audit, Gen}
 use Rattle.alw_config.specs.declared.rows.Meaning.{Meaning}
 use Rattle.alw_config.specs.declared.rows.Made.{Made}
 use Rattle.alw_config.specs.declared.rows.Rule.{Rule}
-use Rattle.alw_config.specs.declared.rows.TheConstants.{COMMANDS, ASM_OPTIONS, ASM_DEFAULTS, RUN_OPTIONS, RUN_DEFAULTS}
+use Rattle.alw_config.specs.declared.rows.TheConstants.{COMMANDS, ASM_OPTIONS, ASM_DEFAULTS, RUN_OPTIONS, RUN_DEFAULTS, REPLAY_OPTIONS, REPLAY_DEFAULTS}
+use Rattle.alw_config.specs.declared.rows.TheConstants.{AUDIT_OPTIONS, AUDIT_DEFAULTS, GEN_OPTIONS, GEN_DEFAULTS, GEN_RULE}
 use Rattle.alw_config.specs.Values.{row_of, value_of}
 
 -- the commands, by their names
@@ -27,10 +28,16 @@ Options = List (List ℕ × Meaning)
 abbrev pub options_of : Name → Options
 options_of Asm = map (λ row. (row.0.now, row.1)) ASM_OPTIONS
 options_of Run = map (λ row. (row.0.now, row.1)) RUN_OPTIONS
+options_of Replay = map (λ row. (row.0.now, row.1)) REPLAY_OPTIONS
+options_of Audit = map (λ row. (row.0.now, row.1)) AUDIT_OPTIONS
+options_of Gen = map (λ row. (row.0.now, row.1)) GEN_OPTIONS
 
 abbrev pub defaults_of : Name → List Value
 defaults_of Asm = ASM_DEFAULTS
 defaults_of Run = RUN_DEFAULTS
+defaults_of Replay = REPLAY_DEFAULTS
+defaults_of Audit = AUDIT_DEFAULTS
+defaults_of Gen = GEN_DEFAULTS
 
 -- a word is an option that makes this choice
 abbrev pub makes : Options → ℕ → List ℕ → Bool
@@ -68,8 +75,8 @@ values_from choice options (default ∷ rest) words =
 
 -- a command's rule, where it has one
 abbrev pub rule_of : Name → Option Rule
-rule_of Asm = None
-rule_of Run = None
+rule_of Gen = Some GEN_RULE
+rule_of _ = None
 
 -- the number that a value is, and 0 where it is none
 abbrev pub number_in : Value → ℕ
@@ -96,4 +103,7 @@ abbrev pub command_of : Name → List Value → Option Command
 command_of Asm (AsmForm write ∷ []) = Some (command.Asm write)
 command_of Run (How how ∷ Number pointers ∷ Number sets ∷ Number limit ∷ Number evict ∷ Form write ∷ []) =
     Some (command.Run how (record { pointers = pointers; sets = sets; limit = limit; evict = evict }) write)
+command_of Replay (Form write ∷ []) = Some (command.Replay write)
+command_of Audit [] = Some command.Audit
+command_of Gen (Number seed ∷ Number width ∷ Number height ∷ Number size ∷ []) = Some (command.Gen seed width height size)
 command_of _ _ = None

@@ -15,6 +15,19 @@ pub enum Command {
         params: Params,
         write: Form,
     },
+    /// Takes the events of a trace again.
+    Replay {
+        write: Form,
+    },
+    /// Checks a claim on the flat machine.
+    Audit,
+    /// Makes the workload of a seed: a mesh of so many columns and rows, and `size` operations on each node.
+    Gen {
+        seed: u64,
+        width: u8,
+        height: u8,
+        size: u32,
+    },
 }
 
 /// What an assembled source is written as.
@@ -35,6 +48,14 @@ pub enum How {
 #[derive(Clone, Copy, Debug, PartialEq, Eq)]
 pub enum Form {
     Report,
+    /// The report's content as one object.
+    Json,
+    /// The image, the parameters and the journal, to be replayed.
+    Trace,
+    /// The image, the turns, the prints and the memory, to be audited.
+    Claim,
+    /// The report's first lines.
+    Summary,
 }
 
 /// The place of the first refused word, from 0. A missing word has the place behind the last.

@@ -7,8 +7,9 @@ ghost use Rattle.alw_config.specs.Choices.{HavePlaces, AreMade, AreAllowed, IsWi
 use crate::commands::{AsmForm, Command, Form, How, WordErr};
 use crate::lookups::row_of;
 use crate::rows::{
-    ASM_DEFAULTS, ASM_OPTIONS, MOST_CHOICES, Made, Meaning, Name, RUN_DEFAULTS, RUN_OPTIONS, Row,
-    Rule, Value,
+    ASM_DEFAULTS, ASM_OPTIONS, AUDIT_DEFAULTS, AUDIT_OPTIONS, GEN_DEFAULTS, GEN_OPTIONS, GEN_RULE,
+    MOST_CHOICES, Made, Meaning, Name, REPLAY_DEFAULTS, REPLAY_OPTIONS, RUN_DEFAULTS, RUN_OPTIONS,
+    Row, Rule, Value,
 };
 use alw_image::Params;
 
@@ -88,6 +89,9 @@ impl Name {
         match self {
             Name::Asm => &ASM_OPTIONS,
             Name::Run => &RUN_OPTIONS,
+            Name::Replay => &REPLAY_OPTIONS,
+            Name::Audit => &AUDIT_OPTIONS,
+            Name::Gen => &GEN_OPTIONS,
         }
     }
 
@@ -99,6 +103,9 @@ impl Name {
         match self {
             Name::Asm => &ASM_DEFAULTS,
             Name::Run => &RUN_DEFAULTS,
+            Name::Replay => &REPLAY_DEFAULTS,
+            Name::Audit => &AUDIT_DEFAULTS,
+            Name::Gen => &GEN_DEFAULTS,
         }
     }
 
@@ -107,7 +114,8 @@ impl Name {
         ensures { result ≡ rule_of self }
     {
         match self {
-            Name::Asm | Name::Run => None,
+            Name::Gen => Some(GEN_RULE),
+            Name::Asm | Name::Run | Name::Replay | Name::Audit => None,
         }
     }
 
@@ -130,7 +138,8 @@ impl Name {
 
     // The command with these choices, and with the default of each that isn't made.
     pub(crate) fn command(self, chosen: &Chosen) -> Command
-        requires { AreAllowed (options_of self) chosen.now }
+        requires allowed { AreAllowed (options_of self) chosen.now }
+        requires fits { option_and_then (λ rule. misfit_by rule chosen.now (defaults_of self)) (rule_of self) ≡ None }
         ensures command { command_of self (values_by 0 chosen.now (defaults_of self)) ≡ Some result }
         ensures within { IsWithin result }
     {
@@ -147,6 +156,16 @@ impl Name {
                     self.value(chosen, 4).number() as u8,
                 ),
                 write: self.value(chosen, 5).form(),
+            },
+            Name::Replay => Command::Replay {
+                write: self.value(chosen, 0).form(),
+            },
+            Name::Audit => Command::Audit,
+            Name::Gen => Command::Gen {
+                seed: self.value(chosen, 0).number(),
+                width: self.value(chosen, 1).number() as u8,
+                height: self.value(chosen, 2).number() as u8,
+                size: self.value(chosen, 3).number() as u32,
             },
         }
     }

@@ -11,6 +11,9 @@ pub(crate) type Row<T> = (&'static [u8], T);
 pub(crate) enum Name {
     Asm,
     Run,
+    Replay,
+    Audit,
+    Gen,
 }
 
 // What an option stands for. A command leaves choices, numbered from 0: an option makes one of them, by a
@@ -67,7 +70,13 @@ pub(crate) struct Rule {
 pub(crate) const MOST_CHOICES: usize = 6;
 
 // The commands, by their names.
-pub(crate) const COMMANDS: [Row<Name>; 2] = [(b"asm", Name::Asm), (b"run", Name::Run)];
+pub(crate) const COMMANDS: [Row<Name>; 5] = [
+    (b"asm", Name::Asm),
+    (b"run", Name::Run),
+    (b"replay", Name::Replay),
+    (b"audit", Name::Audit),
+    (b"gen", Name::Gen),
+];
 
 // What an assembled source is written as.
 pub(crate) const ASM_FORMS: [Row<AsmForm>; 2] = [
@@ -76,7 +85,13 @@ pub(crate) const ASM_FORMS: [Row<AsmForm>; 2] = [
 ];
 
 // What a run is written as.
-pub(crate) const FORMS: [Row<Form>; 1] = [(b"report", Form::Report)];
+pub(crate) const FORMS: [Row<Form>; 5] = [
+    (b"report", Form::Report),
+    (b"json", Form::Json),
+    (b"trace", Form::Trace),
+    (b"claim", Form::Claim),
+    (b"summary", Form::Summary),
+];
 
 // The options of `asm`.
 pub(crate) const ASM_OPTIONS: [Row<Meaning>; 1] = [(
@@ -145,3 +160,69 @@ pub(crate) const RUN_DEFAULTS: [Value; 6] = [
     Value::Number(0),
     Value::Form(Form::Report),
 ];
+
+// The options of `replay`.
+pub(crate) const REPLAY_OPTIONS: [Row<Meaning>; 1] = [(
+    b"--write",
+    Meaning {
+        choice: 0,
+        kind: Kind::Form,
+    },
+)];
+
+// What `replay` chooses where no option does.
+pub(crate) const REPLAY_DEFAULTS: [Value; 1] = [Value::Form(Form::Report)];
+
+// The options of `audit`, and what it chooses: there are none.
+pub(crate) const AUDIT_OPTIONS: [Row<Meaning>; 0] = [];
+
+pub(crate) const AUDIT_DEFAULTS: [Value; 0] = [];
+
+// The options of `gen`.
+pub(crate) const GEN_OPTIONS: [Row<Meaning>; 4] = [
+    (
+        b"--seed",
+        Meaning {
+            choice: 0,
+            kind: Kind::Between(0, u64::MAX),
+        },
+    ),
+    (
+        b"--width",
+        Meaning {
+            choice: 1,
+            kind: Kind::Between(1, 16),
+        },
+    ),
+    (
+        b"--height",
+        Meaning {
+            choice: 2,
+            kind: Kind::Between(1, 16),
+        },
+    ),
+    (
+        b"--size",
+        Meaning {
+            choice: 3,
+            kind: Kind::Between(1, 255),
+        },
+    ),
+];
+
+// What `gen` chooses where no option does.
+pub(crate) const GEN_DEFAULTS: [Value; 4] = [
+    Value::Number(0),
+    Value::Number(4),
+    Value::Number(4),
+    Value::Number(16),
+];
+
+// Where the mesh of `gen` has more than 8 columns or rows, so that the code has no more words than it may.
+pub(crate) const GEN_RULE: Rule = Rule {
+    one: 1,
+    other: 2,
+    above: 8,
+    third: 3,
+    most: 63,
+};

@@ -1,5 +1,3 @@
-use crate::options::chosen;
-use crate::rows::{Kind, Meaning, Row, Rule, Value};
 use crate::*;
 use alw_image::Params;
 use std::alloc::Global;
@@ -71,6 +69,13 @@ fn options_of_run(rt: HostRuntime) -> Result<(), Fail> {
     assert_eq!(rt;
         asked(alloc, line)?,
         Ok(run(u64::MAX, Params::of(8, 4096, 1_048_576, 255)))
+    );
+    let line = "run --write json";
+    let (how, params) = (How::Seed(0), Params::of(4, 256, 32_768, 0));
+    let write = Form::Json;
+    assert_eq!(rt;
+        asked(alloc, line)?,
+        Ok(Command::Run { how, params, write })
     );
     let line = "run --seed 0 --pointers 1 --sets 4 --limit 1 --evict 0";
     assert_eq!(rt; asked(alloc, line)?, Ok(run(0, Params::of(1, 4, 1, 0))));
@@ -239,113 +244,88 @@ fn refused_words_of_run(rt: HostRuntime) -> Result<(), Fail> {
     Ok(())
 }
 
-// Options of a command that no program takes yet: a number for a schedule or a number of workers, and
-// three numbers with a rule over them.
-const OPTIONS: [Row<Meaning>; 5] = [
+// Words of `gen`, and their refused place: where width or height is above 8, size is at most 63.
+const GEN: [(&str, Option<u32>); 15] = [
+    ("gen", None),
     (
-        b"--seed",
-        Meaning {
-            choice: 0,
-            kind: Kind::Seed,
-        },
+        "gen --seed 18446744073709551615 --width 16 --height 16",
+        None,
     ),
-    (
-        b"--workers",
-        Meaning {
-            choice: 0,
-            kind: Kind::Between(1, 256),
-        },
-    ),
-    (
-        b"--width",
-        Meaning {
-            choice: 1,
-            kind: Kind::Between(1, 16),
-        },
-    ),
-    (
-        b"--height",
-        Meaning {
-            choice: 2,
-            kind: Kind::Between(1, 16),
-        },
-    ),
-    (
-        b"--size",
-        Meaning {
-            choice: 3,
-            kind: Kind::Between(1, 255),
-        },
-    ),
+    ("gen --width 8 --height 1 --size 255", None),
+    ("gen --size 63 --height 16", None),
+    ("gen --size 64 --width 9", Some(2)),
+    ("gen --height 9 --seed 7 --size 255", Some(6)),
+    ("gen --width 16 --size 64 --height 16", Some(4)),
+    ("gen --size 64 --width 9 --depth 1", Some(5)),
+    ("gen --size 64 --width 9 --size 1", Some(5)),
+    ("gen --size 64 --width 17", Some(4)),
+    ("gen --size 0 --width 9", Some(2)),
+    ("gen --size 256", Some(2)),
+    ("gen --height 0", Some(2)),
+    ("gen --width 9 --size", Some(4)),
+    ("gen --write image", Some(1)),
 ];
 
-const DEFAULTS: [Value; 4] = [
-    Value::How(How::Seed(0)),
-    Value::Number(4),
-    Value::Number(4),
-    Value::Number(16),
-];
-
-// Where width or height is above 8, size is at most 63.
-const RULE: Rule = Rule {
-    one: 1,
-    other: 2,
-    above: 8,
-    third: 3,
-    most: 63,
-};
-
-// The refused place of the words behind such a command's name.
-fn refused(alloc: Global, line: &str) -> Result<Option<u32>, Fail> {
-    let words = words_of(alloc, line)?;
-    Ok(match chosen(&OPTIONS, &words) {
-        Ok(choices) => RULE.misfit(&choices, &DEFAULTS),
-        Err(e) => Some(e.at),
-    })
-}
-
-// Words of it, and their refused place.
-const RULED: [(&str, Option<u32>); 14] = [
-    ("", None),
-    ("--workers 256 --width 16 --height 16", None),
-    ("--width 8 --size 64", None),
-    ("--size 63 --height 16", None),
-    ("--size 64 --width 9", Some(2)),
-    ("--height 9 --seed 7 --size 255", Some(6)),
-    ("--width 16 --size 64 --height 16", Some(4)),
-    ("--size 64 --width 9 --depth 1", Some(5)),
-    ("--size 64 --width 9 --size 1", Some(5)),
-    ("--size 64 --width 17", Some(4)),
-    ("--size 0 --width 9", Some(2)),
-    ("--width 9 --size", Some(4)),
-    ("--seed 1 --workers 2", Some(3)),
-    ("--workers 2 --size 64 --seed 1", Some(5)),
+// Words of `replay` and `audit`, and their refused place.
+const TEXTS: [(&str, Option<u32>); 9] = [
+    ("replay", None),
+    ("replay --write report", None),
+    ("replay --write trace", None),
+    ("replay --write image", Some(2)),
+    ("replay --seed 1", Some(1)),
+    ("replay --write json --write json", Some(3)),
+    ("audit", None),
+    ("audit --write claim", Some(1)),
+    ("audit audit", Some(1)),
 ];
 
 #[test]
-fn rules_and_options_of_one_choice(rt: HostRuntime) -> Result<(), Fail> {
-    for (line, at) in RULED {
-        assert_eq!(rt; refused(rt.alloc(), line)?, at);
+fn words_of_gen(rt: HostRuntime) -> Result<(), Fail> {
+    for (line, at) in GEN {
+        assert_eq!(rt; asked(rt.alloc(), line)?.err(), at.map(|at| WordErr { at }));
     }
     Ok(())
 }
 
-// An option of a command that takes one form alone, and a command without options.
-const FORM_ALONE: [Row<Meaning>; 1] = [(
-    b"--write",
-    Meaning {
-        choice: 0,
-        kind: Kind::Form,
-    },
-)];
-
-const NO_OPTIONS: [Row<Meaning>; 0] = [];
-
 #[test]
-fn few_options(rt: HostRuntime) -> Result<(), Fail> {
-    let report = words_of(rt.alloc(), "--write report")?;
-    assert!(rt; chosen(&FORM_ALONE, &report).is_ok());
-    assert!(rt; chosen(&NO_OPTIONS, &report).is_err());
-    assert!(rt; chosen(&NO_OPTIONS, &[]).is_ok());
+fn words_of_replay_and_audit(rt: HostRuntime) -> Result<(), Fail> {
+    for (line, at) in TEXTS {
+        assert_eq!(rt; asked(rt.alloc(), line)?.err(), at.map(|at| WordErr { at }));
+    }
+    Ok(())
+}
+
+// The commands of texts and workloads, with defaults and without.
+#[test]
+fn options_of_the_others(rt: HostRuntime) -> Result<(), Fail> {
+    let alloc = rt.alloc();
+    let write = Form::Report;
+    assert_eq!(rt; asked(alloc, "replay")?, Ok(Command::Replay { write }));
+    let write = Form::Summary;
+    assert_eq!(rt;
+        asked(alloc, "replay --write summary")?,
+        Ok(Command::Replay { write })
+    );
+    assert_eq!(rt; asked(alloc, "audit")?, Ok(Command::Audit));
+    let (seed, width, height, size) = (0, 4, 4, 16);
+    assert_eq!(rt;
+        asked(alloc, "gen")?,
+        Ok(Command::Gen {
+            seed,
+            width,
+            height,
+            size
+        })
+    );
+    let (seed, width, height, size) = (7, 16, 9, 63);
+    assert_eq!(rt;
+        asked(alloc, "gen --size 63 --height 9 --seed 7 --width 16")?,
+        Ok(Command::Gen {
+            seed,
+            width,
+            height,
+            size
+        })
+    );
     Ok(())
 }

@@ -13,8 +13,11 @@ returns-in_err-choices-clause-cases c =
     rw (stop.1, stop.2, c.in-Some.ensures.cases.0)
     (refused (string_bytes c.in-Some.first.now) _ c.in-Some-row_of.name (sym known) c.in_err-choices.field-0.0.at behind)
 
-pub command-requires : goal.command-requires
-command-requires c = chosen_allowed _ _ _ (rw c.options.ensures at c.in_ok-choices.ensures)
+pub command-requires-clause-allowed : goal.command-requires-clause-allowed
+command-requires-clause-allowed c = chosen_allowed _ _ _ (rw c.options.ensures at c.in_ok-choices.ensures)
+
+pub command-requires-clause-fits : goal.command-requires-clause-fits
+command-requires-clause-fits c = sym c.misfit.ensures ∙ c.in-None.is
 
 pub returns-in_default-clause-cases : goal.returns-in_default-clause-cases
 returns-in_default-clause-cases c = missing_name _ (no_word string_bytes c.args.words.now c.in_default.ensures.cases)
