@@ -1,5 +1,5 @@
-ghost use Rattle.std.specs.Prelude.{◌≡◌, ◌&&◌, not};
-ghost use Rattle.alw_mesh.specs.Histories.{Starts, Steps, may_be_next, ArePartsOf};
+ghost use Rattle.std.specs.Prelude.{◌≡◌, ◌&&◌, not, IsTrue};
+ghost use Rattle.alw_mesh.specs.Histories.{Starts, Steps, may_be_next, entry_of, ArePartsOf};
 
 use crate::errors::{FitErr, MOST_STEPS, StepErr};
 use crate::meshes::Mesh;
@@ -66,6 +66,15 @@ impl Machine {
         ensures { result ≡ may_be_next self.now event }
     {
         self.mesh.may_be_next(event)
+    }
+
+    /// The stamp that an event has where it comes next: one more than the greater of its node's clock and
+    /// the stamp of the message that it takes (Lamport 1978).
+    pub fn stamp(&self, event: Event) -> u32
+        requires { IsTrue (may_be_next self.now event) }
+        ensures { result ≡ (entry_of self.now event).stamp }
+    {
+        self.mesh.stamp(event)
     }
 
     /// An event happens, or nothing does: NotEnabled comes exactly where `may` is false.
