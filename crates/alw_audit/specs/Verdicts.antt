@@ -1,5 +1,5 @@
 -- What is wrong with a claim: the first place at which it differs from the flat run of its turns. And which claims are sound.
-use Rattle.std.specs.Prelude.{◌≡◌, ℕ, zero, suc, ◌+◌, ◌*◌, ◌%◌, ◌<◌, ◌≤◌, ◌≢◌, ◌==◌, if◌then◌else◌, List, [], ◌∷◌, length, map, ⊤}
+use Rattle.std.specs.Prelude.{◌≡◌, ℕ, zero, suc, ◌+◌, ◌*◌, ◌%◌, ◌^◌, ◌<◌, ◌≤◌, ◌≢◌, ◌==◌, if◌then◌else◌, List, [], ◌∷◌, length, map, ⊤}
 use Rattle.std.specs.List.{AllByRecursion}
 use Rattle.std.specs.List.Sorted.{IsStrictlyIncreasing}
 use Rattle.alw_num.specs.declared.addresses.TheConstants.{SHARED_BASE}
@@ -35,6 +35,11 @@ abbrev pub stop_number : Status → ℕ
 stop_number Halted = 1
 stop_number (Trapped pc tt) = 2
 stop_number _ = 0
+
+-- the values of a verdict are of 32 bits
+abbrev pub AreWords : Verdict → Type 0
+AreWords Sound = ⊤
+AreWords (Differs place claimed real) = (claimed < 2 ^ 32) × (real < 2 ^ 32)
 
 -- the first difference, or else the second
 abbrev pub or_else : Verdict → Verdict → Verdict
@@ -77,7 +82,7 @@ verdict_of claim =
 -- ---- claims that can be audited
 
 -- the turns are of contexts that the image has, and the memory lists words of shared data that aren't 0, by address
-pub record IsClaim (claim : Claim) : Type 0 where
+pub record IsAuditable (claim : Claim) : Type 0 where
   pub turns : AllByRecursion (λ context. context < context_count claim.image) claim.turns
   pub memory : AllByRecursion (λ word. IsSharedWord claim.image word.0 × (word.1 ≢ 0)) claim.memory
   pub ascends : IsStrictlyIncreasing (map (λ word. word.0) claim.memory)

@@ -4,7 +4,7 @@ ghost use Rattle.alw_image.specs.Images.{IsImage, context_count, line_count};
 ghost use Rattle.alw_msg.specs.Statuses.{is_ready};
 ghost use Rattle.alw_model.specs.Flat.{print_of, turns_after, turns_print};
 ghost use Rattle.alw_audit.specs.declared.verdicts.Verdict.TheVariants.{Sound};
-ghost use Rattle.alw_audit.specs.Verdicts.{IsClaim, IsSound, stop_number, turns_verdict, verdict_of};
+ghost use Rattle.alw_audit.specs.Verdicts.{AreWords, IsAuditable, IsSound, stop_number, turns_verdict, verdict_of};
 
 use crate::memory::words_verdict;
 use crate::prints::prints_verdict;
@@ -21,17 +21,19 @@ use std::alloc::Global;
 /// a context that isn't Ready, the number of prints, a print, or a word of shared data, by address. A word that
 /// the claim doesn't list is claimed to be 0.
 pub fn audit(alloc: Global, claim: &Claim) -> Result<Verdict, NoMemory>
-    requires { IsClaim claim.now }
+    requires { IsAuditable claim.now }
     ensures verdict { IfOk result (λ verdict. verdict ≡ verdict_of claim.now) }
     ensures sound { IfOk result (λ verdict. (verdict ≡ Sound) ↔ IsSound claim.now) }
+    ensures words { IfOk result AreWords }
 {
     first_difference(alloc, claim)
 }
 
 // The first difference, in the order of turns, prints and memory.
 fn first_difference(alloc: Global, claim: &Claim) -> Result<Verdict, NoMemory>
-    requires { IsClaim claim.now }
-    ensures { IfOk result (λ verdict. verdict ≡ verdict_of claim.now) }
+    requires { IsAuditable claim.now }
+    ensures verdict { IfOk result (λ verdict. verdict ≡ verdict_of claim.now) }
+    ensures words { IfOk result AreWords }
 {
     let (turn_count, print_count) = (claim.turns.len(), claim.prints.len());
     prove!(turn_count <= u32::MAX && print_count <= u32::MAX);
@@ -67,6 +69,7 @@ fn run_turns(flat: &mut Flat, turns: &[u32], prints: &mut Prints) -> Result<Verd
     requires prints { length prints.old ≡ 0 }
     ensures verdict { IfOk result (λ verdict. verdict ≡ turns_verdict flat.old.parts flat.old.flat 0 turns.now) }
     ensures prints { IfOk result (λ verdict. verdict ≡ Sound → prints.new ≡ turns_print flat.old.parts flat.old.flat turns.now) }
+    ensures words { IfOk result AreWords }
     ensures state { IfOk result (λ verdict. verdict ≡ Sound → flat.new ≡ record flat.old { flat = turns_after flat.old.parts flat.old.flat turns.now }) }
 {
     let mut k = 0;
@@ -106,7 +109,8 @@ fn is_ready(status: Status) -> bool
 
 // 1 for a context that has halted, 2 for one that has trapped.
 fn stop_number(status: Status) -> u64
-    ensures { result ≡ stop_number status }
+    ensures number { result ≡ stop_number status }
+    ensures few { result ≤ 2 }
 {
     match status {
         Status::Halted => 1,

@@ -1,6 +1,6 @@
 ghost use Rattle.std.specs.Prelude.{◌≡◌, ◌<◌, ◌≤◌, ◌+◌, ◌*◌, ◌%◌, ◌^◌, ℕ};
 ghost use Rattle.alw_image.specs.Images.{line_count};
-ghost use Rattle.alw_audit.specs.Verdicts.{AreFrom, claimed_word, words_verdict};
+ghost use Rattle.alw_audit.specs.Verdicts.{AreFrom, AreWords, claimed_word, words_verdict};
 
 use crate::verdicts::{Place, Verdict};
 use alw_flat::Flat;
@@ -11,7 +11,8 @@ pub fn words_verdict(flat: &Flat, lines: u32, memory: &[(u32, u32)]) -> Verdict
     requires lines { lines ≡ line_count flat.now.parts }
     requires few { lines ≤ 2 ^ 20 }
     requires words { AreFrom SHARED_BASE memory.now }
-    ensures { result ≡ words_verdict memory.now flat.now.flat SHARED_BASE (4 * lines) }
+    ensures verdict { result ≡ words_verdict memory.now flat.now.flat SHARED_BASE (4 * lines) }
+    ensures words { AreWords result }
 {
     let mut rest = memory;
     for number in 0..4 * lines {

@@ -2,4 +2,5 @@ pub mod Listing
 pub mod Tasks
 pub mod Answering
 pub mod Completing
-mod Making
+mod Reached
+mod Made

@@ -1,8 +1,21 @@
 -- What each command keeps, whatever it does.
-use Rattle.std.proofs.Common.{◌≡◌, ◌<◌, ◌≤◌, arith, ℕ, List, [], Some, None, refl, sym, ◌∙◌, ◌⊎◌, inl, inr, IsTrue}
+use Rattle.std.proofs.Common.{◌≡◌, ◌<◌, ◌≤◌, arith, ℕ, suc, List, [], take, Some, None, refl, sym, ◌∙◌, ◌⊎◌, inl, inr, ⊎_elim, subst, IsTrue}
+use Rattle.std.specs.Prelude.{Err}
 use Rattle.alw_msg.specs.declared.events.Entry.{Entry}
 use Rattle.alw_image.specs.Parameters.{Parameters}
+use Rattle.alw_model.specs.Machine.{IsLegal}
+use Rattle.alw_model.proofs.Journals.{legal_take}
+use Rattle.alw_trace.specs.declared.values.Trace.{Trace}
+use Rattle.alw_trace.specs.declared.values.Claim.{Claim}
+use Rattle.alw_trace.specs.declared.faults.TextErr.{TextErr}
+use Rattle.alw_trace.specs.declared.faults.TextErr.TheVariants as text
+use Rattle.alw_trace.specs.Readings.{HasTraceTypes, HasClaimTypes, ReadsTrace, ReadsClaim}
+use Rattle.alw_trace.proofs.OneTrace.{read_back}
+use Rattle.alw_trace.proofs.ReadClaims.{claim_back}
+use Rattle.alw_audit.specs.declared.verdicts.Place.{Place}
+use Rattle.alw_audit.specs.declared.verdicts.Verdict.TheVariants as verdict
 use Rattle.alw_config.specs.declared.commands.AsmForm.{AsmForm}
+use Rattle.alw_config.specs.declared.commands.Form.{Form}
 use Rattle.alw_config.specs.declared.commands.Command.{Command}
 use Rattle.alw_config.specs.declared.commands.Command.TheVariants as commands
 use Rattle.alw_cli.specs.declared.answers.Cause.{Cause}
@@ -12,6 +25,9 @@ use Rattle.alw_cli.specs.Streams.{Stream, Stays, HadNoFault}
 use Rattle.alw_cli.specs.Tasks.{Task}
 use Rattle.alw_cli.specs.Assembling.{AsmAnswer, asm_task}
 use Rattle.alw_cli.specs.Running.{seed_of, RunAnswer, run_task}
+use Rattle.alw_cli.specs.Replaying.{Spells, ReplayAnswer, replay_task}
+use Rattle.alw_cli.specs.Auditing.{SpellsClaim, AuditAnswer, audit_task}
+use Rattle.alw_cli.specs.Making.{Asked, GenAnswer, gen_task}
 use Rattle.alw_cli.specs.Answers.{task_of}
 
 -- causes that no command has
@@ -55,33 +71,131 @@ asm_kept form = record {
 
 -- ---- run
 
-module _ (seed : ℕ) (params : Parameters) (bytes : List ℕ) (out out' : Stream) (journal : List Entry) where
-  run_inside : (c : Cause) → IsOutside c → RunAnswer seed params bytes out out' c journal → ⊥
+module _ (seed : ℕ) (params : Parameters) (form : Form) (bytes : List ℕ) (out out' : Stream) (journal : List Entry) where
+  run_inside : (c : Cause) → IsOutside c → RunAnswer seed params form bytes out out' c journal → ⊥
   run_inside (cause.Words e) outside answer = answer
   run_inside (cause.Input reason.TooLong) outside answer = answer
   run_inside cause.ReadFault outside answer = answer
   run_inside _ outside answer = outside
 
-  run_complete : (c : Cause) → RunAnswer seed params bytes out out' c journal → (run_task seed params).Accepts bytes → HadNoFault out out' →
-      IsTrue ((run_task seed params).is_done c) ⊎ (c ≡ cause.NoMemory)
+  run_complete : (c : Cause) → RunAnswer seed params form bytes out out' c journal → (run_task seed params form).Accepts bytes → HadNoFault out out' →
+      IsTrue ((run_task seed params form).is_done c) ⊎ (c ≡ cause.NoMemory)
   run_complete cause.Fine answer accepted quiet = inl refl
   run_complete (cause.Trapped at) answer accepted quiet = inl refl
   run_complete (cause.Limit event) answer accepted quiet = inl refl
   run_complete cause.NoMemory answer accepted quiet = inr refl
-  run_complete cause.WriteFault answer accepted quiet = absurd (quiet answer.runs.report.1)
+  run_complete cause.WriteFault answer accepted quiet = absurd (quiet answer.tells.told.text.1)
   run_complete (cause.Input (reason.Image fault)) answer accepted quiet = absurd (let e : Some fault ≡ None = sym answer.0 ∙ accepted.0 in cc)
   run_complete (cause.Input (reason.LimitDoesNotFit number most)) answer accepted quiet = absurd (omega (arith, answer.1.above, accepted.1))
   run_complete _ answer accepted quiet = absurd answer
 
-run_kept : (seed : ℕ) (params : Parameters) → IsKept (run_task seed params)
-run_kept seed params = record {
-  inside = λ bytes out out' c journal outside answer. run_inside seed params bytes out out' journal c outside answer;
+run_kept : (seed : ℕ) (params : Parameters) (form : Form) → IsKept (run_task seed params form)
+run_kept seed params form = record {
+  inside = λ bytes out out' c journal outside answer. run_inside seed params form bytes out out' journal c outside answer;
   wanting = λ bytes out out' journal answer. answer;
-  complete = λ bytes out out' c journal answer accepted quiet. run_complete seed params bytes out out' journal c answer accepted quiet;
+  complete = λ bytes out out' c journal answer accepted quiet. run_complete seed params form bytes out out' journal c answer accepted quiet;
+}
+
+-- ---- the text of a trace or a claim isn't refused
+
+trace_read : (bytes : List ℕ) (t : Trace) (fault : TextErr) → Spells bytes t → HasTraceTypes t → ReadsTrace bytes (Err fault) → fault ≡ text.NoMemory
+trace_read bytes t fault spells types refused = read_back t fault spells.1 types (subst (λ (bs : List ℕ). ReadsTrace bs (Err fault)) spells.0 refused)
+
+claim_read : (bytes : List ℕ) (c : Claim) (fault : TextErr) → SpellsClaim bytes c → HasClaimTypes c → ReadsClaim bytes (Err fault) → fault ≡ text.NoMemory
+claim_read bytes c fault spells types refused = claim_back c fault spells.1 types (subst (λ (bs : List ℕ). ReadsClaim bs (Err fault)) spells.0 refused)
+
+-- ---- replay
+
+module _ (form : Form) (bytes : List ℕ) (out out' : Stream) (journal : List Entry) where
+  replay_inside : (c : Cause) → IsOutside c → ReplayAnswer form bytes out out' c journal → ⊥
+  replay_inside (cause.Words e) outside answer = answer
+  replay_inside (cause.Input reason.TooLong) outside answer = answer
+  replay_inside cause.ReadFault outside answer = answer
+  replay_inside _ outside answer = outside
+
+  replay_complete : (c : Cause) → ReplayAnswer form bytes out out' c journal → (replay_task form).Accepts bytes → HadNoFault out out' →
+      IsTrue ((replay_task form).is_done c) ⊎ (c ≡ cause.NoMemory)
+  replay_complete cause.Fine answer accepted quiet = inl refl
+  replay_complete (cause.Trapped at) answer accepted quiet = inl refl
+  replay_complete (cause.Limit event) answer accepted quiet = inl refl
+  replay_complete cause.NoMemory answer accepted quiet = inr refl
+  replay_complete cause.WriteFault answer accepted quiet = absurd (quiet answer.tells.told.text.1)
+  replay_complete (cause.Input (reason.Text fault)) answer accepted quiet =
+      absurd (answer.0.0 (trace_read bytes accepted.trace fault accepted.spelled accepted.types answer.0.1))
+  replay_complete (cause.Input (reason.LimitDoesNotFit number most)) answer accepted quiet =
+      let many = answer.0 in absurd (omega (arith, many.holds.above, (accepted.finished many.trace many.spelled).fits))
+  replay_complete (cause.Input (reason.NotLegal k)) answer accepted quiet =
+      let illegal = answer.0 in
+      absurd (illegal.holds.1.here (legal_take illegal.trace.image illegal.trace.params (suc k) illegal.trace.journal
+      (accepted.finished illegal.trace illegal.spelled).legal))
+  replay_complete (cause.Input reason.Unfinished) answer accepted quiet =
+      let going = answer.0 in absurd ((accepted.finished going.trace going.spelled).ended going.holds.1.going)
+  replay_complete _ answer accepted quiet = absurd answer
+
+replay_kept : (form : Form) → IsKept (replay_task form)
+replay_kept form = record {
+  inside = λ bytes out out' c journal outside answer. replay_inside form bytes out out' journal c outside answer;
+  wanting = λ bytes out out' journal answer. answer;
+  complete = λ bytes out out' c journal answer accepted quiet. replay_complete form bytes out out' journal c answer accepted quiet;
+}
+
+-- ---- audit
+
+differs_unsound : (place : Place) (claimed real : ℕ) → verdict.Differs place claimed real ≡ verdict.Sound → ⊥
+differs_unsound place claimed real same = absurd cc
+
+module _ (bytes : List ℕ) (out out' : Stream) (journal : List Entry) where
+  audit_inside : (c : Cause) → IsOutside c → AuditAnswer bytes out out' c journal → ⊥
+  audit_inside (cause.Words e) outside answer = answer
+  audit_inside (cause.Input reason.TooLong) outside answer = answer
+  audit_inside cause.ReadFault outside answer = answer
+  audit_inside _ outside answer = outside
+
+  audit_complete : (c : Cause) → AuditAnswer bytes out out' c journal → audit_task.Accepts bytes → HadNoFault out out' →
+      IsTrue (audit_task.is_done c) ⊎ (c ≡ cause.NoMemory)
+  audit_complete cause.Fine answer accepted quiet = inl refl
+  audit_complete cause.NoMemory answer accepted quiet = inr refl
+  audit_complete cause.WriteFault answer accepted quiet = absurd (quiet answer.audits.text.1)
+  audit_complete (cause.Differs place claimed real) answer accepted quiet =
+      absurd (differs_unsound place claimed real (answer.sound.1 (accepted.sound answer.claim answer.spelled)))
+  audit_complete (cause.Input (reason.Text fault)) answer accepted quiet =
+      absurd (answer.0 (claim_read bytes accepted.claim fault accepted.spelled accepted.types answer.1))
+  audit_complete _ answer accepted quiet = absurd answer
+
+audit_kept : IsKept audit_task
+audit_kept = record {
+  inside = λ bytes out out' c journal outside answer. audit_inside bytes out out' journal c outside answer;
+  wanting = λ bytes out out' journal answer. answer;
+  complete = λ bytes out out' c journal answer accepted quiet. audit_complete bytes out out' journal c answer accepted quiet;
+}
+
+-- ---- gen
+
+module _ (asked : Asked) (out out' : Stream) (journal : List Entry) where
+  gen_inside : (c : Cause) → IsOutside c → GenAnswer asked out out' c journal → ⊥
+  gen_inside (cause.Words e) outside answer = answer
+  gen_inside (cause.Input reason.TooLong) outside answer = answer
+  gen_inside cause.ReadFault outside answer = answer
+  gen_inside _ outside answer = outside
+
+  gen_complete : (c : Cause) → GenAnswer asked out out' c journal → HadNoFault out out' → IsTrue ((gen_task asked).is_done c) ⊎ (c ≡ cause.NoMemory)
+  gen_complete cause.Fine answer quiet = inl refl
+  gen_complete cause.NoMemory answer quiet = inr refl
+  gen_complete cause.WriteFault answer quiet = absurd (quiet answer.text.1)
+  gen_complete _ answer quiet = absurd answer
+
+gen_kept : (asked : Asked) → IsKept (gen_task asked)
+gen_kept asked = record {
+  inside = λ bytes out out' c journal outside answer. gen_inside asked out out' journal c outside answer;
+  wanting = λ bytes out out' journal answer. answer;
+  complete = λ bytes out out' c journal answer accepted quiet. gen_complete asked out out' journal c answer quiet;
 }
 
 -- ---- each command
 
 pub each_kept : (command : Command) → IsKept (task_of command)
 each_kept (commands.Asm form) = asm_kept form
-each_kept (commands.Run how params form) = run_kept (seed_of how) params
+each_kept (commands.Run how params form) = run_kept (seed_of how) params form
+each_kept (commands.Replay form) = replay_kept form
+each_kept commands.Audit = audit_kept
+each_kept (commands.Gen seed width height size) = gen_kept (record { seed = seed; width = width; height = height; size = size })

@@ -38,4 +38,4 @@ is_assembled cause.Fine = true
 is_assembled _ = false
 
 abbrev pub asm_task : AsmForm → Task
-asm_task form = record { Answers = AsmAnswer form; Accepts = λ source. (fault : AsmErr) → assembled source ≢ Err fault; is_done = is_assembled }
+asm_task form = record { reads = true; Answers = AsmAnswer form; Accepts = λ source. (fault : AsmErr) → assembled source ≢ Err fault; is_done = is_assembled }

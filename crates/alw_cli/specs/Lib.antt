@@ -2,7 +2,12 @@ pub mod Texts
 pub mod Streams
 pub mod Statuses
 pub mod Tasks
+pub mod Forms
+pub mod Endings
 pub mod Assembling
 pub mod Runs
 pub mod Running
+pub mod Replaying
+pub mod Auditing
+pub mod Making
 pub mod Answers

@@ -1,5 +1,5 @@
 -- A source or a sink before and after a call: what was taken of the one, and put to the other.
-use Rattle.std.specs.Prelude.{ℕ, ◌<◌, ◌≤◌, Option, List, length}
+use Rattle.std.specs.Prelude.{◌≡◌, ℕ, ◌<◌, ◌≤◌, Bool, true, false, Option, Some, List, [], length}
 use Rattle.std.specs.Io.KnownBytes.{Appends, Consumes, IsAtEnd, Keeps}
 use Rattle.alw_io.specs.Outside.{Rose, AppendsPart}
 use Rattle.alw_cli.specs.declared.answers.TheConstants.{MOST_INPUT}
@@ -20,6 +20,11 @@ ReadsAll before after bytes = Consumes before.known after.known bytes × IsAtEnd
 abbrev pub Stays : Stream → Stream → Type 0
 Stays before after = Keeps before.known after.known
 
+-- what a command is handed: the whole rest of a source, or where it reads nothing, no bytes
+abbrev pub IsRead : Bool → Stream → Stream → List ℕ → Type 0
+IsRead true before after bytes = ReadsAll before after bytes
+IsRead false before after bytes = Stays before after × (bytes ≡ [])
+
 -- some bytes were taken, no more than an input may have; or more than that
 pub record TookSome (before after : Stream) : Type 0 where
   pub taken : List ℕ
@@ -30,6 +35,16 @@ pub record TookTooMany (before after : Stream) : Type 0 where
   pub taken : List ℕ
   pub read : Consumes before.known after.known taken
   pub many : MOST_INPUT < length taken
+
+-- some bytes were taken of a source that is read, and none of another
+abbrev pub IsTaken : Bool → Stream → Stream → Type 0
+IsTaken true before after = TookSome before after
+IsTaken false before after = Stays before after
+
+-- what a command may be handed: no more bytes than an input may have, which are a source's whole rest, or no bytes
+abbrev pub IsInput : Bool → Stream → List ℕ → Type 0
+IsInput true before bytes = (before.known ≡ Some bytes) × (length bytes ≤ MOST_INPUT)
+IsInput false before bytes = bytes ≡ []
 
 -- a sink gained the whole text, or a front of it, and then its count rose
 abbrev pub Gained : Stream → Stream → List ℕ → Type 0

@@ -1,11 +1,12 @@
--- What a command is: what it answers to the bytes that it read, which bytes it accepts, and when it was carried out.
+-- What a command is: whether it reads its input, what it answers to the bytes that it read, which bytes it accepts, and when it was carried out.
 use Rattle.std.specs.Prelude.{ℕ, Bool, List}
 use Rattle.alw_msg.specs.declared.events.Entry.{Entry}
 use Rattle.alw_cli.specs.declared.answers.Cause.{Cause}
 use Rattle.alw_cli.specs.Streams.{Stream}
 
 pub record Task : Type 1 where
-  -- of the bytes, the sink before and after, and what was answered: cause and journal
+  pub reads : Bool
+  -- of the bytes, the sink before and after, and what was answered: cause and journal; a command that reads nothing is handed no bytes
   pub Answers : List ℕ → Stream → Stream → Cause → List Entry → Type 0
   -- of the bytes
   pub Accepts : List ℕ → Type 0

@@ -5,6 +5,8 @@ use Rattle.alw_text.specs.Numbers.{hex_digits}
 use Rattle.alw_image.specs.Images.{spelling}
 use Rattle.alw_image.specs.declared.faults.ImageErr.{ImageErr}
 use Rattle.alw_image.specs.declared.faults.ImageErr.TheVariants as image
+use Rattle.alw_trace.specs.declared.faults.TextErr.{TextErr}
+use Rattle.alw_trace.specs.declared.faults.TextErr.TheVariants as text
 use Rattle.sparc_asm.specs.declared.faults.AsmErr.{AsmErr}
 use Rattle.sparc_asm.specs.declared.faults.AsmErr.TheVariants as asm
 use Rattle.sparc_assemble.specs.declared.assembling.Assembled.{Assembled}
@@ -60,10 +62,23 @@ image_text (image.Range at) = image_fault_text at (codes "range")
 image_text (image.Order at) = image_fault_text at (codes "order")
 image_text image.NoMemory = []
 
+-- which fault of a trace or a claim, with its line
+abbrev pub text_fault_text : ℕ → List ℕ → List ℕ
+text_fault_text line fault = codes "text line " ++ (decimal line ++ (codes ": " ++ fault))
+
+abbrev pub text_text : TextErr → List ℕ
+text_text (text.Syntax line) = text_fault_text line (codes "syntax")
+text_text (text.Range line) = text_fault_text line (codes "range")
+text_text (text.Image fault) = image_text fault
+text_text text.NoMemory = []
+
 abbrev pub input_text : InputErr → List ℕ
 input_text input.TooLong = codes "too long"
 input_text (input.Asm fault) = asm_text fault
 input_text (input.Image fault) = image_text fault
+input_text (input.Text fault) = text_text fault
+input_text (input.NotLegal k) = codes "entry " ++ (decimal k ++ codes " not legal")
+input_text input.Unfinished = codes "not finished"
 input_text (input.LimitDoesNotFit number most) = codes "limit " ++ (decimal number ++ (codes " above " ++ decimal most))
 
 -- the words before a refused input's reason
@@ -79,11 +94,12 @@ write_fault_line = codes "alewife: write fault\n"
 unfoldable pub no_memory_line : List ℕ
 no_memory_line = codes "alewife: no memory\n"
 
--- the line of an answer: nothing where all went well, a context trapped or the limit was reached
+-- the line of an answer: nothing where all went well, a context trapped, the limit was reached or a claim isn't sound
 abbrev pub err_line : Cause → List ℕ
 err_line cause.Fine = []
 err_line (cause.Trapped at) = []
 err_line (cause.Limit event) = []
+err_line (cause.Differs place claimed real) = []
 err_line (cause.Words e) = codes "alewife: word " ++ (decimal e.at ++ codes " refused\n")
 err_line (cause.Input fault) = input_refused ++ (input_text fault ++ codes "\n")
 err_line cause.ReadFault = read_fault_line

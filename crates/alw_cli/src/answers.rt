@@ -1,27 +1,34 @@
 ghost use Rattle.std.specs.Prelude.{◌≡◌, []};
 ghost use Rattle.alw_cli.specs.Statuses.{status_of};
 
+use alw_audit::Place;
 use alw_config::WordErr;
 use alw_image::ImageErr;
 use alw_model::TrapAt;
 use alw_msg::{Event, Journal};
+use alw_trace::TextErr;
 use sparc_asm::AsmErr;
 use std::alloc::Global;
 
 /// The most bytes that an input may have.
 pub const MOST_INPUT: usize = 268_435_456;
 
-/// Why an input was refused: it is too long, it is no source or no image, or nodes times the event limit
-/// are above the most that a machine takes, with both numbers.
+/// Why an input was refused: it is too long; it is no source, no image, or no text of a trace or a claim; nodes
+/// times the event limit are above the most that a machine takes, with both numbers; an entry of a trace,
+/// counted from 0, is the first that isn't legal; or no end holds after its last entry.
 #[derive(Clone, Copy, Debug, PartialEq, Eq)]
 pub enum InputErr {
     TooLong,
     Asm(AsmErr),
     Image(ImageErr),
+    Text(TextErr),
+    NotLegal(u32),
+    Unfinished,
     LimitDoesNotFit(u64, u64),
 }
 
-/// The cause of an answer.
+/// The cause of an answer. A claim that differs from the flat run of its turns does so first at a place, with
+/// what is claimed there and what is real.
 #[derive(Clone, Copy, Debug, PartialEq, Eq)]
 pub enum Cause {
     Fine,
@@ -32,9 +39,10 @@ pub enum Cause {
     ReadFault,
     WriteFault,
     NoMemory,
+    Differs(Place, u64, u64),
 }
 
-/// What the program answers: its exit status, the cause, the journal of the run that was made, and
+/// What the program answers: its exit status, the cause, the journal of the run or replay that was made, and
 /// how many of its entries come from the merged logs of workers.
 #[derive(Debug, Drop)]
 pub struct Done {
@@ -83,5 +91,6 @@ fn status_of(cause: &Cause) -> u8
         Cause::ReadFault => 6,
         Cause::WriteFault => 7,
         Cause::NoMemory => 8,
+        Cause::Differs(..) => 9,
     }
 }

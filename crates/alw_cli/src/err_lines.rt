@@ -1,22 +1,23 @@
 ghost use Rattle.std.specs.Prelude.{◌≡◌, ◌≤◌, ◌+◌, ◌++◌, [], length};
 ghost use Rattle.std.specs.Fmt.{decimal};
 ghost use Rattle.alw_cli.specs.declared.answers.Cause.TheVariants.{Words, Input};
-ghost use Rattle.alw_cli.specs.Texts.{err_line, input_text, asm_text, asm_fault_text, image_text, image_fault_text, input_refused, read_fault_line, write_fault_line, no_memory_line};
+ghost use Rattle.alw_cli.specs.Texts.{err_line, input_text, asm_text, asm_fault_text, image_text, image_fault_text, text_text, text_fault_text, input_refused, read_fault_line, write_fault_line, no_memory_line};
 
 use crate::answers::{Cause, InputErr};
 use alw_image::ImageErr;
+use alw_trace::TextErr;
 use arrayvec::ArrayString;
 use itoa::Buffer;
 use sparc_asm::AsmErr;
 
 /// The line of an answer on standard error, which takes no memory: nothing where all went well, a
-/// context trapped or the limit was reached.
+/// context trapped, the limit was reached or a claim isn't sound.
 pub fn err_line(cause: &Cause) -> ArrayString<96>
     ensures { result.bytes ≡ err_line cause.now }
 {
     let mut line = ArrayString::new();
     match cause {
-        Cause::Fine | Cause::Trapped(_) | Cause::Limit(_) => {}
+        Cause::Fine | Cause::Trapped(_) | Cause::Limit(_) | Cause::Differs(..) => {}
         Cause::Words(e) => put_refused_word(&mut line, e.at),
         Cause::Input(fault) => put_refused_input(&mut line, fault),
         Cause::ReadFault => put_read_fault(&mut line),
@@ -89,6 +90,13 @@ fn put_input(line: &mut ArrayString<96>, fault: &InputErr)
         InputErr::TooLong => line.push_str("too long"),
         InputErr::Asm(fault) => put_asm(line, fault),
         InputErr::Image(fault) => put_image(line, fault),
+        InputErr::Text(fault) => put_text(line, fault),
+        InputErr::NotLegal(k) => {
+            line.push_str("entry ");
+            put_number(line, *k);
+            line.push_str(" not legal");
+        }
+        InputErr::Unfinished => line.push_str("not finished"),
         InputErr::LimitDoesNotFit(number, most) => {
             line.push_str("limit ");
             put_long(line, *number);
@@ -154,6 +162,33 @@ fn put_image_fault(line: &mut ArrayString<96>, at: u32, fault: &str)
 {
     line.push_str("image byte ");
     put_number(line, at);
+    line.push_str(": ");
+    line.push_str(fault);
+}
+
+// The fault of a trace or a claim.
+fn put_text(line: &mut ArrayString<96>, fault: &TextErr)
+    requires { length line.old.bytes ≤ 24 }
+    ensures text { line.new.bytes ≡ line.old.bytes ++ text_text fault.now }
+    ensures few { length line.new.bytes ≤ 72 }
+{
+    match fault {
+        TextErr::Syntax { line: at } => put_text_fault(line, *at, "syntax"),
+        TextErr::Range { line: at } => put_text_fault(line, *at, "range"),
+        TextErr::Image { fault } => put_image(line, fault),
+        TextErr::NoMemory => {}
+    }
+}
+
+// A line of a text, and what is wrong there.
+fn put_text_fault(line: &mut ArrayString<96>, at: u64, fault: &str)
+    requires room { length line.old.bytes ≤ 24 }
+    requires short { length fault.now ≤ 12 }
+    ensures text { line.new.bytes ≡ line.old.bytes ++ text_fault_text at fault.now }
+    ensures few { length line.new.bytes ≤ 72 }
+{
+    line.push_str("text line ");
+    put_long(line, at);
     line.push_str(": ");
     line.push_str(fault);
 }

@@ -1,12 +1,16 @@
-//! The simulator's program: it assembles the source, or runs the image, that it reads on standard
-//! input, and writes the image, listing or report on standard output.
+//! The simulator's program: it assembles the source, runs the image, replays the trace or audits the claim that
+//! it reads on standard input, or makes a workload, and writes the image or text on standard output.
 #![tactic(auto)]
 
 mod answers;
 mod assembling;
+mod auditing;
 mod err_lines;
 mod listings;
+mod making;
+mod replaying;
 mod running;
+mod runs;
 mod top;
 
 use alw_io::{StdSink, StdSource};

@@ -1,11 +1,13 @@
 use crate::answers::{Cause, Done, InputErr};
 use crate::top::alewife;
+use alw_audit::Place;
 use alw_config::WordErr;
 use alw_image::ImageErr;
 use alw_io::{MemSink, MemSource};
 use alw_model::TrapAt;
 use alw_msg::{Entry, Event};
 use alw_num::NodeNo;
+use alw_trace::TextErr;
 use sparc_asm::AsmErr;
 use std::alloc::Global;
 use std::test::Fail;
@@ -259,6 +261,190 @@ fn faults_outside(rt: HostRuntime) -> Result<(), Fail> {
     if written.cause != Cause::NoMemory {
         assert_eq!(rt; written.status, 7);
         assert_eq!(rt; out.bytes(), b"ALEWIFE REPORT 1".as_slice());
+    }
+    Ok(())
+}
+
+// Two nodes store their second and first argument at one address; the first loads and prints it. The trace is
+// one of an independent program.
+const TWO_WRITERS: &str = "ALEWIFE TRACE 1
+image 76
+414c455700010201010000010000000800000000000000020000000003100000
+d2204000d000400091d0200191d0200003100000d020400091d0200000000000
+000000000001000000000014
+params pointers 4 sets 256 limit 32768
+";
+
+const ENTRIES: &str = "entries 16
+1 I 1
+2 I 1
+3 D 1 0
+4 I 0
+5 I 0
+4 D 0 1
+5 I 1
+6 I 1
+6 D 0 0
+7 D 0 1
+8 D 1 0
+9 D 0 0
+10 I 0
+11 I 0
+12 I 0
+13 I 0
+end
+";
+
+const SUMMARY: &str = "ALEWIFE REPORT 1
+mesh 2 1 contexts 1 lines 1
+params pointers 4 sets 256 limit 32768
+ended halted
+entries 16 turns 8 misses 2 evicts 0
+messages RREQ 0 WREQ 2 REPM 0 UPDATE 1 ACKC 0 RDATA 0 WDATA 2 INV 1 BUSY 0
+hops 4 handlers 0 spills 0
+";
+
+const JSON: &str =
+    "{\"contexts\":1,\"counts\":{\"ACKC\":0,\"BUSY\":0,\"INV\":1,\"RDATA\":0,\"REPM\":0,\"RREQ\":0,\"UPDATE\":1,\"WDATA\":2,\"WREQ\":2,\"entries\":16,\"evicts\":0,\"handlers\":0,\"hops\":4,\"misses\":2,\"spills\":0,\"turns\":8},\"directory\":[{\"acks\":0,\"hw\":[0],\"line\":0,\"meta\":\"normal\",\"state\":\"RW\",\"sw\":[]}],\"ended\":\"halted\",\"lines\":1,\"memory\":[[1073741824,2]],\"mesh\":[2,1],\"params\":{\"limit\":32768,\"pointers\":4,\"sets\":256},\"prints\":[[0,2]],\"runs\":[[1,1],[0,1],[1,2],[0,4]]}\n";
+
+// The claim of that run, up to its lists.
+const CLAIM: &str = "ALEWIFE CLAIM 1
+image 76
+414c455700010201010000010000000800000000000000020000000003100000
+d2204000d000400091d0200191d0200003100000d020400091d0200000000000
+000000000001000000000014
+";
+
+const LISTS: &str = "runs 4
+1 1
+0 1
+1 2
+0 4
+prints 1
+0 0x00000002
+memory 1
+0x40000000 0x00000002
+end
+";
+
+// A text in two parts.
+fn joined(alloc: Global, front: &str, behind: &str) -> Result<String, Fail> {
+    let mut text = String::from_str(alloc, front)?;
+    text.push_str(behind)?;
+    Ok(text)
+}
+
+#[test]
+fn a_trace_is_replayed(rt: HostRuntime) -> Result<(), Fail> {
+    let alloc = rt.alloc();
+    let trace = joined(alloc, TWO_WRITERS, ENTRIES)?;
+    let claim = joined(alloc, CLAIM, LISTS)?;
+    for (words, text) in [
+        ("replay --write summary", SUMMARY),
+        ("replay --write json", JSON),
+        ("replay --write trace", trace.as_str()),
+        ("replay --write claim", claim.as_str()),
+    ] {
+        let again = call(alloc, words, trace.as_str().as_bytes())?;
+        assert!(rt; is_answer(&again, 0, Cause::Fine));
+        assert!(rt; again.done.status != 0 || again.out.bytes() == text.as_bytes());
+    }
+    Ok(())
+}
+
+#[test]
+fn traces_that_are_refused(rt: HostRuntime) -> Result<(), Fail> {
+    let alloc = rt.alloc();
+    let syntax = TextErr::Syntax { line: 8 };
+    let range = TextErr::Range { line: 8 };
+    for (entries, fault, line) in [
+        (
+            "entries 3\n1 I 1\n2 I 1\n3 D 1 0\nend\n",
+            InputErr::Unfinished,
+            "alewife: input refused: not finished\n",
+        ),
+        (
+            "entries 2\n1 I 1\n3 I 1\nend\n",
+            InputErr::NotLegal(1),
+            "alewife: input refused: entry 1 not legal\n",
+        ),
+        (
+            "entries 1\n01 I 1\nend\n",
+            InputErr::Text(syntax),
+            "alewife: input refused: text line 8: syntax\n",
+        ),
+        (
+            "entries 1\n1 I 2\nend\n",
+            InputErr::Text(range),
+            "alewife: input refused: text line 8: range\n",
+        ),
+    ] {
+        let trace = joined(alloc, TWO_WRITERS, entries)?;
+        let refused = call(alloc, "replay", trace.as_str().as_bytes())?;
+        assert!(rt; is_answer(&refused, 3, Cause::Input(fault)));
+        assert!(rt; tells(&refused, line));
+        assert_eq!(rt; refused.out.bytes().len(), 0);
+    }
+    Ok(())
+}
+
+#[test]
+fn claims_are_audited(rt: HostRuntime) -> Result<(), Fail> {
+    let alloc = rt.alloc();
+    let sound = joined(alloc, CLAIM, LISTS)?;
+    let audited = call(alloc, "audit", sound.as_str().as_bytes())?;
+    assert!(rt; is_answer(&audited, 0, Cause::Fine));
+    assert!(rt; audited.done.status != 0 || audited.out.bytes() == "sound\n".as_bytes());
+    let turns = "runs 4\n1 1\n0 1\n1 2\n0 4\n";
+    for (lists, cause, line) in [
+        (
+            "prints 1\n0 0x00000003\nmemory 0\nend\n",
+            Cause::Differs(Place::Print { k: 0 }, 3, 2),
+            "differs print 0 claimed 0x00000003 real 0x00000002\n",
+        ),
+        (
+            "prints 1\n1 0x00000002\nmemory 0\nend\n",
+            Cause::Differs(Place::PrintContext { k: 0 }, 1, 0),
+            "differs print-context 0 claimed 0x00000001 real 0x00000000\n",
+        ),
+        (
+            "prints 0\nmemory 0\nend\n",
+            Cause::Differs(Place::PrintCount, 0, 1),
+            "differs print-count claimed 0x00000000 real 0x00000001\n",
+        ),
+        (
+            "prints 1\n0 0x00000002\nmemory 0\nend\n",
+            Cause::Differs(Place::Memory { addr: 0x4000_0000 }, 0, 2),
+            "differs memory 0x40000000 claimed 0x00000000 real 0x00000002\n",
+        ),
+    ] {
+        let claim = joined(alloc, CLAIM, turns)?;
+        let claim = joined(alloc, claim.as_str(), lists)?;
+        let audited = call(alloc, "audit", claim.as_str().as_bytes())?;
+        assert!(rt; is_answer(&audited, 9, cause));
+        assert!(rt; audited.done.status != 9 || audited.out.bytes() == line.as_bytes());
+    }
+    Ok(())
+}
+
+// A workload reads nothing, and its run is one whose trace is replayed and whose claim is sound.
+#[test]
+fn a_workload_goes_round(rt: HostRuntime) -> Result<(), Fail> {
+    let alloc = rt.alloc();
+    let words = "gen --width 2 --height 1 --size 3 --seed 1";
+    let image = call(alloc, words, b"not read")?;
+    assert!(rt; is_answer(&image, 0, Cause::Fine));
+    let summary = call(alloc, "run --write summary", image.out.bytes())?;
+    let trace = call(alloc, "run --write trace", image.out.bytes())?;
+    let claim = call(alloc, "run --write claim", image.out.bytes())?;
+    let again = call(alloc, "replay --write summary", trace.out.bytes())?;
+    let audited = call(alloc, "audit", claim.out.bytes())?;
+    if audited.done.status == 0 && again.done.status == 0 {
+        assert_eq!(rt; again.out.bytes(), summary.out.bytes());
+        assert_eq!(rt; audited.out.bytes(), "sound\n".as_bytes());
+    } else {
+        assert!(rt; is_answer(&again, 0, Cause::Fine));
+        assert!(rt; is_answer(&audited, 0, Cause::Fine));
     }
     Ok(())
 }

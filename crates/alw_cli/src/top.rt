@@ -5,19 +5,23 @@ ghost use Rattle.alw_cli.specs.Streams.{stream_of};
 
 use crate::answers::{Cause, Done, InputErr, MOST_INPUT};
 use crate::assembling::assemble_source;
+use crate::auditing::audit_bytes;
 use crate::err_lines::err_line;
+use crate::making::make_workload;
+use crate::replaying::replay_bytes;
 use crate::running::run_bytes;
 use alw_config::{Command, command};
 use alw_io::{ReadErr, Sink, Source, read_all, write_whole};
+use alw_num::Bytes;
 use std::alloc::Global;
 
-/// Does what the command words ask for: reads `input` to its end, assembles the source or runs the
-/// image that it is, and writes the image, listing or report to `out`. A refusal, a fault of the
-/// outside and want of memory have a line on `err`.
+/// Does what the command words ask for: reads `input` to its end, assembles the source, runs the image,
+/// replays the trace or audits the claim that it is, or else makes a workload and reads nothing, and writes
+/// what comes of it to `out`. A refusal, a fault of the outside and want of memory have a line on `err`.
 ///
-/// The status follows from the cause: 0 is an assembled source or a halted run, 2 refused words, 3 a
-/// refused input, 4 a trapped run, 5 a run at its limit, 6 a read fault, 7 a write fault and 8 want of
-/// memory.
+/// The status follows from the cause: 0 is a source that was assembled, a workload that was made, a run that
+/// halted or a claim that is sound, 2 refused words, 3 a refused input, 4 a trapped run, 5 a run at its limit,
+/// 6 a read fault, 7 a write fault, 8 want of memory and 9 a claim that isn't sound.
 pub fn alewife<S: Source, K: Sink, E: Sink>(
     alloc: Global,
     words: &[String],
@@ -58,6 +62,10 @@ fn answer<S: Source, K: Sink>(alloc: Global, words: &[String], input: &mut S, ou
         Ok(command) => command,
         Err(e) => return Done::without(alloc, Cause::Words(e)),
     };
+    if !reads(&command) {
+        let none = Bytes::empty(alloc);
+        return perform(alloc, command, none.bytes(), out);
+    }
     let bytes = match read_all(alloc, input, MOST_INPUT) {
         Ok(bytes) => bytes,
         Err(ReadErr::Failed) => return Done::without(alloc, Cause::ReadFault),
@@ -65,6 +73,16 @@ fn answer<S: Source, K: Sink>(alloc: Global, words: &[String], input: &mut S, ou
         Err(ReadErr::NoMemory) => return Done::without(alloc, Cause::NoMemory),
     };
     perform(alloc, command, bytes.bytes(), out)
+}
+
+// A command reads its input.
+fn reads(command: &Command) -> bool
+    ensures { result ≡ (task_of command.now).reads }
+{
+    match command {
+        Command::Gen { .. } => false,
+        _ => true,
+    }
 }
 
 // Carries out a command on the whole input.
@@ -77,7 +95,15 @@ fn perform<K: Sink>(alloc: Global, command: Command, bytes: &[u8], out: &mut K) 
 {
     match command {
         Command::Asm { write } => assemble_source(alloc, write, bytes, out),
-        Command::Run { how, params, .. } => run_bytes(alloc, how, &params, bytes, out),
+        Command::Run { how, params, write } => run_bytes(alloc, how, &params, write, bytes, out),
+        Command::Replay { write } => replay_bytes(alloc, write, bytes, out),
+        Command::Audit => audit_bytes(alloc, bytes, out),
+        Command::Gen {
+            seed,
+            width,
+            height,
+            size,
+        } => make_workload(alloc, seed, width, height, size, out),
     }
 }
 

@@ -1,0 +1,116 @@
+-- A run that was made and written is the answer of its command.
+use Rattle.std.proofs.Common.{◌≡◌, ◌≤◌, ℕ, List, [], None, Some, refl, sym, ap, subst, ◌∙◌, inl, inr}
+use Rattle.std.specs.Prelude.{Option, Err}
+use Rattle.std.specs.Io.KnownBytes.{Keeps}
+use Rattle.alw_msg.specs.declared.events.Entry.{Entry}
+use Rattle.alw_image.specs.declared.parts.Parts.{Parts}
+use Rattle.alw_image.specs.Faults.{image_in, image_fault}
+use Rattle.alw_image.specs.Images.{IsImage, spelling}
+use Rattle.alw_image.specs.Parameters.{Parameters}
+use Rattle.alw_model.specs.declared.ends.Ended.{Ended}
+use Rattle.alw_model.specs.declared.ends.Ended.TheVariants as ended
+use Rattle.alw_model.specs.Headline.{IsScheduled}
+use Rattle.alw_sched.specs.Schedules.{IsSeededRun}
+use Rattle.alw_sched.proofs.Seeded.{seeded_scheduled}
+use Rattle.alw_trace.specs.declared.values.Trace.{Trace}
+use Rattle.alw_config.specs.declared.commands.Form.{Form}
+use Rattle.alw_cli.specs.declared.answers.Cause.{Cause}
+use Rattle.alw_cli.specs.declared.answers.Cause.TheVariants as cause
+use Rattle.alw_cli.specs.declared.answers.InputErr.TheVariants as reason
+use Rattle.alw_cli.specs.declared.runs.Run.{Run}
+use Rattle.alw_cli.specs.Statuses.{cause_of}
+use Rattle.alw_cli.specs.Streams.{Stream, Stays, Gained, GainedPart}
+use Rattle.alw_cli.specs.Endings.{Telling, AnswersEnd}
+use Rattle.alw_cli.specs.Runs.{IsMade, IsRunBy, IsRunAgain, RanAgain, IsWritten}
+use Rattle.alw_cli.specs.Running.{IsTold, Runs, RunAnswer}
+use Rattle.alw_cli.specs.Replaying.{Spells, Replays, ReplayAnswer}
+
+-- a stream that nothing is done to
+pub keeps : (known : Option (List ℕ)) → Keeps known known
+keeps None = tt
+keeps (Some bytes) = refl
+
+-- by its end
+by_end : (Tells : Telling) (out out' : Stream) (e : Ended) → Tells e (Gained out out') → AnswersEnd Tells out out' (cause_of e)
+by_end Tells out out' ended.Halted tells = tells
+by_end Tells out out' (ended.Trapped at) tells = tells
+by_end Tells out out' (ended.Limit event) tells = tells
+
+-- what holds of a run however it is written is answered
+answered : (Tells : Telling) (run : Run) (out out' : Stream) (c : Cause) → ((Written : List ℕ → Type 0) → Written run.text → Tells run.ended Written) →
+    IsWritten run out out' c → AnswersEnd Tells out out' c
+answered Tells run out out' c tells (inl written) =
+    subst (AnswersEnd Tells out out') (sym written.0) (by_end Tells out out' run.ended (tells (Gained out out') written.1))
+answered Tells run out out' c tells (inr failed) =
+    subst (AnswersEnd Tells out out') (sym failed.0) (record { end = run.ended; tells = tells (GainedPart out out') failed.1 })
+
+told_of_made : (image : Parts) (params : Parameters) (form : Form) (run : Run) (Written : List ℕ → Type 0) → IsImage image → IsMade image params form run →
+    Written run.text → IsTold image params form run.journal run.ended Written
+told_of_made image params form run Written is made written = record {
+  image_is = is;
+  parameters_are = made.parameters_are;
+  fits = made.fits;
+  run = made.run_is;
+  text = subst Written made.text written;
+}
+
+-- ---- run
+
+-- the bytes were read as an image
+pub record IsReadAs (bytes : List ℕ) (image : Parts) : Type 0 where
+  pub same : image ≡ image_in bytes
+  pub spelled : bytes ≡ spelling image
+  pub accepted : image_fault bytes ≡ None
+  pub is : IsImage image
+
+module _ (seed : ℕ) (params : Parameters) (form : Form) (bytes : List ℕ) (image : Parts) (read : IsReadAs bytes image) (run : Run)
+    (by : IsRunBy seed image params form run) where
+  runs : (Written : List ℕ → Type 0) → Written run.text → Runs seed params form bytes run.journal run.ended Written
+  runs Written written = record {
+    accepted = read.accepted;
+    spelled = read.spelled ∙ ap spelling read.same;
+    told = subst (λ (p : Parts). IsTold p params form run.journal run.ended Written) read.same
+        (told_of_made image params form run Written read.is by.made written);
+    scheduled = subst (λ (p : Parts). IsScheduled p params run.journal) read.same (seeded_scheduled image params seed run.journal by.seeded);
+    seeded = subst (λ (p : Parts). IsSeededRun p params seed run.journal) read.same by.seeded;
+  }
+
+  as_run : (out out' : Stream) (c : Cause) → AnswersEnd (Runs seed params form bytes run.journal) out out' c → RunAnswer seed params form bytes out out' c run.journal
+  as_run out out' cause.Fine answer = answer
+  as_run out out' (cause.Trapped at) answer = answer
+  as_run out out' (cause.Limit event) answer = answer
+  as_run out out' cause.WriteFault answer = answer
+  as_run out out' _ answer = absurd answer
+
+  pub run_answer : (out out' : Stream) (c : Cause) → IsWritten run out out' c → RunAnswer seed params form bytes out out' c run.journal
+  run_answer out out' c written = as_run out out' c (answered (Runs seed params form bytes run.journal) run out out' c runs written)
+
+-- ---- replay
+
+module _ (form : Form) (bytes : List ℕ) (trace : Trace) (spells : Spells bytes trace) (run : Run) (again : IsRunAgain trace form run) where
+  replays : (Written : List ℕ → Type 0) → Written run.text → Replays form bytes run.journal run.ended Written
+  replays Written written = record {
+    trace = trace;
+    spelled = spells;
+    same = again.same;
+    told = told_of_made trace.image trace.params form run Written spells.1.image again.made written;
+  }
+
+  as_replay : (out out' : Stream) (c : Cause) → AnswersEnd (Replays form bytes run.journal) out out' c → ReplayAnswer form bytes out out' c run.journal
+  as_replay out out' cause.Fine answer = answer
+  as_replay out out' (cause.Trapped at) answer = answer
+  as_replay out out' (cause.Limit event) answer = answer
+  as_replay out out' cause.WriteFault answer = answer
+  as_replay out out' _ answer = absurd answer
+
+  pub replay_answer : (out out' : Stream) (c : Cause) → IsWritten run out out' c → ReplayAnswer form bytes out out' c run.journal
+  replay_answer out out' c written = as_replay out out' c (answered (Replays form bytes run.journal) run out out' c replays written)
+
+-- why a trace was refused
+module _ (form : Form) (bytes : List ℕ) (trace : Trace) (spells : Spells bytes trace) (out out' : Stream) (stays : Stays out out') (journal : List Entry) (none : journal ≡ []) where
+  pub replay_refused : (c : Cause) → RanAgain trace form (Err c) → ReplayAnswer form bytes out out' c journal
+  replay_refused (cause.Input (reason.LimitDoesNotFit number most)) why = (record { trace = trace; spelled = spells; holds = why }, none, stays)
+  replay_refused (cause.Input (reason.NotLegal k)) why = (record { trace = trace; spelled = spells; holds = why }, none, stays)
+  replay_refused (cause.Input reason.Unfinished) why = (record { trace = trace; spelled = spells; holds = why }, none, stays)
+  replay_refused cause.NoMemory why = (none, stays)
+  replay_refused _ why = absurd why
