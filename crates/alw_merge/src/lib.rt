@@ -4,6 +4,3 @@
 mod replays;
 
 pub use replays::{Replayed, replay};
-
-#[cfg(test)]
-mod tests;
