@@ -2,3 +2,4 @@ pub mod Differences
 pub mod TurnRuns
 pub mod Walks
 pub mod Exits
+pub mod RunClaims

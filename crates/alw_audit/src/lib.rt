@@ -2,11 +2,13 @@
 #![tactic(auto)]
 
 mod auditing;
+mod laws;
 mod memory;
 mod prints;
 mod verdicts;
 
 pub use auditing::audit;
+pub use laws::runs_claim_what_is_sound;
 pub use verdicts::{Place, Verdict};
 
 #[cfg(test)]
