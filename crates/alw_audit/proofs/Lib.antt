@@ -3,3 +3,4 @@ pub mod TurnRuns
 pub mod Walks
 pub mod Exits
 pub mod RunClaims
+pub mod ClaimForms

@@ -51,22 +51,22 @@ kept_same low addr (word ∷ rest) from = by_test (word.1 == 0) refl (word.0 == 
 
 -- ---- all words, by lines
 
-abbrev four : ℕ → Line → List (ℕ × ℕ)
+abbrev pub four : ℕ → Line → List (ℕ × ℕ)
 four line body = map (λ offset. (SHARED_BASE + 16 * line + offset, lane_of body offset Word)) (0 ∷ 4 ∷ 8 ∷ 12 ∷ [])
 
-abbrev all_words : (ℕ → Line) → ℕ → ℕ → List (ℕ × ℕ)
+abbrev pub all_words : (ℕ → Line) → ℕ → ℕ → List (ℕ × ℕ)
 all_words value first lines = flat_map (λ line. four line (value line)) (range_with_len first lines)
 
-abbrev kept_words : (ℕ → Line) → ℕ → ℕ → List (ℕ × ℕ)
+abbrev pub kept_words : (ℕ → Line) → ℕ → ℕ → List (ℕ × ℕ)
 kept_words value first lines = flat_map (λ line. words_of line (value line)) (range_with_len first lines)
 
-kept_is : (value : ℕ → Line) (first lines : ℕ) → kept_words value first lines ≡ filter is_nonzero (all_words value first lines)
+pub kept_is : (value : ℕ → Line) (first lines : ℕ) → kept_words value first lines ≡ filter is_nonzero (all_words value first lines)
 kept_is value first zero = refl
 kept_is value first (suc lines) =
     ap (λ (rest : List (ℕ × ℕ)). words_of first (value first) ++ rest) (kept_is value (first + 1) lines)
     ∙ sym (filter-append is_nonzero (four first (value first)) (all_words value (first + 1) lines))
 
-all_from : (value : ℕ → Line) (first lines : ℕ) → AreFrom (SHARED_BASE + 16 * first) (all_words value first lines)
+pub all_from : (value : ℕ → Line) (first lines : ℕ) → AreFrom (SHARED_BASE + 16 * first) (all_words value first lines)
 all_from value first zero = tt
 all_from value first (suc lines) =
     let rest : AreFrom (SHARED_BASE + 16 * first + 12 + 4) (all_words value (first + 1) lines) =
