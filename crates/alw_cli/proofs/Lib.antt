@@ -4,3 +4,5 @@ pub mod Answering
 pub mod Completing
 mod Reached
 mod Made
+mod NoEvict
+mod Again

@@ -1,6 +1,6 @@
 -- A run that was made and written is the answer of its command.
 use Rattle.std.proofs.Common.{◌≡◌, ◌≤◌, ℕ, List, [], None, Some, refl, sym, ap, subst, ◌∙◌, inl, inr}
-use Rattle.std.specs.Prelude.{Option, Err}
+use Rattle.std.specs.Prelude.{◌↔◌, Option, Err}
 use Rattle.std.specs.Io.KnownBytes.{Keeps}
 use Rattle.alw_msg.specs.declared.events.Entry.{Entry}
 use Rattle.alw_image.specs.declared.parts.Parts.{Parts}
@@ -13,6 +13,10 @@ use Rattle.alw_model.specs.Headline.{IsScheduled}
 use Rattle.alw_sched.specs.Schedules.{IsSeededRun}
 use Rattle.alw_sched.proofs.Seeded.{seeded_scheduled}
 use Rattle.alw_trace.specs.declared.values.Trace.{Trace}
+use Rattle.alw_trace.specs.declared.values.Claim.{Claim}
+use Rattle.alw_audit.specs.declared.verdicts.Verdict.{Verdict}
+use Rattle.alw_audit.specs.declared.verdicts.Verdict.TheVariants as verdict
+use Rattle.alw_audit.specs.Verdicts.{verdict_of, IsSound}
 use Rattle.alw_config.specs.declared.commands.Form.{Form}
 use Rattle.alw_cli.specs.declared.answers.Cause.{Cause}
 use Rattle.alw_cli.specs.declared.answers.Cause.TheVariants as cause
@@ -24,6 +28,7 @@ use Rattle.alw_cli.specs.Endings.{Telling, AnswersEnd}
 use Rattle.alw_cli.specs.Runs.{IsMade, IsRunBy, IsRunAgain, RanAgain, IsWritten}
 use Rattle.alw_cli.specs.Running.{IsTold, Runs, RunAnswer}
 use Rattle.alw_cli.specs.Replaying.{Spells, Replays, ReplayAnswer}
+use Rattle.alw_cli.specs.Auditing.{SpellsClaim, AuditAnswer, verdict_text, cause_of_verdict}
 
 -- a stream that nothing is done to
 pub keeps : (known : Option (List ℕ)) → Keeps known known
@@ -93,7 +98,7 @@ module _ (form : Form) (bytes : List ℕ) (trace : Trace) (spells : Spells bytes
     trace = trace;
     spelled = spells;
     same = again.same;
-    told = told_of_made trace.image trace.params form run Written spells.1.image again.made written;
+    told = told_of_made trace.image trace.params form run Written spells.is.image again.made written;
   }
 
   as_replay : (out out' : Stream) (c : Cause) → AnswersEnd (Replays form bytes run.journal) out out' c → ReplayAnswer form bytes out out' c run.journal
@@ -114,3 +119,14 @@ module _ (form : Form) (bytes : List ℕ) (trace : Trace) (spells : Spells bytes
   replay_refused (cause.Input reason.Unfinished) why = (record { trace = trace; spelled = spells; holds = why }, none, stays)
   replay_refused cause.NoMemory why = (none, stays)
   replay_refused _ why = absurd why
+
+-- ---- audit
+
+-- a verdict that was written is the answer
+pub audit_answer : (bytes : List ℕ) (claim : Claim) (v : Verdict) (text : List ℕ) (out out' : Stream) (journal : List Entry) → SpellsClaim bytes claim →
+    v ≡ verdict_of claim → (v ≡ verdict.Sound) ↔ IsSound claim → text ≡ verdict_text v → Gained out out' text → journal ≡ [] →
+    AuditAnswer bytes out out' (cause_of_verdict v) journal
+audit_answer bytes claim verdict.Sound text out out' journal spells is sound same written none =
+    record { claim = claim; spelled = spells; verdict_is = is; sound = sound; text = subst (Gained out out') same written; no_journal = none }
+audit_answer bytes claim (verdict.Differs place claimed real) text out out' journal spells is sound same written none =
+    record { claim = claim; spelled = spells; verdict_is = is; sound = sound; text = subst (Gained out out') same written; no_journal = none }

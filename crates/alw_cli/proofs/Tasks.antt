@@ -9,11 +9,12 @@ use Rattle.alw_trace.specs.declared.values.Trace.{Trace}
 use Rattle.alw_trace.specs.declared.values.Claim.{Claim}
 use Rattle.alw_trace.specs.declared.faults.TextErr.{TextErr}
 use Rattle.alw_trace.specs.declared.faults.TextErr.TheVariants as text
-use Rattle.alw_trace.specs.Readings.{HasTraceTypes, HasClaimTypes, ReadsTrace, ReadsClaim}
-use Rattle.alw_trace.proofs.OneTrace.{read_back}
-use Rattle.alw_trace.proofs.ReadClaims.{claim_back}
+use Rattle.alw_trace.specs.Readings.{ReadsTrace, ReadsClaim}
+use Rattle.alw_trace.proofs.OneTrace.{same_trace, read_back}
+use Rattle.alw_trace.proofs.ReadClaims.{same_claim, claim_back}
 use Rattle.alw_audit.specs.declared.verdicts.Place.{Place}
 use Rattle.alw_audit.specs.declared.verdicts.Verdict.TheVariants as verdict
+use Rattle.alw_audit.specs.Verdicts.{IsSound}
 use Rattle.alw_config.specs.declared.commands.AsmForm.{AsmForm}
 use Rattle.alw_config.specs.declared.commands.Form.{Form}
 use Rattle.alw_config.specs.declared.commands.Command.{Command}
@@ -25,8 +26,8 @@ use Rattle.alw_cli.specs.Streams.{Stream, Stays, HadNoFault}
 use Rattle.alw_cli.specs.Tasks.{Task}
 use Rattle.alw_cli.specs.Assembling.{AsmAnswer, asm_task}
 use Rattle.alw_cli.specs.Running.{seed_of, RunAnswer, run_task}
-use Rattle.alw_cli.specs.Replaying.{Spells, ReplayAnswer, replay_task}
-use Rattle.alw_cli.specs.Auditing.{SpellsClaim, AuditAnswer, audit_task}
+use Rattle.alw_cli.specs.Replaying.{Spells, ReplayAnswer, IsFinishedTrace, IsFinishedText, replay_task}
+use Rattle.alw_cli.specs.Auditing.{SpellsClaim, AuditAnswer, IsSoundText, audit_task}
 use Rattle.alw_cli.specs.Making.{Asked, GenAnswer, gen_task}
 use Rattle.alw_cli.specs.Answers.{task_of}
 
@@ -96,13 +97,26 @@ run_kept seed params form = record {
   complete = λ bytes out out' c journal answer accepted quiet. run_complete seed params form bytes out out' journal c answer accepted quiet;
 }
 
--- ---- the text of a trace or a claim isn't refused
+-- ---- the text of a trace or a claim isn't refused, and says one thing
 
-trace_read : (bytes : List ℕ) (t : Trace) (fault : TextErr) → Spells bytes t → HasTraceTypes t → ReadsTrace bytes (Err fault) → fault ≡ text.NoMemory
-trace_read bytes t fault spells types refused = read_back t fault spells.1 types (subst (λ (bs : List ℕ). ReadsTrace bs (Err fault)) spells.0 refused)
+trace_read : (bytes : List ℕ) (t : Trace) (fault : TextErr) → Spells bytes t → ReadsTrace bytes (Err fault) → fault ≡ text.NoMemory
+trace_read bytes t fault spells refused =
+    read_back t fault spells.is spells.types (subst (λ (bs : List ℕ). ReadsTrace bs (Err fault)) spells.text refused)
 
-claim_read : (bytes : List ℕ) (c : Claim) (fault : TextErr) → SpellsClaim bytes c → HasClaimTypes c → ReadsClaim bytes (Err fault) → fault ≡ text.NoMemory
-claim_read bytes c fault spells types refused = claim_back c fault spells.1 types (subst (λ (bs : List ℕ). ReadsClaim bs (Err fault)) spells.0 refused)
+claim_read : (bytes : List ℕ) (c : Claim) (fault : TextErr) → SpellsClaim bytes c → ReadsClaim bytes (Err fault) → fault ≡ text.NoMemory
+claim_read bytes c fault spells refused =
+    claim_back c fault spells.is spells.types (subst (λ (bs : List ℕ). ReadsClaim bs (Err fault)) spells.text refused)
+
+pub one_spelled : (bytes : List ℕ) (one other : Trace) → Spells bytes one → Spells bytes other → one ≡ other
+one_spelled bytes one other is are = same_trace one other is.is are.is is.types are.types (sym is.text ∙ are.text)
+
+finished_so : (bytes : List ℕ) (other : Trace) → IsFinishedText bytes → Spells bytes other → IsFinishedTrace other
+finished_so bytes other accepted spells = subst IsFinishedTrace (one_spelled bytes accepted.trace other accepted.spelled spells) accepted.holds
+
+sound_so : (bytes : List ℕ) (other : Claim) → IsSoundText bytes → SpellsClaim bytes other → IsSound other
+sound_so bytes other accepted spells =
+    let mine = accepted.spelled in
+    subst IsSound (same_claim accepted.claim other mine.is spells.is mine.types spells.types (sym mine.text ∙ spells.text)) accepted.sound
 
 -- ---- replay
 
@@ -121,15 +135,15 @@ module _ (form : Form) (bytes : List ℕ) (out out' : Stream) (journal : List En
   replay_complete cause.NoMemory answer accepted quiet = inr refl
   replay_complete cause.WriteFault answer accepted quiet = absurd (quiet answer.tells.told.text.1)
   replay_complete (cause.Input (reason.Text fault)) answer accepted quiet =
-      absurd (answer.0.0 (trace_read bytes accepted.trace fault accepted.spelled accepted.types answer.0.1))
+      absurd (answer.0.0 (trace_read bytes accepted.trace fault accepted.spelled answer.0.1))
   replay_complete (cause.Input (reason.LimitDoesNotFit number most)) answer accepted quiet =
-      let many = answer.0 in absurd (omega (arith, many.holds.above, (accepted.finished many.trace many.spelled).fits))
+      let many = answer.0 in absurd (omega (arith, many.holds.above, (finished_so bytes many.trace accepted many.spelled).fits))
   replay_complete (cause.Input (reason.NotLegal k)) answer accepted quiet =
       let illegal = answer.0 in
       absurd (illegal.holds.1.here (legal_take illegal.trace.image illegal.trace.params (suc k) illegal.trace.journal
-      (accepted.finished illegal.trace illegal.spelled).legal))
+      (finished_so bytes illegal.trace accepted illegal.spelled).legal))
   replay_complete (cause.Input reason.Unfinished) answer accepted quiet =
-      let going = answer.0 in absurd ((accepted.finished going.trace going.spelled).ended going.holds.1.going)
+      let going = answer.0 in absurd ((finished_so bytes going.trace accepted going.spelled).ended going.holds.1.going)
   replay_complete _ answer accepted quiet = absurd answer
 
 replay_kept : (form : Form) → IsKept (replay_task form)
@@ -157,9 +171,9 @@ module _ (bytes : List ℕ) (out out' : Stream) (journal : List Entry) where
   audit_complete cause.NoMemory answer accepted quiet = inr refl
   audit_complete cause.WriteFault answer accepted quiet = absurd (quiet answer.audits.text.1)
   audit_complete (cause.Differs place claimed real) answer accepted quiet =
-      absurd (differs_unsound place claimed real (answer.sound.1 (accepted.sound answer.claim answer.spelled)))
+      absurd (differs_unsound place claimed real (answer.sound.1 (sound_so bytes answer.claim accepted answer.spelled)))
   audit_complete (cause.Input (reason.Text fault)) answer accepted quiet =
-      absurd (answer.0 (claim_read bytes accepted.claim fault accepted.spelled accepted.types answer.1))
+      absurd (answer.0 (claim_read bytes accepted.claim fault accepted.spelled answer.1))
   audit_complete _ answer accepted quiet = absurd answer
 
 audit_kept : IsKept audit_task

@@ -42,9 +42,11 @@ verdict_text (Differs place claimed real) = codes "differs " ++ (place_text plac
 
 -- ---- the command
 
--- the bytes are the text of a claim
-abbrev pub SpellsClaim : List ℕ → Claim → Type 0
-SpellsClaim bytes claim = (bytes ≡ claim_text claim) × IsClaim claim
+-- the bytes are the text of a claim, which is the only one of this text
+pub record SpellsClaim (bytes : List ℕ) (claim : Claim) : Type 0 where
+  pub text : bytes ≡ claim_text claim
+  pub is : IsClaim claim
+  pub types : HasClaimTypes claim
 
 -- which is sound exactly where this is its verdict, and the verdict was written
 pub record Audits (bytes : List ℕ) (journal : List Entry) (verdict : Verdict) (Written : List ℕ → Type 0) : Type 0 where
@@ -79,12 +81,11 @@ abbrev pub cause_of_verdict : Verdict → Cause
 cause_of_verdict Sound = cause.Fine
 cause_of_verdict (Differs place claimed real) = cause.Differs place claimed real
 
--- the bytes spell a claim, and what they spell is sound
+-- the bytes spell a claim which is sound
 pub record IsSoundText (bytes : List ℕ) : Type 0 where
   pub claim : Claim
-  pub types : HasClaimTypes claim
   pub spelled : SpellsClaim bytes claim
-  pub sound : (other : Claim) → SpellsClaim bytes other → IsSound other
+  pub sound : IsSound claim
 
 abbrev pub audit_task : Task
 audit_task = record { reads = true; Answers = AuditAnswer; Accepts = IsSoundText; is_done = is_sound }

@@ -6,6 +6,7 @@ mod answers;
 mod assembling;
 mod auditing;
 mod err_lines;
+mod laws;
 mod listings;
 mod making;
 mod replaying;

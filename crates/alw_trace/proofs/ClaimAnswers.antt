@@ -4,18 +4,21 @@ use Rattle.std.specs.List.{AllByRecursion}
 use Rattle.alw_msg.specs.Stretches.{stretches, turns_in}
 use Rattle.alw_image.specs.declared.parts.Parts.{Parts}
 use Rattle.alw_image.specs.Images.{IsImage, spelling, context_count, line_count}
+use Rattle.alw_image.specs.Numbers.{IsWord, HasWords}
 use Rattle.alw_image.specs.Faults.{first_unfit, image_fault, image_in}
+use Rattle.alw_image.proofs.Orders.{all_weaker}
 use Rattle.alw_report.specs.Reports.{runs_text, prints_text, memory_text}
 use Rattle.alw_trace.specs.declared.values.Claim.{Claim}
 use Rattle.alw_trace.specs.declared.faults.TextErr.{TextErr}
 use Rattle.alw_trace.specs.declared.faults.TextErr.TheVariants.{Syntax, Image, Range, NoMemory}
 use Rattle.alw_trace.specs.declared.raw.RawClaim.{RawClaim}
 use Rattle.alw_trace.specs.Texts.{image_text, claim_title, lists_text, claim_text}
-use Rattle.alw_trace.specs.Lines.{ClaimLines, claim_lines, behind_image}
-use Rattle.alw_trace.specs.Readings.{is_short, run_tests, runs_tests, tested, fits_print, prints_tests, word_tests, memory_tests, claim_tests, most_turns, ReadsClaim}
+use Rattle.alw_trace.specs.Lines.{IsPrint, IsMemoryWord, ClaimLines, claim_lines, behind_image}
+use Rattle.alw_trace.specs.Readings.{is_short, run_tests, runs_tests, tested, fits_print, prints_tests, word_tests, memory_tests, claim_tests, most_turns, HasClaimTypes, ReadsClaim}
 use Rattle.alw_trace.specs.Raw.{IsRange, IsImageOf}
 use Rattle.alw_trace.specs.Lists.{claim_of, AreTurns, ArePrints, AreWords, IsOfClaim, IsClaimOf, IsNoClaim}
 use Rattle.alw_trace.proofs.InRange.{no_fault}
+use Rattle.alw_trace.proofs.ReadWords.{words_in}
 use Rattle.alw_trace.proofs.ClaimLists.{head_fits, runs_fit, same_runs, prints_fit, words_fit, words_ascend, first_passed, first_stopped}
 
 -- what the tests of a claim's lines need of its image, whose bytes are an image
@@ -140,6 +143,8 @@ found bytes raw image one two contexts shared at behind last runs turns lines pr
       runs = ap stretches are.same ∙ same_runs runs fit.longest ∙ same;
       prints = listed.same ∙ all;
       memory = kept.same ∙ whole;
+      print_count = rw listed.same listed.short;
+      word_count = rw kept.same kept.short;
       is_claim = record {
         image = allowed;
         turns = subst (λ (t : List ℕ). AllByRecursion (λ context. context < context_count image) t) (sym are.same)
@@ -188,3 +193,15 @@ pub answers : (text : List ℕ) (lines : ClaimLines) (result : Result Claim Text
     → IfErr result (IsNoClaim lines) → ReadsClaim text result
 answers text lines (Ok claim) form ok err = accepted text lines claim form ok
 answers text lines (Err fault) form ok err = wrong_lines text lines fault form err
+
+-- what was read has its types
+pub typed : (text : List ℕ) (lines : ClaimLines) (result : Result Claim TextErr) → IsOfClaim text lines → IfOk result (IsClaimOf lines)
+    → IfOk result HasClaimTypes
+typed text lines (Ok claim) form ok = record {
+  words = subst HasWords (sym ok.image.parts) (words_in lines.image form.form.bytes);
+  printed = rw ok.prints (all_weaker IsPrint (λ print. IsWord print.1) lines.prints (λ print is. is.1) form.form.prints);
+  print_count = ok.print_count;
+  stored = rw ok.memory (all_weaker IsMemoryWord (λ word. IsWord word.1) lines.memory (λ word is. is.1) form.form.memory);
+  word_count = ok.word_count;
+}
+typed text lines (Err fault) form ok = tt

@@ -1,11 +1,12 @@
 -- Lines in range, and the first that isn't.
-use Rattle.std.proofs.Common.{◌≡◌, ℕ, ◌+◌, ◌<◌, ◌≤◌, true, false, Some, None, Result, Ok, Err, IfOk, IfErr, List, ◌++◌, length, map, codes, sym, ap, ◌∙◌, arith}
+use Rattle.std.proofs.Common.{◌≡◌, ℕ, ◌+◌, ◌<◌, ◌≤◌, true, false, Some, None, Result, Ok, Err, IfOk, IfErr, List, ◌++◌, length, map, codes, sym, ap, subst, ◌∙◌, arith}
 use Rattle.std.specs.List.{AllByRecursion}
 use Rattle.std.proofs.lemmas.Bool.Decides.{nat_tests}
 use Rattle.std.proofs.lemmas.List.{length-map}
 use Rattle.alw_msg.specs.declared.events.Entry.{Entry}
 use Rattle.alw_image.specs.declared.parts.Parts.{Parts}
 use Rattle.alw_image.specs.Images.{spelling, node_count}
+use Rattle.alw_image.specs.Numbers.{HasWords}
 use Rattle.alw_image.specs.Parameters.{Parameters}
 use Rattle.alw_image.specs.Faults.{first_unfit, image_fault, image_in}
 use Rattle.alw_report.specs.Reports.{params_line}
@@ -16,8 +17,9 @@ use Rattle.alw_trace.specs.declared.raw.RawEntry.{RawEntry}
 use Rattle.alw_trace.specs.declared.raw.RawTrace.{RawTrace}
 use Rattle.alw_trace.specs.Texts.{image_text, entries_text, trace_title, trace_text}
 use Rattle.alw_trace.specs.Lines.{TraceLines, trace_lines, behind_image}
-use Rattle.alw_trace.specs.Readings.{are_parameters, is_short, fits_entry, tested, trace_tests, IsStamped, ReadsTrace}
+use Rattle.alw_trace.specs.Readings.{are_parameters, is_short, fits_entry, tested, trace_tests, IsStamped, HasTraceTypes, ReadsTrace}
 use Rattle.alw_trace.specs.Raw.{entry_of, lines_of, IsRange, IsOfTrace, IsImageOf, IsTraceOf, IsWrong}
+use Rattle.alw_trace.proofs.ReadWords.{words_in}
 
 -- ---- entries
 
@@ -74,6 +76,12 @@ pub answers : (text : List ℕ) (lines : TraceLines) (result : Result Trace Text
     → IfErr result (IsWrong lines) → ReadsTrace text result
 answers text lines (Ok trace) form ok err = accepted text lines trace form ok
 answers text lines (Err fault) form ok err = wrong_lines text lines fault form err
+
+-- what was read has its types
+pub typed : (text : List ℕ) (lines : TraceLines) (result : Result Trace TextErr) → IsOfTrace text lines → IfOk result (IsTraceOf lines)
+    → IfOk result HasTraceTypes
+typed text lines (Ok trace) form ok = (subst HasWords (sym ok.image.parts) (words_in lines.image form.form.bytes), ok.short)
+typed text lines (Err fault) form ok = tt
 
 -- ---- what is wrong with the lines of a trace
 

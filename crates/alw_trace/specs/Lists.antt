@@ -69,6 +69,7 @@ pub record ArePrints (contexts at : ℕ) (lines prints : List (ℕ × ℕ)) : Ty
 pub record AreWords (shared at : ℕ) (lines words : List (ℕ × ℕ)) : Type 0 where
   pub fits : first_unfit (memory_tests shared at lines) ≡ None
   pub same : words ≡ lines
+  pub short : length lines < 2 ^ 32
 
 -- ---- claims
 
@@ -78,6 +79,8 @@ pub record IsClaimOf (lines : ClaimLines) (claim : Claim) : Type 0 where
   pub runs : stretches claim.turns ≡ lines.runs
   pub prints : claim.prints ≡ lines.prints
   pub memory : claim.memory ≡ lines.memory
+  pub print_count : length claim.prints < 2 ^ 32
+  pub word_count : length claim.memory < 2 ^ 32
   pub is_claim : IsClaim claim
 
 -- what is wrong with lines that are no claim's

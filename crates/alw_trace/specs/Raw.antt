@@ -1,5 +1,5 @@
 -- What the lines of a trace say as the reader keeps it: each number of a line as it stands.
-use Rattle.std.specs.Prelude.{◌≡◌, ℕ, List, ◌++◌, length, map, None, Some, ⊤}
+use Rattle.std.specs.Prelude.{◌≡◌, ℕ, ◌<◌, ◌^◌, List, ◌++◌, length, map, None, Some, ⊤}
 use Rattle.std.specs.List.{flat_map, AllByRecursion}
 use Rattle.alw_msg.specs.declared.events.Event.{Event}
 use Rattle.alw_msg.specs.declared.events.Event.TheVariants.{Instr, Handle, Deliver, Evict}
@@ -109,6 +109,7 @@ pub record IsTraceOf (lines : TraceLines) (trace : Trace) : Type 0 where
   pub image : IsImageOf lines.image trace.image
   pub params : trace.params ≡ lines.params
   pub journal : trace.journal ≡ lines.journal
+  pub short : length trace.journal < 2 ^ 32
   pub is_trace : IsTrace trace
 
 -- what is wrong with lines that are no trace's

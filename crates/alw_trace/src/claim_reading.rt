@@ -1,7 +1,7 @@
 ghost use Rattle.std.specs.Prelude.{◌≡◌, ◌≤◌, ◌^◌, IfOk, IfErr};
 ghost use Rattle.alw_image.specs.Images.{IsImage, context_count, line_count};
 ghost use Rattle.alw_trace.specs.Lines.{AreClaimLines};
-ghost use Rattle.alw_trace.specs.Readings.{ReadsClaim};
+ghost use Rattle.alw_trace.specs.Readings.{HasClaimTypes, ReadsClaim};
 ghost use Rattle.alw_trace.specs.Lists.{IsClaimOf, IsNoClaim, claim_of};
 
 use crate::claim_lines::read_claim_lines;
@@ -18,7 +18,8 @@ use std::alloc::Global;
 /// [`TextErr`]), or for want of memory; what it takes is in proportion to the text, and to its turns,
 /// of which there are at most 8,388,608.
 pub fn read_claim(alloc: Global, bytes: &[u8]) -> Result<Claim, TextErr>
-    ensures { ReadsClaim bytes.now result }
+    ensures read { ReadsClaim bytes.now result }
+    ensures types { IfOk result HasClaimTypes }
 {
     let lines = read_claim_lines(alloc, bytes)?;
     claim_of(alloc, &lines)

@@ -1,6 +1,6 @@
 ghost use Rattle.std.specs.Prelude.{◌≡◌, ◌≤◌, IfOk, IfErr};
 ghost use Rattle.alw_image.specs.Images.{IsImage, node_count};
-ghost use Rattle.alw_trace.specs.Readings.{ReadsTrace};
+ghost use Rattle.alw_trace.specs.Readings.{HasTraceTypes, ReadsTrace};
 ghost use Rattle.alw_trace.specs.Raw.{IsImageFault, IsImageOf, IsTraceOf, IsWrong, lines_of};
 
 use crate::faults::TextErr;
@@ -16,7 +16,8 @@ use std::alloc::Global;
 /// It fails by the first of the checks that the text doesn't pass (see [`TextErr`]), or for want of
 /// memory; what it takes is in proportion to the text.
 pub fn read_trace(alloc: Global, bytes: &[u8]) -> Result<Trace, TextErr>
-    ensures { ReadsTrace bytes.now result }
+    ensures read { ReadsTrace bytes.now result }
+    ensures types { IfOk result HasTraceTypes }
 {
     let lines = read_lines(alloc, bytes)?;
     trace_of(alloc, &lines)

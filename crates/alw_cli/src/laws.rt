@@ -1,0 +1,23 @@
+ghost use Rattle.std.specs.Prelude.{IsTrue, List};
+ghost use Rattle.alw_msg.specs.declared.events.Entry.{Entry};
+ghost use Rattle.alw_image.specs.declared.parts.Parts.{Parts};
+ghost use Rattle.alw_image.specs.Parameters.{Parameters};
+ghost use Rattle.alw_model.specs.declared.ends.Ended.{Ended};
+ghost use Rattle.alw_trace.specs.Texts.{trace_text};
+ghost use Rattle.alw_config.specs.declared.commands.Form.TheVariants as forms;
+ghost use Rattle.alw_cli.specs.declared.answers.Cause.{Cause};
+ghost use Rattle.alw_cli.specs.Streams.{Stream};
+ghost use Rattle.alw_cli.specs.Running.{is_run};
+ghost use Rattle.alw_cli.specs.Replaying.{IsFinishedText, IsRunThatFits, ReplayAnswer, ReportsTheSame, trace_of};
+
+/// A replay reports what the run reported. The trace of a run is accepted, and where its replay is
+/// carried out, the journal and the end are the run's, and so is the report that is written: the text
+/// of a trace doesn't say how often evictions are tried, and no legality, state or report depends on it.
+pub fn traces_report_the_same()
+    ensures accepted { (image : Parts) → (parameters : Parameters) → (journal : List Entry) → (ended : Ended) → IsRunThatFits image parameters journal ended →
+        IsFinishedText (trace_text (trace_of image parameters journal)) }
+    ensures same { (image : Parts) → (parameters : Parameters) → (journal : List Entry) → (ended : Ended) → IsRunThatFits image parameters journal ended →
+        (out : Stream) → (after : Stream) → (answered : Cause) → (again : List Entry) → IsTrue (is_run answered) →
+        ReplayAnswer forms.Report (trace_text (trace_of image parameters journal)) out after answered again →
+        ReportsTheSame image parameters journal ended out after answered again }
+{}
