@@ -10,7 +10,8 @@ pub returns-in-Ok-write_whole-clause-answer : goal.returns-in-Ok-write_whole-cla
 returns-in-Ok-write_whole-clause-answer g c =
     let before = stream_of (g.K.Sink.held c.args.out.now) (g.K.Sink.faults c.args.out.now) in
     let after = stream_of (g.K.Sink.held c.write_whole.new.sink) (g.K.Sink.faults c.write_whole.new.sink) in
-    let spells : SpellsClaim c.args.bytes.now c.in-Ok.claim = record { text = c.in-Ok.ensures.read.0; is = c.in-Ok.ensures.read.1; types = c.in-Ok.ensures.types } in
+    let spells : SpellsClaim c.args.bytes.now c.in-Ok.claim =
+    record { text = c.in-Ok.ensures.read.0; is = c.in-Ok.ensures.read.1; types = c.in-Ok.ensures.types } in
     subst (λ (k : Cause). AuditAnswer c.args.bytes.now before after k c.without-in-Ok-write_whole.result.journal)
     (sym (c.without-in-Ok-write_whole.ensures.cause ∙ c.cause_of_verdict.ensures))
     (audit_answer c.args.bytes.now c.in-Ok.claim c.in-Ok-audit.verdict c.bytes.result.now before after c.without-in-Ok-write_whole.result.journal spells
