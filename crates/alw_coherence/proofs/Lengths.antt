@@ -20,12 +20,12 @@ use Rattle.alw_coherence.proofs.Bound.{sets_range, cached_few}
 use Rattle.alw_coherence.proofs.MachineRuns.{IsKept, entry_kept, start_kept}
 
 -- the sum of all clocks
-abbrev clocks_of : MachineState → ℕ
+abbrev pub clocks_of : MachineState → ℕ
 clocks_of s = weigh (λ (node : NodeState). node.clock) s.nodes
 
 module _ (parts : Parts) (image : IsImage parts) (parameters : Parameters) (are : AreParameters parameters) where
   -- each entry raises the sum of the clocks
-  clocks_rise : (s : MachineState) → IsKept parts parameters s → (event : Event) → IsTrue (is_enabled parts parameters s event) → clocks_of s + 1 ≤ clocks_of (step parts parameters s event)
+  pub clocks_rise : (s : MachineState) → IsKept parts parameters s → (event : Event) → IsTrue (is_enabled parts parameters s event) → clocks_of s + 1 ≤ clocks_of (step parts parameters s event)
   clocks_rise s kept event enabled =
       let n = node_of event in
       let fits : n < length s.nodes = rw kept.has.sound.standing.nodes (enabled_is parts parameters s event enabled).here in
@@ -33,7 +33,7 @@ module _ (parts : Parts) (image : IsImage parts) (parameters : Parameters) (are 
       omega (arith, weigh_set (λ (node : NodeState). node.clock) s.nodes n (stepped_by parts parameters s event).node no_node fits)
 
   -- and while clocks are within the limit the sum is too
-  clocks_most : (s : MachineState) → IsKept parts parameters s → ((n : ℕ) → n < node_count parts → (node_at s n).clock ≤ parameters.limit) → clocks_of s ≤ node_count parts * parameters.limit
+  pub clocks_most : (s : MachineState) → IsKept parts parameters s → ((n : ℕ) → n < node_count parts → (node_at s n).clock ≤ parameters.limit) → clocks_of s ≤ node_count parts * parameters.limit
   clocks_most s kept few =
       let all = weigh_most (λ (node : NodeState). node.clock) parameters.limit s.nodes no_node (λ i l. few i (subst (λ k. i < k) kept.has.sound.standing.nodes l)) in
       let size = ap (λ k. k * parameters.limit) kept.has.sound.standing.nodes in

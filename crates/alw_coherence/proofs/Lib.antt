@@ -37,3 +37,4 @@ pub mod HoldCounts
 pub mod Lengths
 pub mod HaltFacts
 pub mod CoherentRuns
+pub mod TurnCounts

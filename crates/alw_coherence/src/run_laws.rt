@@ -11,7 +11,7 @@ ghost use Rattle.alw_image.specs.Parameters.{Parameters, AreParameters};
 ghost use Rattle.alw_model.specs.Contexts.{slot_at};
 ghost use Rattle.alw_model.specs.NodeStates.{NodeState};
 ghost use Rattle.alw_model.specs.Machine.{machine_start, node_at, step, has_halted, is_settled, is_enabled, end_of, Limit, IsNext};
-ghost use Rattle.alw_model.specs.Runs.{moments};
+ghost use Rattle.alw_model.specs.Runs.{moments, turns_of};
 ghost use Rattle.alw_model.specs.Counts.{counts_of, count_holds};
 ghost use Rattle.alw_msg.specs.Events.{is_evict};
 ghost use Rattle.alw_coherence.specs.Endings.{has_ended, may_go_on, EvictsInTime};
@@ -61,7 +61,8 @@ pub fn replies_are_used()
 /// Runs are bounded. With N nodes, K home lines a node and limit L, a legal journal that makes no
 /// eviction once every context has halted has at most N * L + 2 * N * K entries: before the last
 /// halt each entry raises its node's clock, which stays within L, and after it only REPMs are left.
-/// With evictions there are at most three more for each set of each node.
+/// With evictions there are at most three more for each set of each node. At most N * L entries are
+/// turns, since once every context has halted there is none.
 pub fn runs_are_bounded()
     ensures in_time { OnEveryMachine (λ parts parameters journal machine. EvictsInTime parts parameters journal →
         length journal ≤ node_count parts * parameters.limit + 2 * (node_count parts * parts.per_node)) }
@@ -69,4 +70,5 @@ pub fn runs_are_bounded()
         length journal ≤ node_count parts * parameters.limit + 2 * (node_count parts * parts.per_node)) }
     ensures any { OnEveryMachine (λ parts parameters journal machine.
         length journal ≤ node_count parts * parameters.limit + (3 * (node_count parts * parameters.sets) + 2 * (node_count parts * parts.per_node))) }
+    ensures turns { OnEveryMachine (λ parts parameters journal machine. length (turns_of parts parameters journal) ≤ node_count parts * parameters.limit) }
 {}

@@ -75,6 +75,10 @@ module _ {grid : Grid} {journal : List Entry} {sent : Sending} {tally : Tallied}
   few_remain = subst (λ (m : MachineState). AreFew (remains_of m.nodes)) (sym is.state_is)
       (remains_few grid.image grid.parameters is.run.image journal is.run.legal (journal_fits here is.run))
 
+  -- what may be next may happen
+  pub next_may : (event : Event) → IsTrue (may_be_next here event) → IsTrue (may_happen grid.image grid.parameters grid.machine event)
+  next_may event may = subst (λ (m : MachineState). IsTrue (may_happen grid.image grid.parameters m event)) (sym is.state_is) may
+
   module _ (event : Event) (may : IsTrue (may_happen grid.image grid.parameters grid.machine event)) where
     may_here : IsTrue (is_enabled grid.image grid.parameters (state_of here) event) × IsTrue (is_within_limit grid.image grid.parameters (state_of here) event)
     may_here = and_parts _ _ (subst (λ (m : MachineState). IsTrue (may_happen grid.image grid.parameters m event)) is.state_is may)
@@ -143,10 +147,9 @@ module _ {grid : Grid} {journal : List Entry} {sent : Sending} {tally : Tallied}
 
       -- what a step answers
       pub step_answers : {journal' : List Entry} (stamp : ℕ) → stamp ≡ stamp_at grid.image grid.machine event → journal' ≡ journal ++ record { stamp = stamp; event = event } ∷ []
-          → IsTrue (may_be_next here event) × ◌≡◌ {A = History} (record { image = after.image; parameters = after.parameters; journal = journal' }) (grown here event)
+          → ◌≡◌ {A = History} (record { image = after.image; parameters = after.parameters; journal = journal' }) (grown here event)
           × (happening.told.did ≡ (stepped_by grid.image grid.parameters (state_of here) event).did)
       step_answers stamp stamp_at_is pushed = (
-        subst (λ (m : MachineState). IsTrue (may_happen grid.image grid.parameters m event)) is.state_is may,
         grown_is stamp stamp_at_is pushed,
         (happens.told stamp).did ∙ ap (λ m. (stepped_by grid.image grid.parameters m event).did) is.state_is,
       )

@@ -1,5 +1,6 @@
 -- What a machine is seen as: its image, its parameters and its journal, which say all else of it.
 use Rattle.std.specs.Prelude.{◌≡◌, ℕ, ◌*◌, ◌<◌, ◌≤◌, Bool, true, false, Result, Ok, Err, List, [], ◌∷◌, ◌++◌, IsTrue}
+use Rattle.alw_num.specs.declared.memory.NoMemory.{NoMemory}
 use Rattle.alw_msg.specs.declared.messages.Msg.{Msg}
 use Rattle.alw_msg.specs.declared.events.Event.{Event}
 use Rattle.alw_msg.specs.declared.events.Entry.{Entry}
@@ -53,11 +54,22 @@ pub record IsRun (h : History) : Type 0 where
   pub fits : stamps_of h.image h.parameters ≤ MOST_STEPS
   pub legal : IsLegal h.image h.parameters h.journal
 
+-- a machine of an image under parameters fits; or its nodes may have more stamps together than the most
+abbrev pub Fits : Parts → Parameters → Result (Unit {0}) FitErr → Type 0
+Fits image parameters (Ok done) = stamps_of image parameters ≤ MOST_STEPS
+Fits image parameters (Err (fits.DoesNotFit number most)) = (MOST_STEPS < number) × (number ≡ stamps_of image parameters) × (most ≡ MOST_STEPS)
+Fits image parameters (Err fits.NoMemory) = ⊥
+
 -- what the start of a machine answers: it hasn't begun, or its nodes may have more stamps together than the most, or memory was refused
 abbrev pub Starts : Parts → Parameters → Result History FitErr → Type 0
 Starts image parameters (Ok machine) = (machine ≡ begun image parameters) × (stamps_of image parameters ≤ MOST_STEPS)
 Starts image parameters (Err (fits.DoesNotFit number most)) = (MOST_STEPS < number) × (number ≡ stamps_of image parameters) × (most ≡ MOST_STEPS)
 Starts image parameters (Err fits.NoMemory) = stamps_of image parameters ≤ MOST_STEPS
+
+-- what taking an event that may be next leaves and answers: it has happened, and did what it does; or memory was refused, and all is as it was
+abbrev pub Takes : History → Event → History → Result Did NoMemory → Type 0
+Takes before event after (Ok did) = (after ≡ grown before event) × (did ≡ (stepped_by before.image before.parameters (state_of before) event).did)
+Takes before event after (Err refused) = after ≡ before
 
 -- what a step leaves and answers: the event has happened, and did what it does; or it may not be next, or memory was refused, and all is as it was
 abbrev pub Steps : History → Event → History → Result Did StepErr → Type 0

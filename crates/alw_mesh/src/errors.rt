@@ -1,5 +1,9 @@
 ghost use Rattle.std.specs.Prelude.{◌≡◌};
+ghost use Rattle.alw_image.specs.Parameters.{AreParameters};
+ghost use Rattle.alw_mesh.specs.Histories.{Fits};
 
+use crate::stepping::count_nodes;
+use alw_image::{Image, Params};
 use alw_num::NoMemory;
 
 /// The most stamps that the nodes of a machine may have together: nodes times the event limit.
@@ -21,6 +25,22 @@ impl From<NoMemory> for FitErr {
     fn from(_e: NoMemory) -> FitErr {
         FitErr::NoMemory
     }
+}
+
+/// The nodes of an image may have so many stamps together as the parameters allow: DoesNotFit comes
+/// exactly where nodes times the event limit is above `MOST_STEPS`. It takes no memory.
+pub fn fit(image: &Image, params: &Params) -> Result<(), FitErr>
+    ensures fits { Fits image.now params.now result }
+    ensures allowed { AreParameters params.now }
+{
+    let number = u64::from(count_nodes(image)) * u64::from(params.limit());
+    if number > MOST_STEPS {
+        return Err(FitErr::DoesNotFit {
+            number,
+            most: MOST_STEPS,
+        });
+    }
+    Ok(())
 }
 
 /// Why a step of a machine isn't taken.

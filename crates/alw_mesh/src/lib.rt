@@ -11,7 +11,7 @@ mod stepping;
 mod values;
 mod views;
 
-pub use errors::{FitErr, MOST_STEPS, StepErr};
+pub use errors::{FitErr, MOST_STEPS, StepErr, fit};
 pub use machines::Machine;
 pub use parts::MachineParts;
 

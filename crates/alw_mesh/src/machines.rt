@@ -1,13 +1,14 @@
 ghost use Rattle.std.specs.Prelude.{◌≡◌, ◌&&◌, not, IsTrue};
-ghost use Rattle.alw_mesh.specs.Histories.{Starts, Steps, may_be_next, entry_of, ArePartsOf};
+ghost use Rattle.alw_mesh.specs.Histories.{Starts, Takes, Steps, may_be_next, entry_of, ArePartsOf};
 
-use crate::errors::{FitErr, MOST_STEPS, StepErr};
+use crate::errors::{FitErr, StepErr, fit};
 use crate::meshes::Mesh;
 use crate::parts::MachineParts;
 use crate::stepping::count_nodes;
 use alw_image::{Image, Params};
 use alw_model::Did;
 use alw_msg::{Entry, Event, Journal, Sends};
+use alw_num::NoMemory;
 use alw_ready::{Happened as Changes, Ready, is_wide};
 use alw_tally::Tally;
 use std::alloc::Global;
@@ -41,14 +42,8 @@ impl Machine {
     pub fn start(alloc: Global, image: &Image, params: &Params) -> Result<Machine, FitErr>
         ensures { Starts image.now params.now result }
     {
+        fit(image, params)?;
         let nodes = u32::from(count_nodes(image));
-        let number = u64::from(nodes) * u64::from(params.limit());
-        if number > MOST_STEPS {
-            return Err(FitErr::DoesNotFit {
-                number,
-                most: MOST_STEPS,
-            });
-        }
         let mesh = Mesh::start(alloc, image, params)?;
         let mut ready = Ready::start(alloc, nodes)?;
         ready.renew_all(&mesh);
@@ -81,9 +76,17 @@ impl Machine {
     pub fn step(&mut self, event: Event) -> Result<Did, StepErr>
         ensures { Steps self.old event self.new result }
     {
-        if !self.mesh.may_be_next(event) {
+        if !self.may(event) {
             return Err(StepErr::NotEnabled);
         }
+        Ok(self.take(event)?)
+    }
+
+    /// An event that may be next happens; or nothing does, where memory is refused.
+    pub fn take(&mut self, event: Event) -> Result<Did, NoMemory>
+        requires { IsTrue (may_be_next self.old event) }
+        ensures { Takes self.old event self.new result }
+    {
         let stamp = self.mesh.stamp(event);
         self.tally.reserve()?;
         self.mesh.reserve()?;

@@ -1,7 +1,10 @@
+ghost use Rattle.std.specs.Prelude.{◌≡◌, ◌-◌, ◌^◌, nat_lt, ◌&&◌, ◌||◌};
+ghost use Rattle.alw_model.specs.Machine.{has_halted};
+
 use crate::meshes::Mesh;
 use alw_msg::Event;
 use alw_num::{NodeNo, NodeSet};
-use alw_ready::View;
+use alw_ready::{Row, View};
 
 impl View for Mesh {
     ghost image = { λ m. m.image };
@@ -10,9 +13,15 @@ impl View for Mesh {
 
     ghost state = { λ m. m.machine };
 
-    fn is_in_time(&self, node: NodeNo) -> bool {
-        let clock = self.node(node).clock();
-        clock < u32::MAX && (clock < self.params().limit() || self.has_halted())
+    fn row(&self, node: NodeNo) -> Row {
+        let here = self.node(node);
+        let in_time = self.is_in_time(here.clock());
+        Row {
+            in_time,
+            instr: in_time && here.is_ready(),
+            handle: in_time && here.has_packet(),
+            ..Row::none()
+        }
     }
 
     fn may(&self, event: Event) -> bool {
@@ -21,5 +30,14 @@ impl View for Mesh {
 
     fn senders(&self, to: NodeNo) -> NodeSet {
         self.senders_to(to)
+    }
+}
+
+impl Mesh {
+    // A node of this clock is in time.
+    fn is_in_time(&self, clock: u32) -> bool
+        ensures { result ≡ (nat_lt clock (2 ^ 32 - 1) && (nat_lt clock self.now.parameters.limit || has_halted self.now.machine)) }
+    {
+        clock < u32::MAX && (clock < self.params().limit() || self.has_halted())
     }
 }

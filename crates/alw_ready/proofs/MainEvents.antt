@@ -84,7 +84,7 @@ module _ (test : Event → Bool) (n : ℕ) where
       ∙ filter-map test (λ from. delivery from at) (range_with_len 0 n) in
       λ x. event_if (says.instr x) (instr_at at) (event_if (says.handle x) (handle_at at) (deliveries x))
 
-  row_is : (at : ℕ) (row : Row) → (row.in_time ≡ true → SaysBut test at nobody row) → (row.in_time ≡ false → (event : Event) → node_of event ≡ at → test event ≡ false) → ((from : ℕ) → test (delivery from at) ≡ true → from < n)
+  pub row_is : (at : ℕ) (row : Row) → (row.in_time ≡ true → SaysBut test at nobody row) → (row.in_time ≡ false → (event : Event) → node_of event ≡ at → test event ≡ false) → ((from : ℕ) → test (delivery from at) ≡ true → from < n)
       → row_events at row ≡ filter test (node_events at)
   row_is at row says late within = go row.in_time refl
     where

@@ -1,12 +1,15 @@
 -- The events of rows: how many they are, and which is number k.
-use Rattle.std.proofs.Common.{◌≡◌, ℕ, zero, suc, add-zero, ◌+◌, ◌-◌, ◌<◌, ◌≤◌, Bool, true, false, cond, List, [], ◌∷◌, ◌++◌, length, map, replicate, get_or, set, slice_get, slice_index, Option, Some, refl, sym, ap, ◌∙◌, arith}
-use Rattle.std.proofs.lemmas.List.{length-append, length-map, length-set, length-replicate, map-set, get_or_read}
+use Rattle.std.proofs.Common.{◌≡◌, ℕ, zero, suc, add-zero, ◌+◌, ◌-◌, ◌<◌, ◌≤◌, ◌==◌, Bool, true, false, cond, ◌&&◌, List, [], ◌∷◌, ◌++◌, length, map, replicate, get_or, set, slice_get, slice_index, Option, Some, refl, sym, ap, ◌∙◌, arith}
+use Rattle.std.proofs.lemmas.List.{length-append, length-map, length-set, length-replicate, map-set, set-get_or, get_or_read}
+use Rattle.std.proofs.lemmas.Bool.{eqb-true}
+use Rattle.std.proofs.Math.Bool.{beq}
 use Rattle.std.proofs.lemmas.Option.{slice_get-map}
 use Rattle.std.specs.Option.{option_map}
 use Rattle.alw_num.specs.NodeSets.{members, count_nodes, nodes_of}
 use Rattle.alw_num.specs.Weights.{digit, sum_below}
 use Rattle.alw_num.proofs.Words.{count_at_most}
 use Rattle.alw_msg.specs.declared.events.Event.{Event}
+use Rattle.alw_model.proofs.Journals.{and_parts}
 use Rattle.alw_ready.specs.declared.rows.Row.{Row}
 use Rattle.alw_ready.specs.Rows.{instr_at, handle_at, delivery, event_if, row_events, row_count, events_from, events_of, no_row, row_at, AreCounted}
 use Rattle.alw_ready.specs.Tallies.{sum_before, total, IsPlace}
@@ -133,3 +136,27 @@ module _ (rows : List Row) (counts : List ℕ) (are : AreCounted rows counts) wh
     few = omega (arith, are.few, length-set rows place row);
     counted = next_is ∙ ((λ x. set (are.counted x) place (count_is x)) ∙ sym (map-set row_count rows place row));
   }
+
+-- rows that are found to be equal
+same_bits : (a b : Bool) → beq a b ≡ true → a ≡ b
+same_bits true true is = refl
+same_bits false false is = refl
+same_bits true false is = sym is
+same_bits false true is = is
+
+pub same_row : (a b : Row) → (beq a.in_time b.in_time && (beq a.instr b.instr && (beq a.handle b.handle && (a.senders.low == b.senders.low && (a.senders.high == b.senders.high))))) ≡ true → a ≡ b
+same_row a b is =
+    let p = and_parts (beq a.in_time b.in_time) _ is in
+    let q = and_parts (beq a.instr b.instr) _ p.1 in
+    let r = and_parts (beq a.handle b.handle) _ q.1 in
+    let s = and_parts (a.senders.low == b.senders.low) _ r.1 in
+    λ x. record {
+      in_time = same_bits _ _ p.0 x;
+      instr = same_bits _ _ q.0 x;
+      handle = same_bits _ _ r.0 x;
+      senders = record { low = eqb-true _ _ s.0 x; high = eqb-true _ _ s.1 x };
+    }
+
+-- a row that stands there already changes nothing
+pub set_again : (rows : List Row) (at : ℕ) (old row : Row) → old ≡ get_or rows at old → old ≡ row → rows ≡ set rows at row
+set_again rows at old row here is = sym (set-get_or rows at old) ∙ ap (set rows at) (sym here ∙ is)

@@ -79,6 +79,9 @@ impl Ready {
         ensures { self.new ≡ slice_set self.old node.0 row }
     {
         let place = usize::from(node.0);
+        if self.rows[place] == row {
+            return;
+        }
         self.tally.set(place, row.count());
         self.rows[place] = row;
     }

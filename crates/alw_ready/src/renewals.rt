@@ -101,10 +101,8 @@ fn row_with<V: View>(view: &V, node: NodeNo, senders: NodeSet) -> Row
     ensures senders { result.senders ≡ senders }
 {
     Row {
-        in_time: view.is_in_time(node),
-        instr: view.may(Event::Instr { node }),
-        handle: view.may(Event::Handle { node }),
         senders,
+        ..view.row(node)
     }
 }
 

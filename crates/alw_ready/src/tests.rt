@@ -185,8 +185,13 @@ impl View for Example {
 
     ghost state = { λ _. example_machine };
 
-    fn is_in_time(&self, _node: NodeNo) -> bool {
-        true
+    fn row(&self, node: NodeNo) -> Row {
+        Row {
+            in_time: true,
+            instr: self.may(Event::Instr { node }),
+            handle: self.may(Event::Handle { node }),
+            ..Row::none()
+        }
     }
 
     fn may(&self, event: Event) -> bool {

@@ -1,6 +1,7 @@
 -- The run of a seed: one event more, one run for a seed, and no end before its last entry.
-use Rattle.std.proofs.Common.{◌≡◌, ℕ, zero, suc, Bool, true, false, cond, Option, None, Some, List, [], ◌∷◌, ◌++◌, map, flat_map, filter, slice_get, length, ◌%◌, nat_lt, ◌&&◌, not, ap, sym, subst, refl, ◌∙◌, arith}
+use Rattle.std.proofs.Common.{◌≡◌, ℕ, zero, suc, Bool, true, false, cond, Option, None, Some, List, [], ◌∷◌, ◌++◌, map, flat_map, filter, slice_get, length, ◌%◌, nat_lt, ◌&&◌, not, ap, sym, subst, refl, ◌∙◌, append_assoc, arith}
 use Rattle.std.specs.List.{AllByRecursion, range_with_len}
+use Rattle.std.proofs.lemmas.List.{append-nil}
 use Rattle.alw_msg.specs.declared.events.Event.{Event}
 use Rattle.alw_msg.specs.declared.events.Event.TheVariants.{Instr, Handle, Deliver}
 use Rattle.alw_msg.specs.declared.events.Entry.{Entry}
@@ -127,3 +128,36 @@ seeded_run image parameters seed after seeded =
 
 pub of_start : (image : Parts) (parameters : Parameters) (seed : ℕ) (after : History) → IsSeeded (begun image parameters) seed after → after ≡ record { image = image; parameters = parameters; journal = after.journal }
 of_start image parameters seed after seeded = stays (begun image parameters) seed seeded.events after seeded.last seeded.drawn_are
+
+pub seeded_stays : (before : History) (seed : ℕ) (after : History) → IsSeeded before seed after →
+    after ≡ record { image = before.image; parameters = before.parameters; journal = after.journal }
+seeded_stays before seed after seeded = stays before seed seeded.events after seeded.last seeded.drawn_are
+
+-- ---- what stood before stays in front
+
+drawn_front : (h : History) (x : ℕ) (events : List Event) (after : History) (y : ℕ) → AreDrawn h x events after y → (rest : List Entry) × (after.journal ≡ h.journal ++ rest)
+drawn_front h x [] after y are = ([], ap (λ (g : History). g.journal) (sym are.0) ∙ sym (append-nil h.journal))
+drawn_front h x (event ∷ rest) after y are =
+    let more = drawn_front (grown h event) (drawn x) rest after y are.1 in
+    (entry_of h event ∷ more.0, more.1 ∙ append_assoc h.journal (entry_of h event ∷ []) more.0)
+
+pub seeded_front : (before : History) (seed : ℕ) (after : History) → IsSeeded before seed after → (rest : List Entry) × (after.journal ≡ before.journal ++ rest)
+seeded_front before seed after seeded = drawn_front before seed seeded.events after seeded.last seeded.drawn_are
+
+-- no eviction comes where none is to be tried
+abbrev NoneEvicts : List Entry → Type 0
+NoneEvicts entries = AllByRecursion (λ (entry : Entry). is_evict entry.event ≡ false) entries
+
+none_more : (entries : List Entry) (entry : Entry) → NoneEvicts entries → is_evict entry.event ≡ false → NoneEvicts (entries ++ entry ∷ [])
+none_more [] entry all one = (one, tt)
+none_more (first ∷ rest) entry all one = (all.0, none_more rest entry all.1 one)
+
+drawn_evicts : (h : History) (x : ℕ) (events : List Event) (after : History) (y : ℕ) → AreDrawn h x events after y → h.parameters.evict ≡ 0 →
+    NoneEvicts h.journal → NoneEvicts after.journal
+drawn_evicts h x [] after y are none all = subst (λ (g : History). NoneEvicts g.journal) are.0 all
+drawn_evicts h x (event ∷ rest) after y are none all =
+    drawn_evicts (grown h event) (drawn x) rest after y are.1 none
+    (none_more h.journal (entry_of h event) all (main_picked h (drawn_number (drawn x)) event none are.0.pick))
+
+pub seeded_evicts : (before : History) (seed : ℕ) (after : History) → IsSeeded before seed after → before.parameters.evict ≡ 0 → NoneEvicts before.journal → NoneEvicts after.journal
+seeded_evicts before seed after seeded none all = drawn_evicts before seed seeded.events after seeded.last seeded.drawn_are none all

@@ -2,7 +2,7 @@ ghost use Rattle.std.specs.Prelude.{◌≡◌, ◌<◌, ◌%◌, cond, nat_lt, N
 ghost use Rattle.alw_image.specs.Images.{node_count};
 ghost use Rattle.alw_sched.specs.Schedules.{Finishes, end_in, asked_node, asked_eviction, is_evicted, picked};
 
-use alw_mesh::{Machine, StepErr};
+use alw_mesh::Machine;
 use alw_model::Ended;
 use alw_msg::Event;
 use alw_num::{Draws, NoMemory, NodeNo};
@@ -18,11 +18,7 @@ pub fn finish(machine: &mut Machine, seed: u64) -> Result<Ended, NoMemory>
             return Ok(ended);
         }
         let event = pick(machine, draws.draw());
-        match machine.step(event) {
-            Ok(_) => {}
-            Err(StepErr::NoMemory) => return Err(NoMemory),
-            Err(StepErr::NotEnabled) => unreachable!(),
-        }
+        machine.take(event)?;
     }
 }
 

@@ -112,26 +112,26 @@ module _ (test : Status → Bool) (alike : (line : LineNo) → test Ready ≡ te
 -- ---- what an event changes of its node
 
 -- contexts that halt, contexts that trap, packets that come, and packets that go
-record Change : Type 0 where
-  halts : ℕ
-  traps : ℕ
-  comes : ℕ
-  goes : ℕ
+pub record Change : Type 0 where
+  pub halts : ℕ
+  pub traps : ℕ
+  pub comes : ℕ
+  pub goes : ℕ
 
-abbrev change_by : Did → Change
+abbrev pub change_by : Did → Change
 change_by (Turn slot Halt) = record { halts = 1; traps = 0; comes = 0; goes = 0 }
 change_by (Turn slot (Trap tt)) = record { halts = 0; traps = 1; comes = 0; goes = 0 }
 change_by Packet = record { halts = 0; traps = 0; comes = 1; goes = 0 }
 change_by _ = record { halts = 0; traps = 0; comes = 0; goes = 0 }
 
-abbrev change_of : Event → Did → Change
+abbrev pub change_of : Event → Did → Change
 change_of (Handle at) did = record { halts = 0; traps = 0; comes = 0; goes = 1 }
 change_of _ did = change_by did
 
-record Changes (change : Change) (before after : NodeState) : Type 0 where
-  live : live_in after + change.halts ≡ live_in before
-  trapped : trapped_in after ≡ trapped_in before + change.traps
-  packets : packets_in after + change.goes ≡ packets_in before + change.comes
+pub record Changes (change : Change) (before after : NodeState) : Type 0 where
+  pub live : live_in after + change.halts ≡ live_in before
+  pub trapped : trapped_in after ≡ trapped_in before + change.traps
+  pub packets : packets_in after + change.goes ≡ packets_in before + change.comes
 
 module _ (parts : Parts) (parameters : Parameters) (number stamp : ℕ) (node : NodeState) where
   turn_changes : (slot : ℕ) (cache : Cache) (regs : Regs) (outcome : Outcome) → Runs node.slots slot → let s = take_turn parts parameters number node slot cache regs outcome in Changes (change_by s.did) node s.node
@@ -207,7 +207,7 @@ module _ (parts : Parts) (parameters : Parameters) (number stamp : ℕ) (node : 
   event_changes (Evict at emptied) taken is = record { live = omega arith; trapped = omega arith; packets = omega arith }
 
 -- the clock doesn't count
-step_changes : (parts : Parts) (parameters : Parameters) (number : ℕ) (node : NodeState) (event : Event) (taken : Option Msg) → may parts parameters node event taken ≡ true
+pub step_changes : (parts : Parts) (parameters : Parameters) (number : ℕ) (node : NodeState) (event : Event) (taken : Option Msg) → may parts parameters node event taken ≡ true
     → let s = node_step parts parameters number node event taken in Changes (change_of event s.did) node s.node
 step_changes parts parameters number node event taken is =
     let c = event_changes parts parameters number (stamp_of node.clock taken) node event taken is in

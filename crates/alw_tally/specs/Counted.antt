@@ -15,7 +15,6 @@ use Rattle.alw_model.specs.declared.steps.Counts.{Counts}
 use Rattle.alw_model.specs.declared.steps.Did.{Did}
 use Rattle.alw_model.specs.declared.steps.Did.TheVariants.{Turn}
 use Rattle.alw_model.specs.Counts.{is_turn, is_miss, is_eviction, is_handling, is_spill, is_data, hops_between}
-use Rattle.alw_tally.specs.declared.counting.Sent.{Sent}
 use Rattle.alw_tally.specs.declared.happenings.Happened.{Happened}
 
 -- the trapping turn that an event was, if it was one, given the event's place in the journal
@@ -33,6 +32,19 @@ is_of_kind kind send = kind_number send.1.kind == kind_number kind
 -- the messages of a kind
 abbrev pub of_kind : Kind → List (ℕ × Msg) → ℕ
 of_kind kind sends = weigh (λ send. digit (is_of_kind kind send)) sends
+
+-- messages sent, by kind, and the hops of all of them
+pub record Sent : Type 0 where
+  pub rreq : ℕ
+  pub wreq : ℕ
+  pub repm : ℕ
+  pub update : ℕ
+  pub ackc : ℕ
+  pub rdata : ℕ
+  pub wdata : ℕ
+  pub inv : ℕ
+  pub busy : ℕ
+  pub hops : ℕ
 
 -- so many messages of each kind, and so many hops
 abbrev pub by_kinds : (Kind → ℕ) → ℕ → Sent
@@ -53,17 +65,32 @@ by_kinds count hops = record {
 abbrev pub sent_of : Parts → ℕ → List (ℕ × Msg) → Sent
 sent_of parts from sends = by_kinds (λ kind. of_kind kind sends) (weigh (λ send. hops_between parts from send.0) sends)
 
--- one message of a kind more
-abbrev pub with_kind : Sent → Kind → Sent
-with_kind s kinds.RREQ = record s { rreq = s.rreq + 1 }
-with_kind s kinds.WREQ = record s { wreq = s.wreq + 1 }
-with_kind s kinds.REPM = record s { repm = s.repm + 1 }
-with_kind s kinds.UPDATE = record s { update = s.update + 1 }
-with_kind s kinds.ACKC = record s { ackc = s.ackc + 1 }
-with_kind s kinds.RDATA = record s { rdata = s.rdata + 1 }
-with_kind s kinds.WDATA = record s { wdata = s.wdata + 1 }
-with_kind s kinds.INV = record s { inv = s.inv + 1 }
-with_kind s kinds.BUSY = record s { busy = s.busy + 1 }
+-- counts with these messages more
+abbrev pub with_sent : Sent → Counts → Counts
+with_sent s c = record c {
+  rreq = c.rreq + s.rreq;
+  wreq = c.wreq + s.wreq;
+  repm = c.repm + s.repm;
+  update = c.update + s.update;
+  ackc = c.ackc + s.ackc;
+  rdata = c.rdata + s.rdata;
+  wdata = c.wdata + s.wdata;
+  inv = c.inv + s.inv;
+  busy = c.busy + s.busy;
+  hops = c.hops + s.hops;
+}
+
+-- counts with one message of a kind more
+abbrev pub with_kind : Counts → Kind → Counts
+with_kind c kinds.RREQ = record c { rreq = c.rreq + 1 }
+with_kind c kinds.WREQ = record c { wreq = c.wreq + 1 }
+with_kind c kinds.REPM = record c { repm = c.repm + 1 }
+with_kind c kinds.UPDATE = record c { update = c.update + 1 }
+with_kind c kinds.ACKC = record c { ackc = c.ackc + 1 }
+with_kind c kinds.RDATA = record c { rdata = c.rdata + 1 }
+with_kind c kinds.WDATA = record c { wdata = c.wdata + 1 }
+with_kind c kinds.INV = record c { inv = c.inv + 1 }
+with_kind c kinds.BUSY = record c { busy = c.busy + 1 }
 
 -- the counts of an event, by what it did and what it sent
 abbrev pub counts_by : Happened → Sent → Counts

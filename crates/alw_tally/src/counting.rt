@@ -1,8 +1,8 @@
-ghost use Rattle.std.specs.Prelude.{◌≡◌, ◌≤◌, ◌<◌, ◌-◌, ◌+◌, ◌^◌, ◌==◌, length};
+ghost use Rattle.std.specs.Prelude.{◌≡◌, ◌≤◌, ◌<◌, ◌-◌, ◌+◌, ◌^◌, length};
 ghost use Rattle.alw_num.specs.Weights.{digit};
 ghost use Rattle.alw_model.specs.Counts as counts;
 ghost use Rattle.alw_model.specs.Counts.{hops_between};
-ghost use Rattle.alw_tally.specs.Counted.{brings_line, sent_of, with_kind, counts_of_event, AreFew, AreAtMost};
+ghost use Rattle.alw_tally.specs.Counted.{brings_line, sent_of, with_sent, with_kind, counts_of_event, AreFew, AreAtMost};
 ghost use Rattle.alw_tally.specs.Told.{sum_of};
 
 use crate::happenings::Happened;
@@ -11,109 +11,54 @@ use alw_model::{Counts, Did};
 use alw_msg::{Kind, Msg, Sends};
 use alw_num::{MOST_NODES, NodeNo, State};
 
-/// The messages that an event sends, by kind, and the hops of all of them.
-#[derive(Clone, Copy, Debug, Default, PartialEq, Eq)]
-pub struct Sent {
-    pub rreq: u64,
-    pub wreq: u64,
-    pub repm: u64,
-    pub update: u64,
-    pub ackc: u64,
-    pub rdata: u64,
-    pub wdata: u64,
-    pub inv: u64,
-    pub busy: u64,
-    pub hops: u64,
-}
-
-/// The counts of two runs, one behind the other.
-pub fn sum_of(a: &Counts, b: &Counts) -> Counts
-    requires first { AreAtMost (2 ^ 63) a.now }
-    requires second { AreAtMost (2 ^ 63 - 1) b.now }
-    ensures { result ≡ sum_of a.now b.now }
-{
-    Counts {
-        entries: a.entries + b.entries,
-        turns: a.turns + b.turns,
-        misses: a.misses + b.misses,
-        evicts: a.evicts + b.evicts,
-        rreq: a.rreq + b.rreq,
-        wreq: a.wreq + b.wreq,
-        repm: a.repm + b.repm,
-        update: a.update + b.update,
-        ackc: a.ackc + b.ackc,
-        rdata: a.rdata + b.rdata,
-        wdata: a.wdata + b.wdata,
-        inv: a.inv + b.inv,
-        busy: a.busy + b.busy,
-        hops: a.hops + b.hops,
-        handlers: a.handlers + b.handlers,
-        spills: a.spills + b.spills,
-        replies: a.replies + b.replies,
-        used: a.used + b.used,
-    }
-}
-
-/// The counts of one event.
-pub fn counts_of_event(image: &Image, happened: &Happened, sends: &Sends) -> Counts
-    requires { length sends.now.messages ≤ MOST_NODES }
-    ensures counts { result ≡ counts_of_event image.now happened.now sends.now.messages }
-    ensures few { AreAtMost (2 ^ 25) result }
+/// One event more is counted. Of each number it is at most 2^25.
+pub fn count_event(counts: &mut Counts, image: &Image, happened: &Happened, sends: &Sends)
+    requires sends { length sends.now.messages ≤ MOST_NODES }
+    requires few { AreAtMost (2 ^ 62) counts.old }
+    ensures counts { counts.new ≡ sum_of counts.old (counts_of_event image.now happened.now sends.now.messages) }
+    ensures few { AreAtMost (2 ^ 25) (counts_of_event image.now happened.now sends.now.messages) }
 {
     let did = happened.did;
-    let sent = sent_of(image, happened.node, sends);
-    Counts {
-        entries: 1,
-        turns: one_if(is_turn(did)),
-        misses: one_if(is_miss(did)),
-        evicts: one_if(is_eviction(did)),
-        rreq: sent.rreq,
-        wreq: sent.wreq,
-        repm: sent.repm,
-        update: sent.update,
-        ackc: sent.ackc,
-        rdata: sent.rdata,
-        wdata: sent.wdata,
-        inv: sent.inv,
-        busy: sent.busy,
-        hops: sent.hops,
-        handlers: one_if(is_handling(did)),
-        spills: one_if(is_spill(did)),
-        replies: one_if(brings_line(happened.taken)),
-        used: one_if(happened.used),
-    }
+    counts.entries += 1;
+    counts.turns += one_if(is_turn(did));
+    counts.misses += one_if(is_miss(did));
+    counts.evicts += one_if(is_eviction(did));
+    counts.handlers += one_if(is_handling(did));
+    counts.spills += one_if(is_spill(did));
+    counts.replies += one_if(brings_line(&happened.taken));
+    counts.used += one_if(happened.used);
+    count_sends(counts, image, happened.node, sends);
 }
 
-// What a node sends, counted: of each number at most 131,072 a message.
-fn sent_of(image: &Image, from: NodeNo, sends: &Sends) -> Sent
-    requires { length sends.now.messages ≤ MOST_NODES }
-    ensures sent { result ≡ sent_of image.now from.0 sends.now.messages }
-    ensures few { AreFew (2 ^ 25) result }
+// What a node sends is counted: of each number it is at most 131,072 a message.
+fn count_sends(counts: &mut Counts, image: &Image, from: NodeNo, sends: &Sends)
+    requires sends { length sends.now.messages ≤ MOST_NODES }
+    requires few { AreAtMost (2 ^ 62 + 1) counts.old }
+    ensures counts { counts.new ≡ with_sent (sent_of image.now from.0 sends.now.messages) counts.old }
+    ensures few { AreFew (2 ^ 25) (sent_of image.now from.0 sends.now.messages) }
 {
-    let mut sent = Sent::default();
     for i in 0..sends.len() {
         let (to, msg) = sends.at(i);
-        sent.hops += hops_between(image, from, to);
-        add_kind(&mut sent, msg.kind);
+        counts.hops += hops_between(image, from, to);
+        add_kind(counts, msg.kind);
     }
-    sent
 }
 
 // One message of a kind more.
-fn add_kind(sent: &mut Sent, kind: Kind)
-    requires { AreFew (2 ^ 63) sent.old }
-    ensures { sent.new ≡ with_kind sent.old kind }
+fn add_kind(counts: &mut Counts, kind: Kind)
+    requires { AreAtMost (2 ^ 63) counts.old }
+    ensures { counts.new ≡ with_kind counts.old kind }
 {
     match kind {
-        Kind::RREQ => sent.rreq += 1,
-        Kind::WREQ => sent.wreq += 1,
-        Kind::REPM => sent.repm += 1,
-        Kind::UPDATE => sent.update += 1,
-        Kind::ACKC => sent.ackc += 1,
-        Kind::RDATA => sent.rdata += 1,
-        Kind::WDATA => sent.wdata += 1,
-        Kind::INV => sent.inv += 1,
-        Kind::BUSY => sent.busy += 1,
+        Kind::RREQ => counts.rreq += 1,
+        Kind::WREQ => counts.wreq += 1,
+        Kind::REPM => counts.repm += 1,
+        Kind::UPDATE => counts.update += 1,
+        Kind::ACKC => counts.ackc += 1,
+        Kind::RDATA => counts.rdata += 1,
+        Kind::WDATA => counts.wdata += 1,
+        Kind::INV => counts.inv += 1,
+        Kind::BUSY => counts.busy += 1,
     }
 }
 
@@ -170,8 +115,8 @@ fn is_spill(did: Did) -> bool
 }
 
 // A message, if there is one, brings a line to a cache.
-fn brings_line(taken: Option<Msg>) -> bool
-    ensures { result ≡ brings_line taken }
+fn brings_line(taken: &Option<Msg>) -> bool
+    ensures { result ≡ brings_line taken.now }
 {
     match taken {
         Some(msg) => matches!(msg.kind, Kind::RDATA | Kind::WDATA),
@@ -180,7 +125,8 @@ fn brings_line(taken: Option<Msg>) -> bool
 }
 
 fn one_if(test: bool) -> u64
-    ensures { result ≡ digit test }
+    ensures value { result ≡ digit test }
+    ensures most { result ≤ 1 }
 {
     if test { 1 } else { 0 }
 }

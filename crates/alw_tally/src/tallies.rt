@@ -4,7 +4,7 @@ ghost use Rattle.alw_model.specs.Runs.{Moment};
 ghost use Rattle.alw_tally.specs.Told.{contexts_of, words_printed, told_of, told_with};
 ghost use Rattle.alw_tally.specs.Happenings.{IsOf};
 
-use crate::counting::{counts_of_event, sum_of};
+use crate::counting::count_event;
 use crate::happenings::{Happened, trap_of, turn_of};
 use alw_image::Image;
 use alw_model::{Counts, TrapAt};
@@ -76,7 +76,7 @@ impl Tally {
     {
         let trap = trap_of(self.counts.entries as u32, happened);
         self.trap = self.trap.or(trap);
-        self.counts = sum_of(&self.counts, &counts_of_event(image, happened, sends));
+        count_event(&mut self.counts, image, happened, sends);
         add_turn(&mut self.turns, &mut self.prints, turn_of(image, happened));
     }
 

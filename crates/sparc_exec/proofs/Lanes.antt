@@ -1,7 +1,7 @@
--- A lane of one or two bytes holds a number of 8 or 16 bits.
-use Rattle.std.proofs.Common.{ℕ, zero, suc, ◌<◌, ◌+◌, List, [], ◌∷◌, slice_index, arith}
+-- A lane of one, two or four bytes holds a number of 8, 16 or 32 bits.
+use Rattle.std.proofs.Common.{ℕ, zero, suc, ◌<◌, ◌+◌, ◌^◌, List, [], ◌∷◌, slice_index, arith}
 use Rattle.alw_num.specs.declared.addresses.Line.{Line}
-use Rattle.alw_num.specs.declared.addresses.Width.TheVariants.{Byte, Half}
+use Rattle.alw_num.specs.declared.addresses.Width.TheVariants.{Byte, Half, Word}
 use Rattle.alw_num.specs.Lanes.{bytes_of, lane_of}
 
 abbrev AreBytes : List ℕ → Type 0
@@ -24,3 +24,6 @@ half_lane line offset =
     let a = byte_below (bytes_of line) offset (bytes_of_are line) in
     let b = byte_below (bytes_of line) (offset + 1) (bytes_of_are line) in
     omega arith
+
+pub word_lane : (line : Line) (offset : ℕ) → lane_of line offset Word < 2 ^ 32
+word_lane line offset = omega (arith, half_lane line offset, half_lane line (offset + 2))

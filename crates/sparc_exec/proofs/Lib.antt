@@ -1,4 +1,5 @@
 mod Products
-mod Lanes
+pub mod Lanes
 mod Lines
 pub mod Outcomes
+pub mod RegisterWords

@@ -1,6 +1,7 @@
 -- Clocks rise to the limit, and then less and less is left.
 use Rattle.alw_coherence.proofs.RunFacts.{always_in_time, always_bounded}
 use Rattle.alw_coherence.proofs.HaltFacts.{without_evictions}
+use Rattle.alw_coherence.proofs.TurnCounts.{always_few_turns}
 use Rattle.alw_coherence.proofs.run_laws.runs_are_bounded.Goals as goal
 
 pub returns-clause-in_time : goal.returns-clause-in_time
@@ -11,3 +12,6 @@ returns-clause-any c = always_bounded
 
 pub returns-clause-no_evictions : goal.returns-clause-no_evictions
 returns-clause-no_evictions c = without_evictions
+
+pub returns-clause-turns : goal.returns-clause-turns
+returns-clause-turns c = always_few_turns

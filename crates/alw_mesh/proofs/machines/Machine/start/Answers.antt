@@ -6,6 +6,5 @@ use Rattle.alw_mesh.proofs.machines.Machine.start.Goals as goal
 pub invariant_of-result-2 : goal.invariant_of-result-2
 invariant_of-result-2 c =
     let count = c.from-nodes.ensures ∙ c.count_nodes.ensures.count in
-    let fits = rw (c.from.ensures, c.from-2.ensures, count, c.limit.ensures.value) at c.if-number-gt-MOST_STEPS.false in
     rw (c.mesh.view_is, c.empty.ensures)
-    (machine_begins c.args.image.now c.args.params.now c.in_ok-mesh.ensures c.count_nodes.ensures.image c.limit.ensures.allowed fits (c.in_ok-room.ensures.room ∙ count) c.in_ok-room.ensures.empty c.start-3.ensures c.renew_all.ensures)
+    (machine_begins c.args.image.now c.args.params.now c.in_ok-mesh.ensures c.count_nodes.ensures.image c.fit.ensures.allowed c.in_ok-fit.ensures.fits (c.in_ok-room.ensures.room ∙ count) c.in_ok-room.ensures.empty c.start-3.ensures c.renew_all.ensures)

@@ -3,8 +3,8 @@ use Rattle.std.proofs.Common.{◌≡◌, not, ◌&&◌, sym, ap, ◌∙◌}
 use Rattle.alw_model.specs.Machine.{has_halted}
 use Rattle.alw_tally.specs.Told.{told_with}
 use Rattle.alw_mesh.specs.Grids.{Grid}
-use Rattle.alw_mesh.proofs.Journals.{journal_fits, few_remain, sends_below_rows, step_answers, machine_grows}
-use Rattle.alw_mesh.proofs.machines.Machine.step.Goals as goal
+use Rattle.alw_mesh.proofs.Journals.{journal_fits, next_may, few_remain, sends_below_rows, step_answers, machine_grows}
+use Rattle.alw_mesh.proofs.machines.Machine.take.Goals as goal
 
 pub push-requires : goal.push-requires
 push-requires c = journal_fits _ c.self.invariant.run
@@ -14,13 +14,13 @@ happen-happening-requires-clause-few c = rw c.in_ok-reserve-2.ensures.ok (few_re
 
 pub renew-requires-clause-below : goal.renew-requires-clause-below
 renew-requires-clause-below c =
-    let may = sym c.may_be_next.ensures ∙ c.if-not-may_be_next.false in
+    let may = next_may c.self.invariant c.args.event (rw (← c.self.view_is) at c.requires) in
     let happens = rw c.in_ok-reserve-2.ensures.ok at c.happen-happening.ensures in
     sends_below_rows c.self.invariant c.args.event may happens
 
 pub invariant_of-self-2 : goal.invariant_of-self-2
 invariant_of-self-2 c =
-    let may = sym c.may_be_next.ensures ∙ c.if-not-may_be_next.false in
+    let may = next_may c.self.invariant c.args.event (rw (← c.self.view_is) at c.requires) in
     let happens = rw c.in_ok-reserve-2.ensures.ok at c.happen-happening.ensures in
     let had = c.has_halted-had_halted.ensures ∙ ap (λ (g : Grid). has_halted g.machine) c.in_ok-reserve-2.ensures.ok in
     machine_grows c.self.invariant c.args.event may happens c.stamp-stamp.result c.is_wide.result c.flips.result c.stamp-stamp.ensures c.in_ok-push.ensures.ok
@@ -29,6 +29,6 @@ invariant_of-self-2 c =
 
 pub returns : goal.returns
 returns c =
-    let may = sym c.may_be_next.ensures ∙ c.if-not-may_be_next.false in
+    let may = next_may c.self.invariant c.args.event (rw (← c.self.view_is) at c.requires) in
     let happens = rw c.in_ok-reserve-2.ensures.ok at c.happen-happening.ensures in
     rw (← c.self.view_is) (step_answers c.self.invariant c.args.event may happens c.stamp-stamp.result c.stamp-stamp.ensures c.in_ok-push.ensures.ok)

@@ -1,6 +1,0 @@
--- The messages so far are counted.
-use Rattle.alw_tally.proofs.Sent.{IsUnderWay}
-use Rattle.alw_tally.proofs.counting.sent_of.Given as goal
-
-abbrev pub invariant-loop-i : goal.invariant-loop-i
-invariant-loop-i l = IsUnderWay l.image l.from.0 l.sends.messages l.i l.sent
