@@ -4,3 +4,4 @@ pub mod Walks
 pub mod Exits
 pub mod RunClaims
 pub mod ClaimForms
+pub mod ClaimTypes

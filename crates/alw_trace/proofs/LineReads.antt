@@ -9,7 +9,7 @@ use Rattle.alw_report.specs.Reports.{heading, params_line}
 use Rattle.alw_trace.specs.declared.faults.TextErr.{TextErr}
 use Rattle.alw_trace.specs.declared.faults.TextErr.TheVariants.{Syntax, Image, Range, NoMemory}
 use Rattle.alw_trace.specs.Texts.{entry_line, entries_text, image_text, trace_title}
-use Rattle.alw_trace.specs.Lines.{IsNumber, IsEntry, HasThree, AreBytes, Lacks, IsFaultInLines, IsFaultInList, IsFaultInImage, IsFaultAtEnd, IsTraceFault, trace_lines, behind_image, list_line, title_of_trace, image_of_trace, params_of_trace, entries_of_trace, end_of_trace, goes_on}
+use Rattle.alw_trace.specs.Lines.{IsNumber, IsEntry, HasThree, AreBytes, Lacks, IsFaultInLines, IsFaultInList, IsFaultInImage, IsFaultAtEnd, IsFrontFault, SaysFront, IsTraceFault, TraceLines, trace_lines, behind_image, behind_entries, list_line, image_of_front, params_of_front, entries_of_front, front_of_trace, end_of_trace, goes_on}
 use Rattle.alw_trace.specs.Raw.{IsSyntax, AreEntriesRead, AreLinesRead, IsImageRead, IsOfTrace}
 use Rattle.alw_trace.proofs.LineTexts.{heading-is}
 
@@ -51,71 +51,68 @@ entries_fault count first text behind NoMemory small e is = tt
 -- ---- a trace
 
 -- what of a trace is read before its entries
-pub record IsHead (text image : List ℕ) (params : Parameters) (rest : List ℕ) : Type 0 where
+pub record IsHead (title text image : List ℕ) (params : Parameters) (rest : List ℕ) : Type 0 where
   pub bytes : AreBytes image
   pub three : HasThree params
-  pub parts : text ≡ trace_title ++ (image_text image ++ (params_line params ++ rest))
+  pub parts : text ≡ title ++ (image_text image ++ (params_line params ++ rest))
 
-pub title_lacks : (text : List ℕ) → ((rest : List ℕ) → text ≢ codes "ALEWIFE TRACE 1\n" ++ rest) → IsTraceFault text 1
+module _ (title text one : List ℕ) (e : text ≡ title ++ one) where
+  pub image_lacks : (fault : TextErr) → IsSyntax (IsFaultInImage one) fault → IsSyntax (IsFrontFault title text) fault
+  image_lacks (Syntax at) is = image_of_front one e is
+  image_lacks (Image f) is = is
+  image_lacks (Range at) is = is
+  image_lacks NoMemory is = tt
+
+  module _ (image two : List ℕ) (read : IsImageRead one image two) where
+    pub params_lacks : (line : ℕ) → line ≡ behind_image image → Lacks HasThree params_line two → IsFrontFault title text line
+    params_lacks line here lacks = params_of_front image two read.bytes (e ∙ ap (λ (t : List ℕ). title ++ t) read.parts) lacks here
+
+    pub head : (params : Parameters) (rest : List ℕ) → HasThree params → two ≡ params_line params ++ rest → IsHead title text image params rest
+    head params rest fits line = record {
+      bytes = read.bytes;
+      three = fits;
+      parts = e ∙ ap (λ (t : List ℕ). title ++ t) (read.parts ∙ ap (λ (t : List ℕ). image_text image ++ t) line);
+    }
+
+module _ (title text image : List ℕ) (params : Parameters) (behind : List ℕ) (h : IsHead title text image params behind) where
+  pub entries_lack : (line : ℕ) (fault : TextErr) → line ≡ behind_image image
+      → IsSyntax (IsFaultInList IsEntry entry_line (codes "entries") (line + 1) behind) fault → IsSyntax (IsFrontFault title text) fault
+  entries_lack line (Syntax at) here is =
+      entries_of_front image params behind h.bytes h.three h.parts (subst (λ (n : ℕ). IsFaultInList IsEntry entry_line (codes "entries") (n + 1) behind at) here is)
+  entries_lack line (Image f) here is = is
+  entries_lack line (Range at) here is = is
+  entries_lack line NoMemory here is = tt
+
+  pub front : (journal : List Entry) (rest : List ℕ) → AreEntriesRead behind journal rest
+      → SaysFront title text (record { image = image; params = params; journal = journal }) rest
+  front journal rest read = record {
+    form = record { bytes = h.bytes.0; size = h.bytes.1; params = h.three; entries = read.each; count = read.count };
+    text_is = h.parts ∙ ap (λ (t : List ℕ). title ++ (image_text image ++ (params_line params ++ t))) read.parts;
+  }
+
+-- no front of a trace
+pub front_lacks : (text : List ℕ) (fault : TextErr) → IsSyntax (IsFrontFault (codes "ALEWIFE TRACE 1\n") text) fault → IsSyntax (IsTraceFault text) fault
 unfolding trace_title
-title_lacks text lacks = title_of_trace lacks refl
+front_lacks text (Syntax at) is = front_of_trace is
+front_lacks text (Image f) is = is
+front_lacks text (Range at) is = is
+front_lacks text NoMemory is = tt
 
-pub image_lacks : (text rest : List ℕ) (fault : TextErr) → text ≡ codes "ALEWIFE TRACE 1\n" ++ rest → IsSyntax (IsFaultInImage rest) fault
-    → IsSyntax (IsTraceFault text) fault
+pub end_lacks : (text : List ℕ) (lines : TraceLines) (rest : List ℕ) (last : ℕ) (fault : TextErr) → SaysFront (codes "ALEWIFE TRACE 1\n") text lines rest
+    → last ≡ behind_entries lines → IsSyntax (IsFaultAtEnd last rest) fault → IsSyntax (IsTraceFault text) fault
 unfolding trace_title
-image_lacks text rest (Syntax at) e is = image_of_trace rest e is
-image_lacks text rest (Image f) e is = is
-image_lacks text rest (Range at) e is = is
-image_lacks text rest NoMemory e is = tt
+end_lacks text lines rest last (Syntax at) says place is = end_of_trace lines rest says (subst (λ (n : ℕ). IsFaultAtEnd n rest at) place is)
+end_lacks text lines rest last (Image f) says place is = is
+end_lacks text lines rest last (Range at) says place is = is
+end_lacks text lines rest last NoMemory says place is = tt
 
-pub params_lacks : (text one image two : List ℕ) (line : ℕ) → text ≡ codes "ALEWIFE TRACE 1\n" ++ one → IsImageRead one image two → line ≡ behind_image image
-    → Lacks HasThree params_line two → IsTraceFault text line
-unfolding trace_title
-params_lacks text one image two line e read here lacks =
-    params_of_trace image two read.bytes (e ∙ ap (λ (t : List ℕ). trace_title ++ t) read.parts) lacks here
-
-pub head : (text one image two : List ℕ) (params : Parameters) (rest : List ℕ) → text ≡ codes "ALEWIFE TRACE 1\n" ++ one → IsImageRead one image two
-    → HasThree params → two ≡ params_line params ++ rest → IsHead text image params rest
-unfolding trace_title
-head text one image two params rest e read fits line = record {
-  bytes = read.bytes;
-  three = fits;
-  parts = e ∙ ap (λ (t : List ℕ). trace_title ++ t) (read.parts ∙ ap (λ (t : List ℕ). image_text image ++ t) line);
-}
-
-pub entries_lack : (text image : List ℕ) (params : Parameters) (rest : List ℕ) (line : ℕ) (fault : TextErr) → IsHead text image params rest
-    → line ≡ behind_image image
-    → IsSyntax (IsFaultInList IsEntry entry_line (codes "entries") (line + 1) rest) fault → IsSyntax (IsTraceFault text) fault
-entries_lack text image params rest line (Syntax at) h here is =
-    entries_of_trace image params rest h.bytes h.three h.parts (subst (λ (n : ℕ). IsFaultInList IsEntry entry_line (codes "entries") (n + 1) rest at) here is)
-entries_lack text image params rest line (Image f) h here is = is
-entries_lack text image params rest line (Range at) h here is = is
-entries_lack text image params rest line NoMemory h here is = tt
-
-entries_parts : (text image : List ℕ) (params : Parameters) (behind : List ℕ) (journal : List Entry) (rest : List ℕ) → IsHead text image params behind
-    → AreEntriesRead behind journal rest
-    → text ≡ trace_title ++ (image_text image ++ (params_line params ++ (entries_text journal ++ rest)))
-entries_parts text image params behind journal rest h read = h.parts
-    ∙ ap (λ (t : List ℕ). trace_title ++ (image_text image ++ (params_line params ++ t))) read.parts
-
-pub end_lacks : (text image : List ℕ) (params : Parameters) (behind : List ℕ) (journal : List Entry) (rest : List ℕ) (line last : ℕ) (fault : TextErr)
-    → IsHead text image params behind → AreEntriesRead behind journal rest
-    → line ≡ behind_image image → last ≡ line + 2 + length journal → IsSyntax (IsFaultAtEnd last rest) fault → IsSyntax (IsTraceFault text) fault
-end_lacks text image params behind journal rest line last (Syntax at) h read here place is =
-    end_of_trace image params journal rest h.bytes h.three read.each read.count (entries_parts text image params behind journal rest h read)
-    (subst (λ (n : ℕ). IsFaultAtEnd n rest at) (place ∙ ap (λ (n : ℕ). n + 2 + length journal) here) is)
-end_lacks text image params behind journal rest line last (Image f) h read here place is = is
-end_lacks text image params behind journal rest line last (Range at) h read here place is = is
-end_lacks text image params behind journal rest line last NoMemory h read here place is = tt
-
-pub whole : (text image : List ℕ) (params : Parameters) (behind : List ℕ) (journal : List Entry) (rest : List ℕ) → IsHead text image params behind
-    → AreEntriesRead behind journal rest → rest ≡ codes "end\n"
-    → IsOfTrace text (record { image = image; params = params; journal = journal })
-unfolding trace_lines
-whole text image params behind journal rest h read e = record {
-  form = record { bytes = h.bytes.0; size = h.bytes.1; params = h.three; entries = read.each; count = read.count };
-  text_is = entries_parts text image params behind journal rest h read
-      ∙ ap (λ (t : List ℕ). trace_title ++ (image_text image ++ (params_line params ++ (entries_text journal ++ t)))) e;
+pub whole : (text : List ℕ) (lines : TraceLines) (rest : List ℕ) → SaysFront (codes "ALEWIFE TRACE 1\n") text lines rest → rest ≡ codes "end\n"
+    → IsOfTrace text lines
+unfolding trace_lines trace_title
+whole text lines rest says e = record {
+  form = says.form;
+  text_is = says.text_is
+      ∙ ap (λ (t : List ℕ). trace_title ++ (image_text lines.image ++ (params_line lines.params ++ (entries_text lines.journal ++ t)))) e;
 }
 
 pub more_behind : (text rest : List ℕ) (last : ℕ) → text ≡ codes "end\n" ++ rest → (length rest == 0) ≡ false → IsFaultAtEnd last text (last + 1)

@@ -31,33 +31,8 @@ found n rest stop l low =
     lt-ltb _ _ (omega (arith, length-append (decimal n) (stop ∷ rest))) in
     rw (at, within)
 
--- without such a byte there is no number before one
-pub no_stop : (text : List ℕ) (stop : ℕ) → stop < 48 → position (λ byte. byte == stop) text ≡ None → (n : ℕ) → (rest : List ℕ) → n < 2 ^ 64
-    → text ≢ decimal n ++ stop ∷ rest
-no_stop text stop low none n rest l is = none-some (length (decimal n)) (sym none ∙ ap (position (λ byte. byte == stop)) is ∙ found n rest stop l low)
-
 same_place : (a b : ℕ) → Some a ≡ Some b → a ≡ b
 same_place a b e = cc
-
--- and none where what stands before it is no number
-pub no_number : (text front : List ℕ) (at stop : ℕ) → stop < 48 → position (λ byte. byte == stop) text ≡ Some at → front ≡ take at text
-    → ((n : ℕ) → n < 2 ^ 64 → front ≢ decimal n)
-    → (n : ℕ) → (rest : List ℕ) → n < 2 ^ 64 → text ≢ decimal n ++ stop ∷ rest
-no_number text front at stop low some cut other n rest l is =
-    let here : at ≡ length (decimal n) = same_place at (length (decimal n)) (sym some ∙ ap (position (λ byte. byte == stop)) is ∙ found n rest stop l low) in
-    other n l (cut ∙ ap (take at) is ∙ take_at (decimal n) (stop ∷ rest) at (sym here))
-
--- what stands at the place, and before it
-pub number_found : (text front back rest : List ℕ) (at stop first n : ℕ) → position (λ byte. byte == stop) text ≡ Some at → front ≡ take at text
-    → back ≡ drop at text → front ≡ decimal n → back ≡ first ∷ rest
-    → text ≡ decimal n ++ stop ∷ rest
-number_found text front back rest at stop first n some cut behind is split =
-    let here = (position-Some (λ byte. byte == stop) text at 0 some).1 in
-    let first-is : get_or text at 0 ≡ first = ap (λ (k : ℕ). get_or text k 0) (let e : at ≡ at + 0 = omega arith in e) ∙ sym (get_or-drop at text 0 0)
-    ∙ ap (λ (t : List ℕ). get_or t 0 0) (sym behind ∙ split) in
-    let stop-is : first ≡ stop = sym first-is ∙ eqb-true (get_or text at 0) stop here in
-    sym (take-append-drop at text) ∙ ap (λ (t : List ℕ). t ++ drop at text) (sym cut ∙ is)
-    ∙ ap (λ (t : List ℕ). decimal n ++ t) (sym behind ∙ split ∙ ap (λ (b : ℕ). b ∷ rest) stop-is)
 
 -- one number, and one rest
 pub one_number : (n m stop : ℕ) (one other : List ℕ) → n < 2 ^ 64 → m < 2 ^ 64 → stop < 48 → decimal n ++ stop ∷ one ≡ decimal m ++ stop ∷ other

@@ -6,9 +6,9 @@ use Rattle.std.proofs.lemmas.List.{append_cancel_left, length-take}
 use Rattle.alw_msg.specs.declared.events.Entry.{Entry}
 use Rattle.alw_report.specs.Reports.{params_line, run_line, print_line, word_line, runs_text, prints_text, memory_text}
 use Rattle.alw_trace.specs.Texts.{hex_line, hex_lines, image_text, entry_line, entries_text, trace_title, claim_title}
-use Rattle.alw_trace.specs.Lines.{IsNumber, IsByte, IsRow, AreBytes, HasThree, IsEntry, IsRun, IsPrint, IsMemoryWord, Lacks, LacksThis, behind_image, IsFaultInLines, IsFaultInRows, IsFaultInList, IsFaultInImage, IsFaultAtEnd, IsTraceFault, IsClaimFault, list_heading, list_line, image_heading, image_row, lacks_end, goes_on, title_of_trace, image_of_trace, params_of_trace, entries_of_trace, end_of_trace, title_of_claim, image_of_claim, runs_of_claim, prints_of_claim, memory_of_claim, end_of_claim}
+use Rattle.alw_trace.specs.Lines.{IsNumber, IsByte, IsRow, AreBytes, HasThree, IsEntry, IsRun, IsPrint, IsMemoryWord, Lacks, LacksThis, behind_image, behind_entries, IsFaultInLines, IsFaultInRows, IsFaultInList, IsFaultInImage, IsFaultAtEnd, IsFrontFault, IsTraceFault, IsClaimFault, list_heading, list_line, image_heading, image_row, lacks_end, goes_on, title_of_front, image_of_front, params_of_front, entries_of_front, front_of_trace, end_of_trace, title_of_claim, image_of_claim, runs_of_claim, prints_of_claim, memory_of_claim, end_of_claim}
 use Rattle.alw_trace.proofs.OneLine.{OneLine, not_lacking, one_heading, one_row, all_take, all_drop, one_image, no_fault_in_image, one_params, one_entry, no_fault_in_list}
-use Rattle.alw_trace.proofs.OneTrace.{one_journal, entries-is}
+use Rattle.alw_trace.proofs.OneFront.{one_journal, entries-is}
 use Rattle.alw_trace.proofs.OneClaim.{one_run, one_print, one_memory_word, one_runs, one_prints, one_memory, no_fault_in_runs, no_fault_in_prints, no_fault_in_memory}
 
 -- a text has at most one fault of a kind
@@ -141,24 +141,25 @@ abbrev OfTrace : List ℕ → ℕ → Type 0
 OfTrace = Stage NoMore (λ u. trace_title) (LacksAt (LacksThis trace_title) 1) (λ u. FromImage)
 
 staged : (text : List ℕ) (f : ℕ) → IsTraceFault text f → OfTrace text f
-staged text f (title_of_trace lacks place) = wrong (lacks, place)
-staged text f (image_of_trace rest e is) = let next : FromImage rest f = wrong is in behind tt rest tt e next
-staged text f (params_of_trace image rest bytes e lacks place) =
+staged text f (front_of_trace (title_of_front lacks place)) = wrong (lacks, place)
+staged text f (front_of_trace (image_of_front rest e is)) = let next : FromImage rest f = wrong is in behind tt rest tt e next
+staged text f (front_of_trace (params_of_front image rest bytes e lacks place)) =
     let params : FromParams image rest f = wrong (lacks, place) in
     let next : FromImage (image_text image ++ rest) f = behind image rest bytes refl params in
     behind tt (image_text image ++ rest) tt e next
-staged text f (entries_of_trace image params rest bytes three e is) =
+staged text f (front_of_trace (entries_of_front image params rest bytes three e is)) =
     let entries : FromEntries image rest f = wrong is in
     let middle : FromParams image (params_line params ++ rest) f = behind params rest three refl entries in
     let next : FromImage (image_text image ++ (params_line params ++ rest)) f = behind image (params_line params ++ rest) bytes refl middle in
     behind tt (image_text image ++ (params_line params ++ rest)) tt e next
-staged text f (end_of_trace image params journal rest bytes three each few e is) =
-    let entries : FromEntries image (entries_text journal ++ rest) f = behind journal rest (each, few) refl is in
-    let middle : FromParams image (params_line params ++ (entries_text journal ++ rest)) f =
-    behind params (entries_text journal ++ rest) three refl entries in
-    let next : FromImage (image_text image ++ (params_line params ++ (entries_text journal ++ rest))) f =
-    behind image (params_line params ++ (entries_text journal ++ rest)) bytes refl middle in
-    behind tt (image_text image ++ (params_line params ++ (entries_text journal ++ rest))) tt e next
+staged text f (end_of_trace lines rest says is) =
+    let form = says.form in
+    let entries : FromEntries lines.image (entries_text lines.journal ++ rest) f = behind lines.journal rest (form.entries, form.count) refl is in
+    let middle : FromParams lines.image (params_line lines.params ++ (entries_text lines.journal ++ rest)) f =
+    behind lines.params (entries_text lines.journal ++ rest) form.params refl entries in
+    let next : FromImage (image_text lines.image ++ (params_line lines.params ++ (entries_text lines.journal ++ rest))) f =
+    behind lines.image (params_line lines.params ++ (entries_text lines.journal ++ rest)) (form.bytes, form.size) refl middle in
+    behind tt (image_text lines.image ++ (params_line lines.params ++ (entries_text lines.journal ++ rest))) tt says.text_is next
 
 no_fault_in_entries : (journal : List Entry) (rest : List ℕ) (first f : ℕ) → IsJournal journal
     → ¬ IsFaultInList IsEntry entry_line (codes "entries") first (entries_text journal ++ rest) f

@@ -26,78 +26,27 @@ use Rattle.alw_trace.specs.declared.values.Trace.{Trace}
 use Rattle.alw_trace.specs.declared.faults.TextErr.{TextErr}
 use Rattle.alw_trace.specs.declared.faults.TextErr.TheVariants.{Syntax, Image, Range, NoMemory}
 use Rattle.alw_trace.specs.Texts.{image_text, entry_line, entries_text, trace_title, trace_text}
-use Rattle.alw_trace.specs.Lines.{IsNumber, IsByte, AreBytes, HasThree, HasNumbers, IsEntry, TraceLines, AreTraceLines, trace_lines, behind_image, IsFaultInList, IsFaultAtEnd, IsFaultInImage, IsTraceFault, title_of_trace, image_of_trace, params_of_trace, entries_of_trace, end_of_trace}
+use Rattle.alw_trace.specs.Lines.{IsNumber, IsByte, AreBytes, HasThree, HasNumbers, IsEntry, TraceLines, AreTraceLines, trace_lines, behind_image, IsFaultInList, IsFaultAtEnd, IsFaultInImage, IsTraceFault, SaysFront, behind_entries, front_of_trace, end_of_trace}
 use Rattle.alw_trace.specs.Readings.{is_short, fits_event, fits_entry, tested, trace_tests, IsOfMachine, IsStamped, IsTrace, HasTraceTypes, without_evict, ReadsTrace}
 use Rattle.alw_trace.proofs.RowReads.{all_append}
 use Rattle.alw_trace.proofs.ParamRanges.{fit, sets_within}
-use Rattle.alw_trace.proofs.OneLine.{one_list, one_heading, no_fault_in_list, one_image, no_fault_in_image, no_fault_at_end, one_params, one_entry}
-
--- ---- entries behind their heading
-
-pub entries-is : (journal : List Entry) (u : List ℕ)
-    → entries_text journal ++ u ≡ heading (codes "entries") (length journal) ++ (flat_map entry_line journal ++ u)
-unfolding entries_text
-entries-is journal u = append_assoc (heading (codes "entries") (length journal)) (flat_map entry_line journal) u
-
-pub one_journal : (one other : List Entry) (u v : List ℕ) → AllByRecursion IsEntry one → AllByRecursion IsEntry other → IsNumber (length one)
-    → IsNumber (length other) → entries_text one ++ u ≡ entries_text other ++ v → (one ≡ other) × (u ≡ v)
-one_journal one other u v are all small few e =
-    let head = one_heading (codes "entries") (length one) (length other) (flat_map entry_line one ++ u) (flat_map entry_line other ++ v) small few
-    (sym (entries-is one u) ∙ e ∙ entries-is other v) in
-    one_list IsEntry entry_line one_entry one other u v are all head.0 head.1
-
--- ---- the parts of a text
-
--- what stands behind the title, the image, the parameters and the entries
-abbrev behind_entries : List ℕ
-behind_entries = codes "end\n"
-
-abbrev behind_params : TraceLines → List ℕ
-behind_params t = entries_text t.journal ++ behind_entries
-
-abbrev behind_bytes : TraceLines → List ℕ
-behind_bytes t = params_line t.params ++ behind_params t
-
-abbrev behind_title : TraceLines → List ℕ
-behind_title t = image_text t.image ++ behind_bytes t
-
-image_cut : (t : TraceLines) (image rest : List ℕ) → AreTraceLines t → AreBytes image
-    → trace_title ++ behind_title t ≡ trace_title ++ (image_text image ++ rest) → (t.image ≡ image) × (behind_bytes t ≡ rest)
-image_cut t image rest are bytes e =
-    one_image t.image image (behind_bytes t) rest (are.bytes, are.size) bytes (append_cancel_left trace_title (behind_title t) (image_text image ++ rest) e)
-
-params_cut : (t : TraceLines) (image : List ℕ) (params : Parameters) (rest : List ℕ) → AreTraceLines t → AreBytes image → HasThree params
-    → trace_title ++ behind_title t ≡ trace_title ++ (image_text image ++ (params_line params ++ rest))
-    → (t.params ≡ params) × (behind_params t ≡ rest)
-params_cut t image params rest are bytes three e =
-    one_params t.params params (behind_params t) rest are.params three (image_cut t image (params_line params ++ rest) are bytes e).1
-
-journal_cut : (t : TraceLines) (image : List ℕ) (params : Parameters) (journal : List Entry) (rest : List ℕ) → AreTraceLines t → AreBytes image
-    → HasThree params → AllByRecursion IsEntry journal → IsNumber (length journal)
-    → trace_title ++ behind_title t ≡ trace_title ++ (image_text image ++ (params_line params ++ (entries_text journal ++ rest)))
-    → (t.journal ≡ journal) × (behind_entries ≡ rest)
-journal_cut t image params journal rest are bytes three each few e =
-    one_journal t.journal journal behind_entries rest are.entries each are.count few
-    (params_cut t image params (entries_text journal ++ rest) are bytes three e).1
+use Rattle.alw_trace.proofs.OneLine.{no_fault_at_end}
+use Rattle.alw_trace.proofs.OneFront.{image_cut, params_cut, journal_cut, no_front_fault}
 
 -- ---- no line is at fault
 
-no_fault : (t : TraceLines) (fault : ℕ) → AreTraceLines t → ¬ IsTraceFault (trace_title ++ behind_title t) fault
-no_fault t fault are (title_of_trace lacks place) = lacks (behind_title t) refl
-no_fault t fault are (image_of_trace rest e is) =
-    no_fault_in_image t.image (behind_bytes t) fault (are.bytes, are.size)
-    (subst (λ (r : List ℕ). IsFaultInImage r fault) (sym (append_cancel_left trace_title (behind_title t) rest e)) is)
-no_fault t fault are (params_of_trace image rest bytes e lacks place) =
-    lacks t.params (behind_params t) are.params (sym (image_cut t image rest are bytes e).1)
-no_fault t fault are (entries_of_trace image params rest bytes three e is) =
-    let cut = params_cut t image params rest are bytes three e in
-    no_fault_in_list IsEntry entry_line (codes "entries") (behind_image image + 1) fault t.journal behind_entries one_entry are.entries are.count
-    (subst (λ (r : List ℕ). IsFaultInList IsEntry entry_line (codes "entries") (behind_image image + 1) r fault)
-    (sym cut.1 ∙ entries-is t.journal behind_entries) is)
-no_fault t fault are (end_of_trace image params journal rest bytes three each few e is) =
-    no_fault_at_end (behind_image image + 2 + length journal) fault
-    (subst (λ (r : List ℕ). IsFaultAtEnd (behind_image image + 2 + length journal) r fault)
-    (sym (journal_cut t image params journal rest are bytes three each few e).1) is)
+-- what stands behind the entries
+abbrev last : List ℕ
+last = codes "end\n"
+
+no_fault : (t : TraceLines) (fault : ℕ) → AreTraceLines t
+    → ¬ IsTraceFault (trace_title ++ (image_text t.image ++ (params_line t.params ++ (entries_text t.journal ++ last)))) fault
+no_fault t fault are (front_of_trace is) = no_front_fault trace_title t last are fault is
+no_fault t fault are (end_of_trace lines rest says is) =
+    let form = says.form in
+    no_fault_at_end (behind_entries lines) fault
+    (subst (λ (r : List ℕ). IsFaultAtEnd (behind_entries lines) r fault)
+    (sym (journal_cut trace_title t last are lines.image lines.params lines.journal rest (form.bytes, form.size) form.params form.entries form.count says.text_is).1) is)
 
 pub no_trace_fault : (t : TraceLines) (fault : ℕ) → AreTraceLines t → ¬ IsTraceFault (trace_lines t) fault
 unfolding trace_lines
@@ -113,9 +62,10 @@ pub one_trace : (one other : TraceLines) → AreTraceLines one → AreTraceLines
 unfolding trace_lines
 one_trace one other are all e =
     let bytes : AreBytes other.image = (all.bytes, all.size) in
-    same_lines one.image other.image one.params other.params one.journal other.journal (image_cut one other.image (behind_bytes other) are bytes e).0
-    (params_cut one other.image other.params (behind_params other) are bytes all.params e).0
-    (journal_cut one other.image other.params other.journal behind_entries are bytes all.params all.entries all.count e).0
+    same_lines one.image other.image one.params other.params one.journal other.journal
+    (image_cut trace_title one last are other.image (params_line other.params ++ (entries_text other.journal ++ last)) bytes e).0
+    (params_cut trace_title one last are other.image other.params (entries_text other.journal ++ last) bytes all.params e).0
+    (journal_cut trace_title one last are other.image other.params other.journal last bytes all.params all.entries all.count e).0
 
 -- ---- the lines of a trace
 

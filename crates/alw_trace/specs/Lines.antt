@@ -143,19 +143,31 @@ AreBytes image = AllByRecursion IsByte image × IsNumber (length image)
 abbrev pub behind_image : List ℕ → ℕ
 behind_image image = 3 + line_number (length image)
 
--- a text that is no trace: the first line with which no trace goes on, by its number from 1 on; a line that isn't there has the number after the last
+-- a text that doesn't begin with this title and the lines of a trace up to its last entry: the first line with which no such text goes on, by its
+-- number from 1 on; a line that isn't there has the number after the last
+pub data IsFrontFault (title text : List ℕ) (fault : ℕ) : Type 0 where
+  title_of_front : LacksThis title text → fault ≡ 1 → IsFrontFault title text fault
+  image_of_front : (rest : List ℕ) → text ≡ title ++ rest → IsFaultInImage rest fault → IsFrontFault title text fault
+  params_of_front : (image rest : List ℕ) → AreBytes image → text ≡ title ++ (image_text image ++ rest)
+      → Lacks HasThree params_line rest → fault ≡ behind_image image → IsFrontFault title text fault
+  entries_of_front : (image : List ℕ) → (params : Parameters) → (rest : List ℕ) → AreBytes image → HasThree params
+      → text ≡ title ++ (image_text image ++ (params_line params ++ rest))
+      → IsFaultInList IsEntry entry_line (codes "entries") (behind_image image + 1) rest fault → IsFrontFault title text fault
+
+-- such lines, and what stands behind them
+pub record SaysFront (title text : List ℕ) (lines : TraceLines) (rest : List ℕ) : Type 0 where
+  pub form : AreTraceLines lines
+  pub text_is : text ≡ title ++ (image_text lines.image ++ (params_line lines.params ++ (entries_text lines.journal ++ rest)))
+
+-- the number of the line behind them
+abbrev pub behind_entries : TraceLines → ℕ
+behind_entries lines = behind_image lines.image + 2 + length lines.journal
+
+-- a text that is no trace: the first line with which no trace goes on
 pub data IsTraceFault (text : List ℕ) (fault : ℕ) : Type 0 where
-  title_of_trace : LacksThis trace_title text → fault ≡ 1 → IsTraceFault text fault
-  image_of_trace : (rest : List ℕ) → text ≡ trace_title ++ rest → IsFaultInImage rest fault → IsTraceFault text fault
-  params_of_trace : (image rest : List ℕ) → AreBytes image → text ≡ trace_title ++ (image_text image ++ rest)
-      → Lacks HasThree params_line rest → fault ≡ behind_image image → IsTraceFault text fault
-  entries_of_trace : (image : List ℕ) → (params : Parameters) → (rest : List ℕ) → AreBytes image → HasThree params
-      → text ≡ trace_title ++ (image_text image ++ (params_line params ++ rest))
-      → IsFaultInList IsEntry entry_line (codes "entries") (behind_image image + 1) rest fault → IsTraceFault text fault
-  end_of_trace : (image : List ℕ) → (params : Parameters) → (journal : List Entry) → (rest : List ℕ) → AreBytes image → HasThree params
-      → AllByRecursion IsEntry journal → IsNumber (length journal)
-      → text ≡ trace_title ++ (image_text image ++ (params_line params ++ (entries_text journal ++ rest)))
-      → IsFaultAtEnd (behind_image image + 2 + length journal) rest fault → IsTraceFault text fault
+  front_of_trace : IsFrontFault trace_title text fault → IsTraceFault text fault
+  end_of_trace : (lines : TraceLines) → (rest : List ℕ) → SaysFront trace_title text lines rest → IsFaultAtEnd (behind_entries lines) rest fault
+      → IsTraceFault text fault
 
 -- a text that is no claim: the first line with which no claim goes on
 pub data IsClaimFault (text : List ℕ) (fault : ℕ) : Type 0 where

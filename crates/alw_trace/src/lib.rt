@@ -6,6 +6,7 @@ mod claim_ranges;
 mod claim_reading;
 mod entries;
 mod faults;
+mod fronts;
 mod image_lines;
 mod images;
 mod laws;
@@ -21,6 +22,7 @@ mod writing;
 
 pub use claim_reading::read_claim;
 pub use faults::TextErr;
+pub use fronts::{Front, put_front, read_front};
 pub use laws::{claims_are_read_back, traces_are_read_back};
 pub use reading::read_trace;
 pub use values::{Claim, Trace};

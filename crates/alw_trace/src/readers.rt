@@ -1,11 +1,11 @@
-ghost use Rattle.std.specs.Prelude.{◌≡◌, ◌≢◌, ◌<◌, ◌≤◌, ◌^◌, ◌++◌, ◌∷◌, ◌==◌, List, ℕ, length, position, IfSome, IfNone, MatchOption};
+ghost use Rattle.std.specs.Prelude.{◌≡◌, ◌≢◌, ◌<◌, ◌≤◌, ◌^◌, ◌++◌, ◌∷◌, ◌+◌, ◌*◌, List, [], ℕ, length, IfSome, IfNone, SomeIff, MatchOption};
 ghost use Rattle.std.specs.Fmt.{decimal};
 ghost use Rattle.alw_text.specs.Numbers.{hex_word};
 ghost use Rattle.alw_image.specs.Numbers.{IsWord};
 ghost use Rattle.alw_trace.specs.Texts.{byte_digits};
 ghost use Rattle.alw_trace.specs.Lines.{IsByte, Lacks};
 
-use alw_text::{decimal, hex_value, hex32};
+use alw_text::{hex_value, hex32};
 
 // Bytes of a word: `0x` and eight digits.
 const WORD: usize = 10;
@@ -17,12 +17,35 @@ pub fn behind<'a>(text: &'a [u8], front: &[u8]) -> Option<&'a [u8]>
     text.strip_prefix(front)
 }
 
-// The place of the first such byte.
-fn place_of(text: &[u8], stop: u8) -> Option<usize>
-    ensures place { result ≡ position (λ byte. byte == stop) text.now }
-    ensures within { IfSome result (λ place. place < length text.now) }
+// The value of a decimal digit. None exactly where the byte is none.
+fn digit_at(byte: u8) -> Option<u64>
+    ensures some { IfSome result (λ digit. (byte ≡ 48 + digit) × (digit < 10)) }
+    ensures none { IfNone result ((digit : ℕ) → digit < 10 → byte ≢ 48 + digit) }
 {
-    text.iter().position(|byte| *byte == stop)
+    match byte {
+        b'0'..=b'9' => Some(u64::from(byte - b'0')),
+        _ => None,
+    }
+}
+
+// The number with a digit more behind it. None exactly where that isn't below 2^64.
+fn with_digit(number: u64, digit: u64) -> Option<u64>
+    ensures { SomeIff result (number * 10 + digit < 2 ^ 64) (number * 10 + digit) }
+{
+    number.checked_mul(10)?.checked_add(digit)
+}
+
+// The number that is spelled with a byte more. None exactly where no number's spelling goes on with it.
+fn longer(number: u64, byte: u8) -> Option<u64>
+    ensures some { IfSome result (λ more. decimal more ≡ decimal number ++ byte ∷ []) }
+    ensures range { IfSome result (λ more. more < 2 ^ 64) }
+    ensures none { IfNone result ((n : ℕ) → (behind : List ℕ) → n < 2 ^ 64 → decimal n ≢ decimal number ++ byte ∷ behind) }
+{
+    let digit = digit_at(byte)?;
+    if number == 0 {
+        return None;
+    }
+    with_digit(number, digit)
 }
 
 // The number in decimal before the first such byte, which is no digit, and what follows that byte.
@@ -33,11 +56,17 @@ pub fn number_before(text: &[u8], stop: u8) -> Option<(u64, &[u8])>
     ensures range { IfSome result (λ read. read.0 < 2 ^ 64) }
     ensures none { IfNone result ((n : ℕ) → (rest : List ℕ) → n < 2 ^ 64 → text.now ≢ decimal n ++ stop ∷ rest) }
 {
-    let place = place_of(text, stop)?;
-    let (spelled, rest) = text.split_at(place);
-    let number = decimal(spelled)?;
-    let (_stop, rest) = rest.split_first()?;
-    Some((number, rest))
+    let (first, behind) = text.split_first()?;
+    let mut number = digit_at(*first)?;
+    let mut rest = behind;
+    while let Some((byte, behind)) = rest.split_first() {
+        if *byte == stop {
+            return Some((number, behind));
+        }
+        number = longer(number, *byte)?;
+        rest = behind;
+    }
+    None
 }
 
 // The same behind a fixed text.

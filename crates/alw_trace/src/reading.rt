@@ -24,7 +24,7 @@ pub fn read_trace(alloc: Global, bytes: &[u8]) -> Result<Trace, TextErr>
 }
 
 // The trace of a text's lines.
-fn trace_of(alloc: Global, lines: &RawTrace) -> Result<Trace, TextErr>
+pub fn trace_of(alloc: Global, lines: &RawTrace) -> Result<Trace, TextErr>
     ensures ok { IfOk result (λ trace. IsTraceOf (lines_of lines.now) trace) }
     ensures err { IfErr result (IsWrong (lines_of lines.now)) }
 {

@@ -4,8 +4,8 @@ ghost use Rattle.alw_trace.specs.Lines.{IsEntry, IsFaultAtEnd, IsFaultInLines, I
 ghost use Rattle.alw_trace.specs.Raw.{AreEntriesRead, AreLinesRead, IsOfTrace, IsSyntax, entry_of, lines_of};
 
 use crate::faults::TextErr;
-use crate::image_lines::{image_at, line_behind};
-use crate::lines::{entry_at, params_at};
+use crate::fronts::{front_at, last_line};
+use crate::lines::entry_at;
 use crate::raw::{RawEntry, RawTrace};
 use crate::readers::{behind, number_behind};
 use std::alloc::Global;
@@ -15,25 +15,13 @@ pub fn read_lines(alloc: Global, text: &[u8]) -> Result<RawTrace, TextErr>
     ensures ok { IfOk result (λ trace. IsOfTrace text.now (lines_of trace)) }
     ensures err { IfErr result (IsSyntax (IsTraceFault text.now)) }
 {
-    let Some(rest) = behind(text, b"ALEWIFE TRACE 1\n") else {
-        return Err(TextErr::Syntax { line: 1 });
-    };
-    let (image, rest) = image_at(alloc, rest)?;
-    let line = line_behind(&image);
-    let Some((params, rest)) = params_at(rest) else {
-        return Err(TextErr::Syntax { line });
-    };
-    let (entries, rest) = entries_at(alloc, rest, line + 1)?;
-    end_at(rest, line + 2 + entries.len() as u64)?;
-    Ok(RawTrace {
-        image,
-        params,
-        entries,
-    })
+    let (lines, rest) = front_at(alloc, b"ALEWIFE TRACE 1\n", text)?;
+    end_at(rest, last_line(&lines))?;
+    Ok(lines)
 }
 
 // The entries behind their number, in a line of this number and those behind it, and what follows them.
-fn entries_at(alloc: Global, text: &[u8], first: u64) -> Result<(Vec<RawEntry>, &[u8]), TextErr>
+pub fn entries_at(alloc: Global, text: &[u8], first: u64) -> Result<(Vec<RawEntry>, &[u8]), TextErr>
     requires { first ≤ 2 ^ 60 }
     ensures ok { IfOk result (λ read. AreEntriesRead text.now (map entry_of read.0.items) read.1.now) }
     ensures err { IfErr result (IsSyntax (IsFaultInList IsEntry entry_line (codes "entries") first text.now)) }

@@ -1,27 +1,28 @@
 ghost use Rattle.std.specs.Prelude.{◌≡◌, ◌++◌, IfOk, OnOk};
-ghost use Rattle.alw_image.specs.Images.{spelling};
-ghost use Rattle.alw_trace.specs.Texts.{trace_title, claim_title, image_text, lists_text, trace_text, claim_text};
+ghost use Rattle.alw_trace.specs.Texts.{lists_text, trace_text, claim_text};
 
-use crate::entries::put_journal;
-use crate::images::put_bytes;
+use crate::fronts::{put_front, put_image};
 use crate::values::{Claim, Trace};
-use alw_image::{Image, write_image};
 use alw_msg::stretches;
 use alw_num::NoMemory;
-use alw_report::{put_memory, put_params, put_prints, put_runs};
+use alw_report::{put_memory, put_prints, put_runs};
 use alw_text::Text;
 use std::alloc::Global;
 
 /// The one text of a trace.
-#[tactic(auto, unfolding(crate::specs::Texts::trace_text, crate::specs::Texts::trace_title))]
+#[tactic(auto, unfolding(crate::specs::Texts::trace_text, crate::specs::Texts::trace_title, crate::specs::Fronts::front_text))]
 pub fn write_trace(alloc: Global, trace: &Trace) -> Result<Text, NoMemory>
     ensures { IfOk result (λ text. text ≡ trace_text trace.now) }
 {
     let mut text = Text::empty(alloc);
     text.put(b"ALEWIFE TRACE 1\n")?;
-    put_image(alloc, &mut text, &trace.image)?;
-    put_params(&mut text, &trace.params)?;
-    put_journal(&mut text, &trace.journal)?;
+    put_front(
+        alloc,
+        &mut text,
+        &trace.image,
+        &trace.params,
+        &trace.journal,
+    )?;
     text.put(b"end\n")?;
     Ok(text)
 }
@@ -51,12 +52,4 @@ fn put_lists(alloc: Global, text: &mut Text, claim: &Claim) -> Result<(), NoMemo
     put_prints(text, &claim.prints)?;
     put_memory(text, &claim.memory)?;
     Ok(())
-}
-
-// The bytes of an image.
-fn put_image(alloc: Global, text: &mut Text, image: &Image) -> Result<(), NoMemory>
-    ensures { OnOk result (text.new ≡ text.old ++ image_text (spelling image.now)) }
-{
-    let bytes = write_image(alloc, image)?;
-    put_bytes(text, bytes.bytes())
 }
