@@ -1,0 +1,23 @@
+use Rattle.std.proofs.Common.{◌≡◌, ◌<◌, ℕ, sym, ap, ◌∙◌, arith}
+use Rattle.alw_ready.specs.Rows.{row_count}
+use Rattle.alw_cells.specs.Cells.{Cell}
+use Rattle.alw_cells.proofs.Choosing.{IsRow, row_counts, picks_none, picks_evicted, picks_nth}
+use Rattle.alw_cells.proofs.cells.NodeCell.pick.Goals as goal
+
+pub returns-then-count-eq0 : goal.returns-then-count-eq0
+returns-then-count-eq0 c =
+    let is : IsRow c.args.self.now c.row-row.result = record { in_time = c.row-row.ensures.in_time; instr = c.row-row.ensures.instr; handle = c.row-row.ensures.handle; senders = c.row-row.ensures.senders } in
+    sym (picks_none c.args.self.now c.args.number (sym (row_counts c.args.self.now c.row-row.result is) ∙ (sym c.count.ensures ∙ (sym c.from-count.ensures ∙ c.if-count-eq0.true))))
+
+pub returns-in-Some : goal.returns-in-Some
+returns-in-Some c =
+    let is : IsRow c.args.self.now c.row-row.result = record { in_time = c.row-row.ensures.in_time; instr = c.row-row.ensures.instr; handle = c.row-row.ensures.handle; senders = c.row-row.ensures.senders } in
+    let some : 0 < row_count c.row-row.result = omega arith in
+    sym (picks_evicted c.args.self.now c.row-row.result c.args.number c.in-Some.eviction is some (sym c.asked_eviction.ensures ∙ c.in-Some.is))
+
+pub returns : goal.returns
+returns c =
+    let is : IsRow c.args.self.now c.row-row.result = record { in_time = c.row-row.ensures.in_time; instr = c.row-row.ensures.instr; handle = c.row-row.ensures.handle; senders = c.row-row.ensures.senders } in
+    let some : 0 < c.from-count.result = omega arith in
+    sym (picks_nth c.args.self.now c.row-row.result c.args.number c.number.result.0 c.from-count.result c.nth.result is (c.number.ensures.number ∙ ap (λ (v : Cell). v.node.number) c.self.view_is)
+    (c.from-count.ensures ∙ c.count.ensures) some (λ asked e. c.in_default.not-Some asked (c.asked_eviction.ensures ∙ e)) c.nth.ensures)

@@ -1,0 +1,22 @@
+-- What a cell keeps beside what contracts see: the senders with something in their in lists, and room for what an event sends.
+use Rattle.std.specs.Prelude.{◌≡◌, ℕ, ◌≤◌, List, length}
+use Rattle.alw_num.specs.NodeSets.{has_node, nodes_of}
+use Rattle.alw_num.specs.declared.node_sets.NodeSet.{NodeSet}
+use Rattle.alw_num.specs.declared.node_sets.TheConstants.{MOST_NODES}
+use Rattle.alw_msg.specs.declared.messages.Msg.{Msg}
+use Rattle.alw_msg.specs.Lists.{is_nonempty}
+use Rattle.alw_msg.specs.Sending.{Sending}
+use Rattle.alw_image.specs.Images.{node_count}
+use Rattle.alw_model.specs.Threads.{Logged}
+use Rattle.alw_node.specs.Nodes.{Whole}
+use Rattle.alw_cells.specs.Cells.{IsReplayed, in_from}
+
+-- the set has the nodes with something in their in lists
+abbrev pub AreSenders : List (List Msg) → NodeSet → Type 0
+AreSenders come senders = (from : ℕ) → has_node (nodes_of senders) from ≡ is_nonempty (in_from come from)
+
+pub record IsKept (node : Whole) (log : List Logged) (come : List (List Msg)) (senders : NodeSet) (pending : List (ℕ × Msg)) (sent : Sending) : Type 0 where
+  pub replayed : IsReplayed node log come pending
+  pub sent_by : AreSenders come senders
+  pub room : sent.room ≡ node_count node.parts
+  pub few : length come ≤ MOST_NODES

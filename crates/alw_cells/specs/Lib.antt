@@ -1,0 +1,5 @@
+pub mod Logs
+pub mod Cells
+pub mod Choice
+pub mod Records
+pub mod Keeping

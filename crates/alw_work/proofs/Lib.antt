@@ -1,0 +1,3 @@
+pub mod Trapping
+pub mod Finishing
+pub mod Leaving

@@ -1,0 +1,5 @@
+-- The type of the locks names this image and these parameters.
+use Rattle.alw_work.proofs.runs.run_workers.Given as goal
+
+abbrev pub ghosts-run_named : goal.ghosts-run_named
+ghosts-run_named g a = record { image = a.image.now; parameters = a.params.now }

@@ -1,0 +1,14 @@
+/// What a worker passes before each locked step. A gate may hold a worker back, so that a test can say
+/// which worker goes on first.
+pub trait Gate: Sync {
+    /// Worker number `worker` is about to step node `node`.
+    fn pass(&self, worker: u32, node: u32);
+}
+
+/// The gate that holds nobody back.
+#[derive(Clone, Copy, Debug)]
+pub struct OpenGate;
+
+impl Gate for OpenGate {
+    fn pass(&self, _worker: u32, _node: u32) {}
+}

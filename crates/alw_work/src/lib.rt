@@ -1,0 +1,17 @@
+//! Workers: threads that step the nodes of a machine, each node behind a lock of its own, and the logs
+//! that they leave.
+#![tactic(auto)]
+
+mod cells;
+mod gates;
+mod rings;
+mod runs;
+mod seats;
+mod signs;
+mod workers;
+
+pub use gates::{Gate, OpenGate};
+pub use runs::run_workers;
+
+#[cfg(test)]
+mod tests;

@@ -1,0 +1,100 @@
+use crate::{Gate, OpenGate, run_workers};
+use alw_cells::{Logs, links_agree};
+use alw_image::{Bodies, Code, Image, LineList, Params, Parts, Starts};
+use alw_num::NodeNo;
+use std::alloc::Global;
+use std::sync::atomic::{AtomicBool, Ordering};
+use std::test::Fail;
+use std::thread;
+
+// A context stores 0 to the first address of shared data, loads from it, and prints what it loaded.
+const STORE_LOAD_PRINT: [u32; 5] = [
+    0x0310_0000,
+    0xd220_4000,
+    0xd000_4000,
+    0x91d0_2001,
+    0x91d0_2000,
+];
+
+// A gate that holds worker 0 in its first pass until worker 1 has passed, or for so many tries.
+#[derive(Drop)]
+struct HoldingGate {
+    has_held: AtomicBool,
+    has_passed: AtomicBool,
+    was_passed: AtomicBool,
+}
+
+impl Gate for HoldingGate {
+    fn pass(&self, worker: u32, _node: u32) {
+        if worker == 1 {
+            self.has_passed.store(true, Ordering::SeqCst);
+        }
+        if worker != 0 || self.has_held.swap(true, Ordering::SeqCst) {
+            return;
+        }
+        for _ in 0..1_000_000 {
+            if self.has_passed.load(Ordering::SeqCst) {
+                self.was_passed.store(true, Ordering::SeqCst);
+                return;
+            }
+            thread::yield_now();
+        }
+    }
+}
+
+// Each node stores to one line, loads from it and prints.
+fn writers(alloc: Global, width: u8, height: u8) -> Result<Image, Fail> {
+    let code = Code::from_slice(alloc, &STORE_LOAD_PRINT)?;
+    let mut starts = Starts::empty(alloc);
+    for node in 0..u16::from(width.min(16)) * u16::from(height.min(16)) {
+        if starts.len() < 256 {
+            starts.push((NodeNo(node), 0, 0))?;
+        }
+    }
+    let parts = Parts {
+        width,
+        height,
+        contexts: 1,
+        per_node: 1,
+        code,
+        bodies: Bodies::empty(alloc),
+        starts,
+        always: LineList::empty(alloc),
+    };
+    Ok(Image::from_parts(parts).ok_or("no image")?)
+}
+
+// How many events the nodes logged, where there are few.
+fn count_events(logs: &Logs) -> u32 {
+    let mut count = 0u32;
+    for n in 0..logs.len() {
+        count = count.wrapping_add(logs.at_ref(n).len());
+    }
+    count
+}
+
+#[test]
+fn two_workers_run_at_once(rt: HostRuntime) -> Result<(), Fail> {
+    let image = writers(rt.alloc(), 2, 1)?;
+    let params = Params::new(4, 64, 100, 0).ok_or("no parameters")?;
+    let gate = HoldingGate {
+        has_held: AtomicBool::new(false),
+        has_passed: AtomicBool::new(false),
+        was_passed: AtomicBool::new(false),
+    };
+    let logs = run_workers(&rt, rt.alloc(), &image, &params, 2, &gate)?;
+    assert!(rt; gate.was_passed.load(Ordering::SeqCst));
+    assert!(rt; links_agree(&logs));
+    Ok(())
+}
+
+#[test]
+fn four_workers_step_four_nodes(rt: HostRuntime) -> Result<(), Fail> {
+    let image = writers(rt.alloc(), 2, 2)?;
+    let params = Params::new(4, 64, 1000, 16).ok_or("no parameters")?;
+    let logs = run_workers(&rt, rt.alloc(), &image, &params, 4, &OpenGate)?;
+    assert_eq!(rt; logs.len(), 4);
+    assert!(rt; links_agree(&logs));
+    assert!(rt; count_events(&logs) > 20);
+    Ok(())
+}
