@@ -1,1 +1,4 @@
-mod Fronts
+pub mod Fronts
+pub mod Kept
+pub mod Whole
+pub mod Sorting

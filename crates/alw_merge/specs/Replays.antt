@@ -1,5 +1,5 @@
 -- The longest legal front of some entries, and the machine after it.
-use Rattle.std.specs.Prelude.{◌≡◌, ℕ, ◌<◌, ◌≤◌, Bool, true, false, Result, Ok, Err, List, [], ◌∷◌, length, take, if◌then◌else◌}
+use Rattle.std.specs.Prelude.{◌≡◌, ℕ, suc, ◌<◌, ◌≤◌, Bool, true, false, Result, Ok, Err, List, [], ◌∷◌, length, take, if◌then◌else◌}
 use Rattle.alw_msg.specs.declared.events.Entry.{Entry}
 use Rattle.alw_image.specs.declared.parts.Parts.{Parts}
 use Rattle.alw_image.specs.Parameters.{Parameters}
@@ -23,6 +23,12 @@ Replays image parameters entries (Ok replayed) = IsReplayed image parameters ent
 Replays image parameters entries (Err (fits.DoesNotFit number most)) =
     (MOST_STEPS < number) × (number ≡ stamps_of image parameters) × (most ≡ MOST_STEPS)
 Replays image parameters entries (Err fits.NoMemory) = stamps_of image parameters ≤ MOST_STEPS
+
+-- an entry is the first that isn't legal
+pub record IsFirstIllegal (image : Parts) (parameters : Parameters) (entries : List Entry) (k : ℕ) : Type 0 where
+  pub exists : k < length entries
+  pub before : IsLegal image parameters (take k entries)
+  pub here : IsLegal image parameters (take (suc k) entries) → ⊥
 
 -- ---- entry by entry
 

@@ -42,9 +42,10 @@ fn take_all(machine: &mut Machine, entries: &[Entry]) -> Result<(), NoMemory>
     Ok(())
 }
 
-// Takes an entry where it is the next one, and tells whether it is.
-fn take(machine: &mut Machine, entry: Entry) -> Result<bool, NoMemory>
-    ensures { IfOk result (λ taken. Takes machine.old entry machine.new taken) }
+/// Takes an entry where it is the next one, and tells whether it is.
+pub fn take(machine: &mut Machine, entry: Entry) -> Result<bool, NoMemory>
+    ensures taken { IfOk result (λ taken. Takes machine.old entry machine.new taken) }
+    ensures err { OnErr result (machine.new ≡ machine.old) }
 {
     if !machine.may(entry.event) || machine.stamp(entry.event) != entry.stamp {
         return Ok(false);
