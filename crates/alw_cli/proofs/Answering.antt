@@ -18,26 +18,26 @@ taken true input input' bytes read = record { taken = bytes; read = read.0; few 
 taken false input input' bytes read = read.0
 
 -- what was performed is an answer
-pub answers_by : (words : List (List ℕ)) (input input' out out' : Stream) (c : Cause) (journal : List Entry) →
-    Performed words input input' out out' c journal → Answers words input input' out out' c journal
-answers_by words input input' out out' cause.Fine journal p = p
-answers_by words input input' out out' (cause.Trapped at) journal p = p
-answers_by words input input' out out' (cause.Limit event) journal p = p
-answers_by words input input' out out' cause.WriteFault journal p = p
-answers_by words input input' out out' (cause.Differs place claimed real) journal p = p
-answers_by words input input' out out' (cause.Input (reason.Asm fault)) journal p = p
-answers_by words input input' out out' (cause.Input (reason.Image fault)) journal p = p
-answers_by words input input' out out' (cause.Input (reason.Text fault)) journal p = p
-answers_by words input input' out out' (cause.Input (reason.NotLegal k)) journal p = p
-answers_by words input input' out out' (cause.Input reason.Unfinished) journal p = p
-answers_by words input input' out out' (cause.Input (reason.LimitDoesNotFit number most)) journal p = p
-answers_by words input input' out out' cause.NoMemory journal p =
+pub answers_by : (words : List (List ℕ)) (input input' out out' : Stream) (c : Cause) (journal : List Entry) (merged : ℕ) →
+    Performed words input input' out out' c journal merged → Answers words input input' out out' c journal merged
+answers_by words input input' out out' cause.Fine journal merged p = p
+answers_by words input input' out out' (cause.Trapped at) journal merged p = p
+answers_by words input input' out out' (cause.Limit event) journal merged p = p
+answers_by words input input' out out' cause.WriteFault journal merged p = p
+answers_by words input input' out out' (cause.Differs place claimed real) journal merged p = p
+answers_by words input input' out out' (cause.Input (reason.Asm fault)) journal merged p = p
+answers_by words input input' out out' (cause.Input (reason.Image fault)) journal merged p = p
+answers_by words input input' out out' (cause.Input (reason.Text fault)) journal merged p = p
+answers_by words input input' out out' (cause.Input (reason.NotLegal k)) journal merged p = p
+answers_by words input input' out out' (cause.Input reason.Unfinished) journal merged p = p
+answers_by words input input' out out' (cause.Input (reason.LimitDoesNotFit number most)) journal merged p = p
+answers_by words input input' out out' cause.NoMemory journal merged p =
     let wanting = (each_kept p.command).wanting p.bytes out out' journal p.answer in
-    (record { command = p.command; asked = p.asked; holds = taken (task_of p.command).reads input input' p.bytes p.read }, wanting.0, wanting.1)
-answers_by words input input' out out' (cause.Words e) journal p = absurd ((each_kept p.command).inside p.bytes out out' (cause.Words e) journal tt p.answer)
-answers_by words input input' out out' (cause.Input reason.TooLong) journal p =
+    (record { command = p.command; asked = p.asked; holds = taken (task_of p.command).reads input input' p.bytes p.read }, wanting.0, (each_kept p.command).wants p.bytes journal merged p.merges, wanting.1)
+answers_by words input input' out out' (cause.Words e) journal merged p = absurd ((each_kept p.command).inside p.bytes out out' (cause.Words e) journal tt p.answer)
+answers_by words input input' out out' (cause.Input reason.TooLong) journal merged p =
     absurd ((each_kept p.command).inside p.bytes out out' (cause.Input reason.TooLong) journal tt p.answer)
-answers_by words input input' out out' cause.ReadFault journal p = absurd ((each_kept p.command).inside p.bytes out out' cause.ReadFault journal tt p.answer)
+answers_by words input input' out out' cause.ReadFault journal merged p = absurd ((each_kept p.command).inside p.bytes out out' cause.ReadFault journal tt p.answer)
 
 -- what was read is the whole rest of the source
 pub reads_all : (before after : Option (List ℕ)) (faults faults' : ℕ) (bytes taken : List ℕ) → bytes ≡ taken → Took MOST_INPUT before after (Ok taken) →

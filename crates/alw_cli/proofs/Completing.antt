@@ -34,9 +34,9 @@ same_bytes : (reads : Bool) (input input' : Stream) (bytes given : List ℕ) →
 same_bytes true input input' bytes given known read = whole input.known input'.known given bytes known.0 read.0 read.1
 same_bytes false input input' bytes given none read = read.1 ∙ sym none
 
-performed_so : (words : List (List ℕ)) (input input' out out' : Stream) (c : Cause) (journal : List Entry) →
-    Performed words input input' out out' c journal → IsComplete words input input' out out' c
-performed_so words input input' out out' c journal p = λ command bytes asked given accepted quiet quiet_out.
+performed_so : (words : List (List ℕ)) (input input' out out' : Stream) (c : Cause) (journal : List Entry) (merged : ℕ) →
+    Performed words input input' out out' c journal merged → IsComplete words input input' out out' c
+performed_so words input input' out out' c journal merged p = λ command bytes asked given accepted quiet quiet_out.
     let same : p.command ≡ command = one_command words p.command command p.asked asked in
     let read : IsRead (task_of command).reads input input' p.bytes = subst (λ (k : Command). IsRead (task_of k).reads input input' p.bytes) same p.read in
     let all : p.bytes ≡ bytes = same_bytes (task_of command).reads input input' p.bytes bytes given read in
@@ -54,12 +54,12 @@ too_long words input input' command bytes asked given reading took =
     longer input.known input'.known bytes took.taken known.0 took.read (let many = took.many in omega (arith, known.1))
 
 -- every answer is complete
-pub completes : (words : List (List ℕ)) (input input' out out' : Stream) (c : Cause) (journal : List Entry) →
-    Answers words input input' out out' c journal → IsComplete words input input' out out' c
-completes words input input' out out' (cause.Words e) journal answer = λ command bytes asked given accepted quiet quiet_out.
+pub completes : (words : List (List ℕ)) (input input' out out' : Stream) (c : Cause) (journal : List Entry) (merged : ℕ) →
+    Answers words input input' out out' c journal merged → IsComplete words input input' out out' c
+completes words input input' out out' (cause.Words e) journal merged answer = λ command bytes asked given accepted quiet quiet_out.
     absurd (not_both words e.at command answer.0 asked)
-completes words input input' out out' (cause.Input reason.TooLong) journal answer = λ command bytes asked given accepted quiet quiet_out.
-    absurd (too_long words input input' command bytes asked given answer.0 answer.2)
-completes words input input' out out' cause.ReadFault journal answer = λ command bytes asked given accepted quiet quiet_out. absurd (quiet answer.3)
-completes words input input' out out' cause.NoMemory journal answer = λ command bytes asked given accepted quiet quiet_out. inr refl
-completes words input input' out out' c journal answer = performed_so words input input' out out' c journal answer
+completes words input input' out out' (cause.Input reason.TooLong) journal merged answer = λ command bytes asked given accepted quiet quiet_out.
+    absurd (too_long words input input' command bytes asked given answer.0 answer.3)
+completes words input input' out out' cause.ReadFault journal merged answer = λ command bytes asked given accepted quiet quiet_out. absurd (quiet answer.4)
+completes words input input' out out' cause.NoMemory journal merged answer = λ command bytes asked given accepted quiet quiet_out. inr refl
+completes words input input' out out' c journal merged answer = performed_so words input input' out out' c journal merged answer

@@ -18,6 +18,7 @@ use Rattle.alw_audit.specs.declared.verdicts.Verdict.{Verdict}
 use Rattle.alw_audit.specs.declared.verdicts.Verdict.TheVariants as verdict
 use Rattle.alw_audit.specs.Verdicts.{verdict_of, IsSound}
 use Rattle.alw_config.specs.declared.commands.Form.{Form}
+use Rattle.alw_config.specs.declared.commands.Form.TheVariants.{Report}
 use Rattle.alw_cli.specs.declared.answers.Cause.{Cause}
 use Rattle.alw_cli.specs.declared.answers.Cause.TheVariants as cause
 use Rattle.alw_cli.specs.declared.answers.InputErr.TheVariants as reason
@@ -25,9 +26,11 @@ use Rattle.alw_cli.specs.declared.runs.Run.{Run}
 use Rattle.alw_cli.specs.Statuses.{cause_of}
 use Rattle.alw_cli.specs.Streams.{Stream, Stays, Gained, GainedPart}
 use Rattle.alw_cli.specs.Endings.{Telling, AnswersEnd}
-use Rattle.alw_cli.specs.Runs.{IsMade, IsRunBy, IsRunAgain, RanAgain, IsWritten}
+use Rattle.alw_cli.specs.Runs.{IsMade, IsRunBy, IsRunAgain, RanAgain, IsWrittenBy, IsWritten}
 use Rattle.alw_cli.specs.Running.{IsTold, Runs, RunAnswer}
 use Rattle.alw_cli.specs.Replaying.{Spells, Replays, ReplayAnswer}
+use Rattle.alw_cli.specs.declared.routing.Routed.{Routed}
+use Rattle.alw_cli.specs.Routing.{Routes, RouteAnswer, IsRouted}
 use Rattle.alw_cli.specs.Auditing.{SpellsClaim, AuditAnswer, verdict_text, cause_of_verdict}
 
 -- a stream that nothing is done to
@@ -119,6 +122,24 @@ module _ (form : Form) (bytes : List ℕ) (trace : Trace) (spells : Spells bytes
   replay_refused (cause.Input reason.Unfinished) why = (record { trace = trace; spelled = spells; holds = why }, none, stays)
   replay_refused cause.NoMemory why = (none, stays)
   replay_refused _ why = absurd why
+
+-- ---- route
+
+module _ (bytes : List ℕ) (trace : Trace) (spells : Spells bytes trace) where
+  module _ (routed : Routed) (is : IsRouted trace routed) (out out' : Stream) where
+    routes : (Written : List ℕ → Type 0) → Written routed.text → Routes bytes routed.journal Written
+    routes Written written = record { trace = trace; spelled = spells; same = is.same; finished = is.finished; text = subst Written is.text written }
+
+    pub route_answer : (c : Cause) → IsWrittenBy cause.Fine routed.text out out' c → RouteAnswer bytes out out' c routed.journal
+    route_answer c (inl written) = subst (λ (x : Cause). RouteAnswer bytes out out' x routed.journal) (sym written.0) (routes (Gained out out') written.1)
+    route_answer c (inr failed) = subst (λ (x : Cause). RouteAnswer bytes out out' x routed.journal) (sym failed.0) (routes (GainedPart out out') failed.1)
+
+  -- a trace is refused as a replay of it is
+  pub route_refused : (out out' : Stream) → Stays out out' → (journal : List Entry) → journal ≡ [] → (c : Cause) → RanAgain trace Report (Err c) →
+      RouteAnswer bytes out out' c journal
+  route_refused out out' stays journal none (cause.Input fault) why = replay_refused Report bytes trace spells out out' stays journal none (cause.Input fault) why
+  route_refused out out' stays journal none cause.NoMemory why = (none, stays)
+  route_refused out out' stays journal none _ why = absurd why
 
 -- ---- audit
 

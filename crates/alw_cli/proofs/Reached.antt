@@ -1,6 +1,6 @@
 -- A run that was made: a machine at an end, which a seed has taken there from the start of an image, or which took the entries of a trace.
 use Rattle.std.proofs.Common.{◌≡◌, ℕ, zero, suc, ◌<◌, ◌≤◌, List, length, take, sym, ap, subst, ◌∙◌, arith}
-use Rattle.std.specs.Prelude.{None, Err}
+use Rattle.std.specs.Prelude.{None, Ok, Err}
 use Rattle.std.proofs.lemmas.List.{take_all}
 use Rattle.alw_msg.specs.declared.events.Entry.{Entry}
 use Rattle.alw_image.specs.declared.parts.Parts.{Parts}
@@ -27,10 +27,15 @@ use Rattle.alw_trace.specs.Texts.{trace_text, claim_text}
 use Rattle.alw_trace.specs.declared.values.Trace.{Trace}
 use Rattle.alw_config.specs.declared.commands.Form.{Form}
 use Rattle.alw_config.specs.declared.commands.Form.TheVariants as forms
+use Rattle.alw_cli.specs.declared.answers.Cause.{Cause}
+use Rattle.alw_cli.specs.declared.answers.Cause.TheVariants as cause
+use Rattle.alw_cli.specs.declared.answers.InputErr.TheVariants as reason
 use Rattle.alw_cli.specs.Statuses.{cause_of_fit}
 use Rattle.alw_cli.specs.declared.runs.Run.{Run}
 use Rattle.alw_cli.specs.Forms.{run_text}
-use Rattle.alw_cli.specs.Runs.{IsFit, IsMade, IsRunBy, IsRunAgain, IsFirstIllegal, IsUnfinished, RanAgain, IsToldOf}
+use Rattle.alw_cli.specs.Replaying.{IsFinishedTrace}
+use Rattle.alw_cli.proofs.NoEvict.{some_end}
+use Rattle.alw_cli.specs.Runs.{IsFit, IsMade, IsRunBy, IsRunAgain, IsFirstIllegal, IsUnfinished, RanAgain, EndsTrace, IsToldOf}
 
 -- the run of a machine at an end
 made : (h : History) (e : Ended) (form : Form) (run : Run) → IsRun h → IsEnd h.image h.parameters h.journal e → IsToldOf h e form run → IsMade h.image h.parameters form run
@@ -57,14 +62,29 @@ run_by image params seed before after e form run started finished told =
 -- ---- from a trace
 
 pub run_again : (trace : Trace) (after : History) (kept : ℕ) (e : Ended) (form : Form) (run : Run) → IsReplayed trace.image trace.params trace.journal after kept →
-    length trace.journal ≤ kept → IsEnd after.image after.parameters after.journal e → IsToldOf after e form run → IsRunAgain trace form run
-run_again trace after kept e form run replayed all end told = record {
-  made = subst (λ (h : History). IsMade h.image h.parameters form run) replayed.is (made after e form run replayed.run end told);
-  same = told.journal ∙ ap (λ (h : History). h.journal) replayed.is ∙ take_all kept trace.journal all;
+    EndsTrace trace after (Ok e) → IsToldOf after e form run → IsRunAgain trace form run
+run_again trace after kept e form run replayed ends told = record {
+  made = subst (λ (h : History). IsMade h.image h.parameters form run) replayed.is (made after e form run replayed.run ends.1 told);
+  same = told.journal ∙ ap (λ (h : History). h.journal) ends.0;
 }
 
 fits_so : (trace : Trace) (after : History) (kept : ℕ) → IsReplayed trace.image trace.params trace.journal after kept → IsFit trace
 fits_so trace after kept replayed = subst (λ (h : History). stamps_of h.image h.parameters ≤ MOST_STEPS) replayed.is replayed.run.fits
+
+-- and so it is a finished trace
+pub finished : (trace : Trace) (after : History) (kept : ℕ) (e : Ended) → IsReplayed trace.image trace.params trace.journal after kept →
+    EndsTrace trace after (Ok e) → IsFinishedTrace trace
+finished trace after kept e replayed ends = record {
+  fits = fits_so trace after kept replayed;
+  legal = subst (λ (h : History). IsLegal h.image h.parameters h.journal) ends.0 replayed.run.legal;
+  ended = some_end trace.image trace.params trace.journal e (subst (λ (h : History). IsEnd h.image h.parameters h.journal e) ends.0 ends.1);
+}
+
+-- why there is none
+pub no_end : (trace : Trace) (after : History) (form : Form) (c : Cause) → EndsTrace trace after (Err c) → RanAgain trace form (Err c)
+no_end trace after form (cause.Input (reason.NotLegal k)) why = why
+no_end trace after form (cause.Input reason.Unfinished) why = why
+no_end trace after form _ why = absurd why
 
 -- all its entries are legal
 pub all_legal : (trace : Trace) (after : History) (kept : ℕ) → IsReplayed trace.image trace.params trace.journal after kept → length trace.journal ≤ kept →

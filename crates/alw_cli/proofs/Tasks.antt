@@ -17,6 +17,7 @@ use Rattle.alw_audit.specs.declared.verdicts.Verdict.TheVariants as verdict
 use Rattle.alw_audit.specs.Verdicts.{IsSound}
 use Rattle.alw_config.specs.declared.commands.AsmForm.{AsmForm}
 use Rattle.alw_config.specs.declared.commands.Form.{Form}
+use Rattle.alw_config.specs.declared.commands.Form.TheVariants.{Report}
 use Rattle.alw_config.specs.declared.commands.Command.{Command}
 use Rattle.alw_config.specs.declared.commands.Command.TheVariants as commands
 use Rattle.alw_cli.specs.declared.answers.Cause.{Cause}
@@ -29,6 +30,7 @@ use Rattle.alw_cli.specs.Running.{seed_of, RunAnswer, run_task}
 use Rattle.alw_cli.specs.Replaying.{Spells, ReplayAnswer, IsFinishedTrace, IsFinishedText, replay_task}
 use Rattle.alw_cli.specs.Auditing.{SpellsClaim, AuditAnswer, IsSoundText, audit_task}
 use Rattle.alw_cli.specs.Making.{Asked, GenAnswer, gen_task}
+use Rattle.alw_cli.specs.Routing.{RouteAnswer, route_task}
 use Rattle.alw_cli.specs.Answers.{task_of}
 
 -- causes that no command has
@@ -43,6 +45,7 @@ IsOutside _ = ⊥
 pub record IsKept (t : Task) : Type 0 where
   pub inside : (bytes : List ℕ) (out out' : Stream) (c : Cause) (journal : List Entry) → IsOutside c → t.Answers bytes out out' c journal → ⊥
   pub wanting : (bytes : List ℕ) (out out' : Stream) (journal : List Entry) → t.Answers bytes out out' cause.NoMemory journal → (journal ≡ []) × Stays out out'
+  pub wants : (bytes : List ℕ) (journal : List Entry) (merged : ℕ) → t.Merges bytes cause.NoMemory journal merged → merged ≡ 0
   pub complete : (bytes : List ℕ) (out out' : Stream) (c : Cause) (journal : List Entry) → t.Answers bytes out out' c journal → t.Accepts bytes →
       HadNoFault out out' → IsTrue (t.is_done c) ⊎ (c ≡ cause.NoMemory)
 
@@ -67,6 +70,7 @@ asm_kept : (form : AsmForm) → IsKept (asm_task form)
 asm_kept form = record {
   inside = λ bytes out out' c journal outside answer. asm_inside form bytes out out' journal c outside answer;
   wanting = λ bytes out out' journal answer. answer;
+  wants = λ bytes journal merged merges. merges;
   complete = λ bytes out out' c journal answer accepted quiet. asm_complete form bytes out out' journal c answer accepted quiet;
 }
 
@@ -94,6 +98,7 @@ run_kept : (seed : ℕ) (params : Parameters) (form : Form) → IsKept (run_task
 run_kept seed params form = record {
   inside = λ bytes out out' c journal outside answer. run_inside seed params form bytes out out' journal c outside answer;
   wanting = λ bytes out out' journal answer. answer;
+  wants = λ bytes journal merged merges. merges;
   complete = λ bytes out out' c journal answer accepted quiet. run_complete seed params form bytes out out' journal c answer accepted quiet;
 }
 
@@ -150,6 +155,7 @@ replay_kept : (form : Form) → IsKept (replay_task form)
 replay_kept form = record {
   inside = λ bytes out out' c journal outside answer. replay_inside form bytes out out' journal c outside answer;
   wanting = λ bytes out out' journal answer. answer;
+  wants = λ bytes journal merged merges. merges;
   complete = λ bytes out out' c journal answer accepted quiet. replay_complete form bytes out out' journal c answer accepted quiet;
 }
 
@@ -180,6 +186,7 @@ audit_kept : IsKept audit_task
 audit_kept = record {
   inside = λ bytes out out' c journal outside answer. audit_inside bytes out out' journal c outside answer;
   wanting = λ bytes out out' journal answer. answer;
+  wants = λ bytes journal merged merges. merges;
   complete = λ bytes out out' c journal answer accepted quiet. audit_complete bytes out out' journal c answer accepted quiet;
 }
 
@@ -202,7 +209,34 @@ gen_kept : (asked : Asked) → IsKept (gen_task asked)
 gen_kept asked = record {
   inside = λ bytes out out' c journal outside answer. gen_inside asked out out' journal c outside answer;
   wanting = λ bytes out out' journal answer. answer;
+  wants = λ bytes journal merged merges. merges;
   complete = λ bytes out out' c journal answer accepted quiet. gen_complete asked out out' journal c answer quiet;
+}
+
+-- ---- route
+
+module _ (bytes : List ℕ) (out out' : Stream) (journal : List Entry) where
+  route_inside : (c : Cause) → IsOutside c → RouteAnswer bytes out out' c journal → ⊥
+  route_inside (cause.Words e) outside answer = answer
+  route_inside (cause.Input reason.TooLong) outside answer = answer
+  route_inside cause.ReadFault outside answer = answer
+  route_inside _ outside answer = outside
+
+  route_complete : (c : Cause) → RouteAnswer bytes out out' c journal → route_task.Accepts bytes → HadNoFault out out' →
+      IsTrue (route_task.is_done c) ⊎ (c ≡ cause.NoMemory)
+  route_complete cause.Fine answer accepted quiet = inl refl
+  route_complete cause.NoMemory answer accepted quiet = inr refl
+  route_complete cause.WriteFault answer accepted quiet = absurd (quiet answer.text.1)
+  route_complete (cause.Input fault) answer accepted quiet =
+      replay_complete Report bytes out out' journal (cause.Input fault) answer accepted quiet
+  route_complete _ answer accepted quiet = absurd answer
+
+route_kept : IsKept route_task
+route_kept = record {
+  inside = λ bytes out out' c journal outside answer. route_inside bytes out out' journal c outside answer;
+  wanting = λ bytes out out' journal answer. answer;
+  wants = λ bytes journal merged merges. merges;
+  complete = λ bytes out out' c journal answer accepted quiet. route_complete bytes out out' journal c answer accepted quiet;
 }
 
 -- ---- each command
@@ -213,3 +247,4 @@ each_kept (commands.Run how params form) = run_kept (seed_of how) params form
 each_kept (commands.Replay form) = replay_kept form
 each_kept commands.Audit = audit_kept
 each_kept (commands.Gen seed width height size) = gen_kept (record { seed = seed; width = width; height = height; size = size })
+each_kept (commands.Route seed) = route_kept

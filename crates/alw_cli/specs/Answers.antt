@@ -16,6 +16,7 @@ use Rattle.alw_cli.specs.Running.{seed_of, run_task}
 use Rattle.alw_cli.specs.Replaying.{replay_task}
 use Rattle.alw_cli.specs.Auditing.{audit_task}
 use Rattle.alw_cli.specs.Making.{gen_task}
+use Rattle.alw_cli.specs.Routing.{route_task}
 use Rattle.alw_cli.specs.Texts.{err_line}
 
 -- ---- the answers
@@ -27,14 +28,16 @@ task_of (commands.Run how params form) = run_task (seed_of how) params form
 task_of (commands.Replay form) = replay_task form
 task_of commands.Audit = audit_task
 task_of (commands.Gen seed width height size) = gen_task (record { seed = seed; width = width; height = height; size = size })
+task_of (commands.Route seed) = route_task
 
 -- the words are a command, the whole input was read where it reads, and this was answered to it
-pub record Performed (words : List (List ℕ)) (input input' out out' : Stream) (cause : Cause) (journal : List Entry) : Type 0 where
+pub record Performed (words : List (List ℕ)) (input input' out out' : Stream) (cause : Cause) (journal : List Entry) (merged : ℕ) : Type 0 where
   pub command : Command
   pub asked : IsCommand words command
   pub bytes : List ℕ
   pub read : IsRead (task_of command).reads input input' bytes
   pub answer : (task_of command).Answers bytes out out' cause journal
+  pub merges : (task_of command).Merges bytes cause journal merged
 
 -- the words are a command of which this holds
 pub record Asks (words : List (List ℕ)) (Holds : Bool → Type 0) : Type 0 where
@@ -46,14 +49,16 @@ pub record Asks (words : List (List ℕ)) (Holds : Bool → Type 0) : Type 0 whe
 abbrev pub IsReading : List (List ℕ) → Type 0
 IsReading words = Asks words (λ reads. reads ≡ true)
 
--- the words, the source and the sink before and after, and what was answered: cause and journal
-abbrev pub Answers : List (List ℕ) → Stream → Stream → Stream → Stream → Cause → List Entry → Type 0
-Answers words input input' out out' (cause.Words e) journal = IsRefusedAt words e.at × (journal ≡ []) × Stays input input' × Stays out out'
-Answers words input input' out out' (cause.Input reason.TooLong) journal = IsReading words × (journal ≡ []) × TookTooMany input input' × Stays out out'
-Answers words input input' out out' cause.ReadFault journal =
-    IsReading words × (journal ≡ []) × TookSome input input' × Rose input.faults input'.faults × Stays out out'
-Answers words input input' out out' cause.NoMemory journal = Asks words (λ reads. IsTaken reads input input') × (journal ≡ []) × Stays out out'
-Answers words input input' out out' cause journal = Performed words input input' out out' cause journal
+-- the words, the source and the sink before and after, and what was answered: cause, journal, and how many of its first entries come from workers
+abbrev pub Answers : List (List ℕ) → Stream → Stream → Stream → Stream → Cause → List Entry → ℕ → Type 0
+Answers words input input' out out' (cause.Words e) journal merged = IsRefusedAt words e.at × (journal ≡ []) × (merged ≡ 0) × Stays input input' × Stays out out'
+Answers words input input' out out' (cause.Input reason.TooLong) journal merged =
+    IsReading words × (journal ≡ []) × (merged ≡ 0) × TookTooMany input input' × Stays out out'
+Answers words input input' out out' cause.ReadFault journal merged =
+    IsReading words × (journal ≡ []) × (merged ≡ 0) × TookSome input input' × Rose input.faults input'.faults × Stays out out'
+Answers words input input' out out' cause.NoMemory journal merged =
+    Asks words (λ reads. IsTaken reads input input') × (journal ≡ []) × (merged ≡ 0) × Stays out out'
+Answers words input input' out out' cause journal merged = Performed words input input' out out' cause journal merged
 
 -- ---- the line on err
 

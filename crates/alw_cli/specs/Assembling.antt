@@ -12,7 +12,7 @@ use Rattle.alw_cli.specs.declared.answers.Cause.{Cause}
 use Rattle.alw_cli.specs.declared.answers.Cause.TheVariants as cause
 use Rattle.alw_cli.specs.declared.answers.InputErr.TheVariants as reason
 use Rattle.alw_cli.specs.Streams.{Stream, Stays, Gained, GainedPart}
-use Rattle.alw_cli.specs.Tasks.{Task}
+use Rattle.alw_cli.specs.Tasks.{Task, MergesNone}
 use Rattle.alw_cli.specs.Texts.{assembled_text}
 
 -- the source was assembled, to an image, and its text written
@@ -38,4 +38,4 @@ is_assembled cause.Fine = true
 is_assembled _ = false
 
 abbrev pub asm_task : AsmForm → Task
-asm_task form = record { reads = true; Answers = AsmAnswer form; Accepts = λ source. (fault : AsmErr) → assembled source ≢ Err fault; is_done = is_assembled }
+asm_task form = record { reads = true; Answers = AsmAnswer form; Merges = MergesNone; Accepts = λ source. (fault : AsmErr) → assembled source ≢ Err fault; is_done = is_assembled }

@@ -16,7 +16,7 @@ use Rattle.alw_cli.specs.declared.answers.Cause.{Cause}
 use Rattle.alw_cli.specs.declared.answers.Cause.TheVariants as cause
 use Rattle.alw_cli.specs.declared.answers.InputErr.TheVariants as reason
 use Rattle.alw_cli.specs.Streams.{Stream, Stays, Gained, GainedPart}
-use Rattle.alw_cli.specs.Tasks.{Task}
+use Rattle.alw_cli.specs.Tasks.{Task, MergesNone}
 
 -- ---- the text of a verdict
 
@@ -88,4 +88,4 @@ pub record IsSoundText (bytes : List ℕ) : Type 0 where
   pub sound : IsSound claim
 
 abbrev pub audit_task : Task
-audit_task = record { reads = true; Answers = AuditAnswer; Accepts = IsSoundText; is_done = is_sound }
+audit_task = record { reads = true; Answers = AuditAnswer; Merges = MergesNone; Accepts = IsSoundText; is_done = is_sound }

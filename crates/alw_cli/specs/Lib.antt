@@ -9,5 +9,6 @@ pub mod Runs
 pub mod Running
 pub mod Replaying
 pub mod Auditing
+pub mod Routing
 pub mod Making
 pub mod Answers

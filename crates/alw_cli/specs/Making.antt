@@ -7,7 +7,7 @@ use Rattle.alw_gen.specs.Workloads.{workload_of}
 use Rattle.alw_cli.specs.declared.answers.Cause.{Cause}
 use Rattle.alw_cli.specs.declared.answers.Cause.TheVariants as cause
 use Rattle.alw_cli.specs.Streams.{Stream, Stays, Gained, GainedPart}
-use Rattle.alw_cli.specs.Tasks.{Task}
+use Rattle.alw_cli.specs.Tasks.{Task, MergesNone}
 
 -- which workload
 pub record Asked : Type 0 where
@@ -35,4 +35,4 @@ is_made cause.Fine = true
 is_made _ = false
 
 abbrev pub gen_task : Asked → Task
-gen_task asked = record { reads = false; Answers = λ bytes. GenAnswer asked; Accepts = λ bytes. ⊤; is_done = is_made }
+gen_task asked = record { reads = false; Answers = λ bytes. GenAnswer asked; Merges = MergesNone; Accepts = λ bytes. ⊤; is_done = is_made }

@@ -24,7 +24,7 @@ use Rattle.alw_cli.specs.Streams.{Stream, Stays, Gained}
 use Rattle.alw_cli.specs.Runs.{IsFit, IsTooMuch, IsFirstIllegal, IsUnfinished}
 use Rattle.alw_cli.specs.Running.{IsTold, is_run}
 use Rattle.alw_cli.specs.Endings.{AnswersEnd}
-use Rattle.alw_cli.specs.Tasks.{Task}
+use Rattle.alw_cli.specs.Tasks.{Task, MergesNone}
 
 -- the bytes are the text of a trace, which is the only one of this text
 pub record Spells (bytes : List ℕ) (trace : Trace) : Type 0 where
@@ -91,6 +91,7 @@ abbrev pub replay_task : Form → Task
 replay_task form = record {
   reads = true;
   Answers = ReplayAnswer form;
+  Merges = MergesNone;
   Accepts = IsFinishedText;
   is_done = is_run;
 }

@@ -20,7 +20,7 @@ use Rattle.alw_cli.specs.Streams.{Stream, Stays}
 use Rattle.alw_cli.specs.Forms.{run_text}
 use Rattle.alw_cli.specs.Runs.{IsTooMuch}
 use Rattle.alw_cli.specs.Endings.{AnswersEnd}
-use Rattle.alw_cli.specs.Tasks.{Task}
+use Rattle.alw_cli.specs.Tasks.{Task, MergesNone}
 
 -- the seed of a run
 abbrev pub seed_of : How → ℕ
@@ -60,6 +60,7 @@ abbrev pub run_task : ℕ → Parameters → Form → Task
 run_task seed parameters form = record {
   reads = true;
   Answers = RunAnswer seed parameters form;
+  Merges = MergesNone;
   Accepts = λ bytes. (image_fault bytes ≡ None) × (stamps_of (image_in bytes) parameters ≤ MOST_STEPS);
   is_done = is_run;
 }

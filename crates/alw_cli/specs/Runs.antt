@@ -5,6 +5,7 @@ use Rattle.alw_image.specs.declared.parts.Parts.{Parts}
 use Rattle.alw_image.specs.Parameters.{Parameters, AreParameters}
 use Rattle.alw_model.specs.declared.ends.Ended.{Ended}
 use Rattle.alw_model.specs.Machine.{IsLegal, state, end_of}
+use Rattle.alw_model.specs.Ends.{IsEnd}
 use Rattle.alw_model.specs.Headline.{IsCoherentRun}
 use Rattle.alw_mesh.specs.Histories.{History, stamps_of}
 use Rattle.alw_mesh.specs.declared.errors.TheConstants.{MOST_STEPS}
@@ -74,6 +75,14 @@ RanAgain trace form (Err (cause.Input reason.Unfinished)) = IsFit trace × IsUnf
 RanAgain trace form (Err cause.NoMemory) = Unit {0}
 RanAgain trace form (Err _) = ⊥
 
+-- the end that holds after a trace's entries, of which a machine has taken so many: all of them; or why there is none
+abbrev pub EndsTrace : Trace → History → Result Ended Cause → Type 0
+EndsTrace trace machine (Ok ended) =
+    (machine ≡ record { image = trace.image; parameters = trace.params; journal = trace.journal }) × IsEnd machine.image machine.parameters machine.journal ended
+EndsTrace trace machine (Err (cause.Input (reason.NotLegal k))) = IsFit trace × IsFirstIllegal trace k
+EndsTrace trace machine (Err (cause.Input reason.Unfinished)) = IsFit trace × IsUnfinished trace
+EndsTrace trace machine (Err _) = ⊥
+
 -- ---- told and written
 
 -- a machine's run up to an end, told in a form
@@ -82,6 +91,10 @@ pub record IsToldOf (machine : History) (ended : Ended) (form : Form) (run : Run
   pub end : run.ended ≡ ended
   pub text : run.text ≡ run_text form machine.image machine.parameters machine.journal ended
 
--- the cause is that of the run's end, and the whole text was written; or the sink failed behind a front of it
+-- a whole text was written, and the cause is this one; or the sink failed behind a front of it
+abbrev pub IsWrittenBy : Cause → List ℕ → Stream → Stream → Cause → Type 0
+IsWrittenBy whole text out out' answered = ((answered ≡ whole) × Gained out out' text) ⊎ ((answered ≡ cause.WriteFault) × GainedPart out out' text)
+
+-- the text of a run, whose cause is that of its end
 abbrev pub IsWritten : Run → Stream → Stream → Cause → Type 0
-IsWritten run out out' answered = ((answered ≡ cause_of run.ended) × Gained out out' run.text) ⊎ ((answered ≡ cause.WriteFault) × GainedPart out out' run.text)
+IsWritten run out out' answered = IsWrittenBy (cause_of run.ended) run.text out out' answered

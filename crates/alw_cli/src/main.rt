@@ -10,6 +10,7 @@ mod laws;
 mod listings;
 mod making;
 mod replaying;
+mod routing;
 mod running;
 mod runs;
 mod top;

@@ -1,7 +1,8 @@
 ghost use Rattle.std.specs.Prelude.{◌≡◌, ◌≤◌};
 ghost use Rattle.alw_trace.specs.Readings.{IsTrace};
 ghost use Rattle.alw_cli.specs.Replaying.{ReplayAnswer};
-ghost use Rattle.alw_cli.specs.Runs.{RanAgain};
+ghost use Rattle.alw_cli.specs.Runs.{EndsTrace, RanAgain};
+ghost use Rattle.alw_merge.specs.Replays.{IsReplayed};
 ghost use Rattle.alw_cli.specs.Streams.{stream_of};
 
 use crate::answers::{Cause, Done, InputErr};
@@ -9,7 +10,8 @@ use crate::runs::{Run, told, write_run};
 use alw_config::Form;
 use alw_io::Sink;
 use alw_merge::{Replayed, replay};
-use alw_mesh::FitErr;
+use alw_mesh::{FitErr, Machine};
+use alw_model::Ended;
 use alw_num::NoMemory;
 use alw_trace::{TextErr, Trace, read_trace};
 use std::alloc::Global;
@@ -37,13 +39,22 @@ fn replay_trace(alloc: Global, trace: &Trace, form: Form) -> Result<Run, Cause>
     ensures { RanAgain trace.now form result }
 {
     let Replayed { machine, kept } = replay(alloc, &trace.image, &trace.params, &trace.journal)?;
+    let ended = end_of_trace(trace, &machine, kept)?;
+    Ok(told(alloc, machine, ended, form)?)
+}
+
+/// The end that holds after the entries of a trace, of which a machine has taken so many.
+pub fn end_of_trace(trace: &Trace, machine: &Machine, kept: u32) -> Result<Ended, Cause>
+    requires { IsReplayed trace.now.image trace.now.params trace.now.journal machine.now kept }
+    ensures { EndsTrace trace.now machine.now result }
+{
     if kept < trace.journal.len() {
         return Err(Cause::Input(InputErr::NotLegal(kept)));
     }
     let Some(ended) = machine.ended() else {
         return Err(Cause::Input(InputErr::Unfinished));
     };
-    Ok(told(alloc, machine, ended, form)?)
+    Ok(ended)
 }
 
 impl From<FitErr> for Cause {

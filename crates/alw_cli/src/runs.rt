@@ -1,6 +1,6 @@
 ghost use Rattle.std.specs.Prelude.{◌≡◌, ◌≤◌, IfOk};
 ghost use Rattle.alw_config.specs.declared.commands.Form.TheVariants as forms;
-ghost use Rattle.alw_cli.specs.Runs.{IsToldOf, IsWritten};
+ghost use Rattle.alw_cli.specs.Runs.{IsToldOf, IsWritten, IsWrittenBy};
 ghost use Rattle.alw_cli.specs.Statuses.{cause_of};
 ghost use Rattle.alw_cli.specs.Streams.{stream_of};
 
@@ -138,8 +138,18 @@ pub fn write_run<K: Sink>(run: Run, out: &mut K) -> Done
         ended,
         text,
     } = run;
+    write_text(journal, &text, cause_of(ended), out)
+}
+
+/// Writes the text of a journal, and answers with a cause where all of it was written.
+pub fn write_text<K: Sink>(journal: Journal, text: &Text, whole: Cause, out: &mut K) -> Done
+    ensures written { IsWrittenBy whole text.now (stream_of (K.held out.old) (K.faults out.old)) (stream_of (K.held out.new) (K.faults out.new)) result.cause }
+    ensures journal { result.journal ≡ journal }
+    ensures out_count { K.faults out.old ≤ K.faults out.new }
+    ensures merged { result.merged ≡ 0 }
+{
     let cause = match write_whole(out, text.bytes()) {
-        Ok(()) => cause_of(ended),
+        Ok(()) => whole,
         Err(_) => Cause::WriteFault,
     };
     Done::after(cause, journal)

@@ -9,6 +9,7 @@ use crate::auditing::audit_bytes;
 use crate::err_lines::err_line;
 use crate::making::make_workload;
 use crate::replaying::replay_bytes;
+use crate::routing::route_bytes;
 use crate::running::run_bytes;
 use alw_config::{Command, command};
 use alw_io::{ReadErr, Sink, Source, read_all, write_whole};
@@ -32,7 +33,7 @@ pub fn alewife<S: Source, K: Sink, E: Sink>(
     ensures answers { Answers (map string_bytes words.now)
         (stream_of (S.left input.old) (S.faults input.old)) (stream_of (S.left input.new) (S.faults input.new))
         (stream_of (K.held out.old) (K.faults out.old)) (stream_of (K.held out.new) (K.faults out.new))
-        result.cause result.journal }
+        result.cause result.journal result.merged }
     ensures complete { IsComplete (map string_bytes words.now)
         (stream_of (S.left input.old) (S.faults input.old)) (stream_of (S.left input.new) (S.faults input.new))
         (stream_of (K.held out.old) (K.faults out.old)) (stream_of (K.held out.new) (K.faults out.new))
@@ -41,7 +42,6 @@ pub fn alewife<S: Source, K: Sink, E: Sink>(
     ensures input_count { S.faults input.old ≤ S.faults input.new }
     ensures out_count { K.faults out.old ≤ K.faults out.new }
     ensures err_count { E.faults err.old ≤ E.faults err.new }
-    ensures merged { result.merged ≡ 0 }
 {
     let done = answer(alloc, words, input, out);
     put_err_line(err, &done.cause);
@@ -53,10 +53,9 @@ fn answer<S: Source, K: Sink>(alloc: Global, words: &[String], input: &mut S, ou
     ensures answers { Answers (map string_bytes words.now)
         (stream_of (S.left input.old) (S.faults input.old)) (stream_of (S.left input.new) (S.faults input.new))
         (stream_of (K.held out.old) (K.faults out.old)) (stream_of (K.held out.new) (K.faults out.new))
-        result.cause result.journal }
+        result.cause result.journal result.merged }
     ensures input_count { S.faults input.old ≤ S.faults input.new }
     ensures out_count { K.faults out.old ≤ K.faults out.new }
-    ensures merged { result.merged ≡ 0 }
 {
     let command = match command(words) {
         Ok(command) => command,
@@ -90,8 +89,8 @@ fn perform<K: Sink>(alloc: Global, command: Command, bytes: &[u8], out: &mut K) 
     requires within { IsWithin command }
     requires few { length bytes.now ≤ MOST_INPUT }
     ensures answer { (task_of command).Answers bytes.now (stream_of (K.held out.old) (K.faults out.old)) (stream_of (K.held out.new) (K.faults out.new)) result.cause result.journal }
+    ensures merges { (task_of command).Merges bytes.now result.cause result.journal result.merged }
     ensures out_count { K.faults out.old ≤ K.faults out.new }
-    ensures merged { result.merged ≡ 0 }
 {
     match command {
         Command::Asm { write } => assemble_source(alloc, write, bytes, out),
@@ -104,6 +103,7 @@ fn perform<K: Sink>(alloc: Global, command: Command, bytes: &[u8], out: &mut K) 
             height,
             size,
         } => make_workload(alloc, seed, width, height, size, out),
+        Command::Route { seed } => route_bytes(alloc, seed, bytes, out),
     }
 }
 

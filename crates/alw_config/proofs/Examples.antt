@@ -2,7 +2,7 @@
 use Rattle.std.proofs.Common.{◌≡◌, ℕ, zero, suc, ◌<◌, Bool, true, false, List, [], ◌∷◌, codes, refl, inl, arith}
 use Rattle.std.specs.Prelude.{Option, None, Some}
 use Rattle.std.specs.Fmt.{digits}
-use Rattle.alw_config.specs.declared.commands.Command.TheVariants.{Asm, Run, Replay, Audit, Gen}
+use Rattle.alw_config.specs.declared.commands.Command.TheVariants.{Asm, Run, Replay, Audit, Gen, Route}
 use Rattle.alw_config.specs.declared.commands.How.TheVariants.{Seed}
 use Rattle.alw_config.specs.declared.commands.AsmForm.TheVariants.{Image, Listing}
 use Rattle.alw_config.specs.declared.commands.Form.TheVariants.{Report, Claim}
@@ -88,6 +88,9 @@ audited = refl
 
 made : asked (codes "gen" ∷ []) ≡ Some (Gen 0 4 4 16)
 made = refl
+
+routed : asked (codes "route" ∷ []) ≡ Some (Route 0)
+routed = refl
 
 -- ---- where a mesh has more than 8 columns or rows, its nodes do at most 63 operations
 

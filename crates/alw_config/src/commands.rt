@@ -28,6 +28,10 @@ pub enum Command {
         height: u8,
         size: u32,
     },
+    /// Carries the messages of a trace through the routers of its mesh, in the order that a seed draws.
+    Route {
+        seed: u64,
+    },
 }
 
 /// What an assembled source is written as.

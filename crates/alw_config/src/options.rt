@@ -8,8 +8,8 @@ use crate::commands::{AsmForm, Command, Form, How, WordErr};
 use crate::lookups::row_of;
 use crate::rows::{
     ASM_DEFAULTS, ASM_OPTIONS, AUDIT_DEFAULTS, AUDIT_OPTIONS, GEN_DEFAULTS, GEN_OPTIONS, GEN_RULE,
-    MOST_CHOICES, Made, Meaning, Name, REPLAY_DEFAULTS, REPLAY_OPTIONS, RUN_DEFAULTS, RUN_OPTIONS,
-    Row, Rule, Value,
+    MOST_CHOICES, Made, Meaning, Name, REPLAY_DEFAULTS, REPLAY_OPTIONS, ROUTE_DEFAULTS,
+    ROUTE_OPTIONS, RUN_DEFAULTS, RUN_OPTIONS, Row, Rule, Value,
 };
 use alw_image::Params;
 
@@ -92,6 +92,7 @@ impl Name {
             Name::Replay => &REPLAY_OPTIONS,
             Name::Audit => &AUDIT_OPTIONS,
             Name::Gen => &GEN_OPTIONS,
+            Name::Route => &ROUTE_OPTIONS,
         }
     }
 
@@ -106,6 +107,7 @@ impl Name {
             Name::Replay => &REPLAY_DEFAULTS,
             Name::Audit => &AUDIT_DEFAULTS,
             Name::Gen => &GEN_DEFAULTS,
+            Name::Route => &ROUTE_DEFAULTS,
         }
     }
 
@@ -115,7 +117,7 @@ impl Name {
     {
         match self {
             Name::Gen => Some(GEN_RULE),
-            Name::Asm | Name::Run | Name::Replay | Name::Audit => None,
+            _ => None,
         }
     }
 
@@ -166,6 +168,9 @@ impl Name {
                 width: self.value(chosen, 1).number() as u8,
                 height: self.value(chosen, 2).number() as u8,
                 size: self.value(chosen, 3).number() as u32,
+            },
+            Name::Route => Command::Route {
+                seed: self.value(chosen, 0).number(),
             },
         }
     }

@@ -14,6 +14,7 @@ pub(crate) enum Name {
     Replay,
     Audit,
     Gen,
+    Route,
 }
 
 // What an option stands for. A command leaves choices, numbered from 0: an option makes one of them, by a
@@ -70,12 +71,13 @@ pub(crate) struct Rule {
 pub(crate) const MOST_CHOICES: usize = 6;
 
 // The commands, by their names.
-pub(crate) const COMMANDS: [Row<Name>; 5] = [
+pub(crate) const COMMANDS: [Row<Name>; 6] = [
     (b"asm", Name::Asm),
     (b"run", Name::Run),
     (b"replay", Name::Replay),
     (b"audit", Name::Audit),
     (b"gen", Name::Gen),
+    (b"route", Name::Route),
 ];
 
 // What an assembled source is written as.
@@ -226,3 +228,14 @@ pub(crate) const GEN_RULE: Rule = Rule {
     third: 3,
     most: 63,
 };
+
+// The options of `route`, and what it chooses where no option does.
+pub(crate) const ROUTE_OPTIONS: [Row<Meaning>; 1] = [(
+    b"--seed",
+    Meaning {
+        choice: 0,
+        kind: Kind::Between(0, u64::MAX),
+    },
+)];
+
+pub(crate) const ROUTE_DEFAULTS: [Value; 1] = [Value::Number(0)];

@@ -266,8 +266,12 @@ const GEN: [(&str, Option<u32>); 15] = [
     ("gen --write image", Some(1)),
 ];
 
-// Words of `replay` and `audit`, and their refused place.
-const TEXTS: [(&str, Option<u32>); 9] = [
+// Words of the commands of texts, and their refused place.
+const TEXTS: [(&str, Option<u32>); 13] = [
+    ("route", None),
+    ("route --seed 18446744073709551615", None),
+    ("route --write report", Some(1)),
+    ("route --seed -1", Some(2)),
     ("replay", None),
     ("replay --write report", None),
     ("replay --write trace", None),
@@ -288,7 +292,7 @@ fn words_of_gen(rt: HostRuntime) -> Result<(), Fail> {
 }
 
 #[test]
-fn words_of_replay_and_audit(rt: HostRuntime) -> Result<(), Fail> {
+fn words_of_the_others(rt: HostRuntime) -> Result<(), Fail> {
     for (line, at) in TEXTS {
         assert_eq!(rt; asked(rt.alloc(), line)?.err(), at.map(|at| WordErr { at }));
     }

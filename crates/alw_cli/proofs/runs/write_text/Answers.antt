@@ -1,7 +1,7 @@
 use Rattle.std.proofs.Common.{List, ℕ, subst, inl, inr, ◌∙◌}
 use Rattle.alw_cli.specs.Streams.{stream_of, Gained, GainedPart}
-use Rattle.alw_cli.proofs.runs.write_run.Goals as goal
-use Rattle.alw_cli.proofs.runs.write_run.Goals.{in-Ok, in-Err}
+use Rattle.alw_cli.proofs.runs.write_text.Goals as goal
+use Rattle.alw_cli.proofs.runs.write_text.Goals.{in-Ok, in-Err}
 
 pub returns-clause-written : goal.returns-clause-written
 returns-clause-written g c =
@@ -9,7 +9,7 @@ returns-clause-written g c =
     let after = stream_of (g.K.Sink.held c.write_whole.new.sink) (g.K.Sink.faults c.write_whole.new.sink) in
     rw c.after.ensures.cause (elim c.match-write_whole.branch [
       | in-Ok w ↦
-          inl (w.cause-is ∙ w.cause_of-cause.ensures, subst (λ (text : List ℕ). Gained before after text) c.bytes.ensures w.in-Ok.ensures.ok)
+          inl (w.cause-is, subst (λ (text : List ℕ). Gained before after text) c.bytes.ensures w.in-Ok.ensures.ok)
       | in-Err w ↦
           inr (w.cause-is, subst (λ (text : List ℕ). GainedPart before after text) c.bytes.ensures (w.in-Err.ensures.err, w.in-Err.ensures.cause.failed))
     ])

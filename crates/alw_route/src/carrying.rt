@@ -1,0 +1,89 @@
+ghost use Rattle.std.specs.Prelude.{◌≡◌, ◌<◌, IfOk, OnOk};
+ghost use Rattle.alw_lift.specs.Links.{GoBelow};
+ghost use Rattle.alw_merge.specs.Replays.{Replays, Takes, taken_on};
+ghost use Rattle.mesh_route.specs.Meshes.{count_of};
+ghost use Rattle.alw_route.specs.Loading.{IsLoaded, replayed_in, after_sends, IsUnderWay};
+
+use alw_image::{Image, Params};
+use alw_merge::take;
+use alw_mesh::{FitErr, Machine};
+use alw_msg::{Entry, Journal, Sends};
+use alw_num::{NoMemory, NodeNo};
+use mesh_route::Hops;
+use std::alloc::Global;
+
+/// The machine after the longest legal front of some entries, how many entries that is, and the routers
+/// of its mesh with the messages that they sent, each where it begins.
+#[derive(Debug, Drop)]
+pub struct Carried {
+    pub machine: Machine,
+    pub kept: u32,
+    pub hops: Hops,
+}
+
+/// Takes the events of entries again, as `replay` does, and gives the messages that each sends to the
+/// routers of the image's mesh, in order. Refused as `replay` is; entries that send 2^32 messages
+/// meet `NoMemory`.
+pub fn carry(
+    alloc: Global,
+    image: &Image,
+    params: &Params,
+    entries: &Journal,
+) -> Result<Carried, FitErr>
+    ensures replays { Replays image.now params.now entries.now (replayed_in result) }
+    ensures loaded { IfOk result (λ carried. IsLoaded carried.machine carried.hops) }
+{
+    let mut machine = Machine::start(alloc, image, params)?;
+    let mut hops = Hops::start(alloc, image.width(), image.height())?;
+    carry_all(&mut machine, &mut hops, entries.members())?;
+    let kept = machine.journal().len();
+    Ok(Carried {
+        machine,
+        kept,
+        hops,
+    })
+}
+
+// Takes entries one by one, up to the first that isn't the next, and gives the routers what each sends.
+fn carry_all(machine: &mut Machine, hops: &mut Hops, entries: &[Entry]) -> Result<(), NoMemory>
+    requires { IsUnderWay machine.old hops.old }
+    ensures taken { OnOk result (machine.new ≡ taken_on machine.old entries.now) }
+    ensures under_way { OnOk result (IsUnderWay machine.new hops.new) }
+{
+    for entry in entries {
+        if !carry_one(machine, hops, *entry)? {
+            return Ok(());
+        }
+    }
+    Ok(())
+}
+
+// Takes an entry where it is the next one, and gives the routers what it sends.
+fn carry_one(machine: &mut Machine, hops: &mut Hops, entry: Entry) -> Result<bool, NoMemory>
+    requires { IsUnderWay machine.old hops.old }
+    ensures taken { IfOk result (λ taken. Takes machine.old entry machine.new taken) }
+    ensures under_way { OnOk result (IsUnderWay machine.new hops.new) }
+{
+    let taken = take(machine, entry)?;
+    if !taken {
+        return Ok(false);
+    }
+    inject_all(hops, entry.event.node(), machine.last_sent())?;
+    Ok(true)
+}
+
+// Gives the router of a node what the node sends, in order.
+fn inject_all(hops: &mut Hops, from: NodeNo, sends: &Sends) -> Result<(), NoMemory>
+    requires from { from.0 < count_of hops.old }
+    requires goals { GoBelow (count_of hops.old) sends.now.messages }
+    ensures { OnOk result (hops.new ≡ after_sends hops.old from.0 sends.now.messages) }
+{
+    for i in 0..sends.len() {
+        let (to, msg) = sends.at(i);
+        if hops.injected() == u32::MAX {
+            return Err(NoMemory);
+        }
+        hops.inject(from, to, msg)?;
+    }
+    Ok(())
+}
