@@ -11,6 +11,7 @@ What is tested:
   and each path is there. CHANGES.md may name what is gone.
 - the manual page, the completions, the launcher's help and README.md have the command words of alw_config, and no other options.
 - each edit still fits: its old text stands once in its file.
+- each block of README.md that shows a command is a file of examples/, of which examples/check runs each.
 - docs/ARCHITECTURE.md has each crate of crates.txt, and no other.
 
 A row's second cell is read like this: parts are parted by ';', and what stands in `code` in a part is a function, method or
@@ -422,6 +423,15 @@ def check_architecture(findings, repository):
         findings.say(file, 0, f'{name} stands in its table or in crates.txt, and not in both')
 
 
+def check_examples(findings):
+    """Each block of README.md that shows a command is one of the examples, which examples/check runs."""
+    file = ROOT / 'README.md'
+    kept = [example.read_text() for example in (ROOT / 'examples').glob('*.shell')]
+    for block in re.split(r'^```.*\n', file.read_text(), flags=re.M)[1::2]:
+        if block.startswith('$ ') and block not in kept:
+            findings.say(file, 0, f"no file examples/*.shell is the block that begins with '{block.splitlines()[0]}'")
+
+
 def documents(repository):
     """The files whose names are checked, each with the folder that its paths may start from."""
     yield ROOT / 'README.md', ROOT
@@ -444,6 +454,7 @@ def main():
         check_names(findings, file, repository, folder)
     check_architecture(findings, repository)
     check_words(findings)
+    check_examples(findings)
     if findings.count:
         print(f'documents: {findings.count} findings')
     return 1 if findings.count else 0

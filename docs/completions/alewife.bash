@@ -5,7 +5,7 @@ _alewife() {
     [ "${COMP_WORDS[1]}" = --unproved ] && at=2
     case $COMP_CWORD in
     "$at")
-        words='asm run replay audit gen'
+        words='asm run replay audit gen route'
         [ "$at" = 1 ] && words="$words --unproved --help --version"
         ;;
     *)
@@ -14,10 +14,11 @@ _alewife() {
         run:--write | replay:--write) words='report json trace claim summary' ;;
         run:--pointers) words='1 2 3 4 5 6 7 8' ;;
         run:--sets) words='4 8 16 32 64 128 256 512 1024 2048 4096' ;;
-        run:--seed | run:--limit | run:--evict | gen:--*) words='' ;;
+        run:--seed | run:--limit | run:--evict | gen:--* | route:--*) words='' ;;
         asm:*) words='--write' ;;
         replay:*) words='--write' ;;
         gen:*) words='--seed --width --height --size' ;;
+        route:*) words='--seed' ;;
         run:*) words='--seed --pointers --sets --limit --evict --write' ;;
         esac
         ;;

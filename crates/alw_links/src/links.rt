@@ -77,6 +77,9 @@ impl Links {
         ensures err { OnErr result (self.new ≡ self.old) }
     {
         let had = self.spare.len();
+        if had >= count as usize {
+            return Ok(());
+        }
         if self.count > MOST - count as usize {
             return Err(NoMemory);
         }

@@ -4,8 +4,9 @@ ghost use Rattle.std.specs.Arc.{arc_value};
 ghost use Rattle.alw_num.specs.Maps.{value_at};
 ghost use Rattle.alw_num.specs.Weights.{digit, weigh};
 ghost use Rattle.alw_image.specs.Images.{node_count};
-ghost use Rattle.alw_model.specs.Contexts.{slot_at, all_halted};
+ghost use Rattle.alw_model.specs.Contexts.{running, slot_at, all_halted};
 ghost use Rattle.alw_msg.specs.Contents.{content};
+ghost use Rattle.alw_msg.specs.Lists.{is_nonempty};
 ghost use Rattle.alw_model.specs.Messages.{home_node, is_fit};
 ghost use Rattle.alw_model.specs.NodeStates.{home_at, is_enabled_at, may_reach, stamp_of};
 ghost use Rattle.alw_model.specs.NodeSteps.{node_step};
@@ -204,6 +205,20 @@ impl Node {
         ensures { option_map number_of result ≡ (slot_at self.now.state.slots slot).hold }
     {
         self.proc.held(slot)
+    }
+
+    /// A context is Ready.
+    pub fn is_ready(&self) -> bool
+        ensures { result ≡ is_some (running self.now.state.slots self.now.state.current) }
+    {
+        self.proc.is_ready()
+    }
+
+    /// A packet waits for the trap handler.
+    pub fn has_packet(&self) -> bool
+        ensures { result ≡ is_nonempty self.now.state.packets }
+    {
+        self.memory.has_packet()
     }
 
     /// All contexts have halted.

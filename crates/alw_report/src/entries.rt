@@ -68,8 +68,8 @@ pub fn meta_name(meta: Meta) -> &'static str
     }
 }
 
-// Node numbers with commas, or `-` where there is none.
-fn put_nodes(text: &mut Text, nodes: NodeSet) -> Result<(), NoMemory>
+/// Node numbers with commas, or `-` where there is none.
+pub fn put_nodes(text: &mut Text, nodes: NodeSet) -> Result<(), NoMemory>
     ensures { OnOk result (text.new ≡ text.old ++ nodes_text (members (nodes_of nodes))) }
 {
     match nodes.lowest() {

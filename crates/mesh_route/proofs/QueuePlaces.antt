@@ -11,7 +11,7 @@ use Rattle.mesh_route.specs.Routes.{port_number}
 use Rattle.mesh_route.specs.Meshes.{queue_place}
 use Rattle.mesh_route.specs.Deliveries.{messages_of}
 
-port_of : ℕ → Port
+pub port_of : ℕ → Port
 port_of zero = Local
 port_of (suc zero) = West
 port_of (suc (suc zero)) = East
@@ -25,6 +25,14 @@ port_of-number West = refl
 port_of-number East = refl
 port_of-number North = refl
 port_of-number South = refl
+
+pub port_number-of : (n : ℕ) → n < 5 → port_number (port_of n) ≡ n
+unfolding port_of
+port_number-of zero l = refl
+port_number-of (suc zero) l = refl
+port_number-of (suc (suc zero)) l = refl
+port_number-of (suc (suc (suc zero))) l = refl
+port_number-of (suc (suc (suc (suc n)))) l = omega arith
 
 five_ports : (port : Port) → port_number port < 5
 five_ports Local = omega arith

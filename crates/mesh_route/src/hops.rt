@@ -183,6 +183,13 @@ impl Hops {
         true
     }
 
+    /// How many messages were injected.
+    pub fn injected(&self) -> u32
+        ensures { result ≡ self.now.injected }
+    {
+        self.injected
+    }
+
     /// How many hops went from one node to another.
     pub fn crossings(&self, a: NodeNo, b: NodeNo) -> u32
         requires a { a.0 < count_of self.now }
