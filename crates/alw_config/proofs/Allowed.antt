@@ -26,13 +26,13 @@ use Rattle.alw_config.proofs.Spelled.{passed_if}
 
 -- ---- of a kind
 
-number_of_kind : (test : ℕ → Bool) (word : List ℕ) (v : Value) (P : Value → Bool) →
-    ((n : ℕ) → P (values.Number n) ≡ test n) → option_map values.Number (number_if test word) ≡ Some v → P v ≡ true
-number_of_kind test word v P is found = go (number_if test word) refl found
+number_of_kind : (f : ℕ → Value) (test : ℕ → Bool) (word : List ℕ) (v : Value) (P : Value → Bool) →
+    ((n : ℕ) → P (f n) ≡ test n) → option_map f (number_if test word) ≡ Some v → P v ≡ true
+number_of_kind f test word v P is found = go (number_if test word) refl found
   where
-    go : (o : Option ℕ) → number_if test word ≡ o → option_map values.Number o ≡ Some v → P v ≡ true
+    go : (o : Option ℕ) → number_if test word ≡ o → option_map f o ≡ Some v → P v ≡ true
     go None e none = absurd (cc)
-    go (Some n) e some = let same : values.Number n ≡ v = cc in subst (λ (u : Value). P u ≡ true) same (is n ∙ passed_if test word n e)
+    go (Some n) e some = let same : f n ≡ v = cc in subst (λ (u : Value). P u ≡ true) same (is n ∙ passed_if test word n e)
 
 mapped : {A : Type 0} (f : A → Value) (o : Option A) (v : Value) (P : Value → Bool) → ((a : A) → P (f a) ≡ true) → option_map f o ≡ Some v → P v ≡ true
 mapped f None v P is found = absurd (cc)
@@ -40,9 +40,11 @@ mapped f (Some a) v P is found = let same : f a ≡ v = cc in subst (λ (u : Val
 
 value_of_kind : (kind : Kind) (word : List ℕ) (v : Value) → value_of kind word ≡ Some v → is_of kind v ≡ true
 value_of_kind kinds.Seed word v found = mapped _ _ v (is_of kinds.Seed) (λ a. refl) found
+value_of_kind kinds.Workers word v found =
+    number_of_kind (λ n. values.How (hows.Workers n)) (λ n. nat_le 1 n && nat_le n 256) word v (is_of kinds.Workers) (λ n. refl) found
 value_of_kind (kinds.Between least most) word v found =
-    number_of_kind (λ n. nat_le least n && nat_le n most) word v (is_of (kinds.Between least most)) (λ n. refl) found
-value_of_kind kinds.SetCount word v found = number_of_kind (λ n. list_any (λ count. n == count) set_counts) word v (is_of kinds.SetCount) (λ n. refl) found
+    number_of_kind values.Number (λ n. nat_le least n && nat_le n most) word v (is_of (kinds.Between least most)) (λ n. refl) found
+value_of_kind kinds.SetCount word v found = number_of_kind values.Number (λ n. list_any (λ count. n == count) set_counts) word v (is_of kinds.SetCount) (λ n. refl) found
 value_of_kind kinds.AsmForm word v found = mapped values.AsmForm (row_of asm_forms word) v (is_of kinds.AsmForm) (λ a. refl) found
 value_of_kind kinds.Form word v found = mapped values.Form (row_of forms word) v (is_of kinds.Form) (λ a. refl) found
 

@@ -3,7 +3,7 @@ use Rattle.std.proofs.Common.{◌≡◌, ℕ, zero, suc, ◌<◌, Bool, true, fa
 use Rattle.std.specs.Prelude.{Option, None, Some}
 use Rattle.std.specs.Fmt.{digits}
 use Rattle.alw_config.specs.declared.commands.Command.TheVariants.{Asm, Run, Replay, Audit, Gen, Route}
-use Rattle.alw_config.specs.declared.commands.How.TheVariants.{Seed}
+use Rattle.alw_config.specs.declared.commands.How.TheVariants.{Seed, Workers}
 use Rattle.alw_config.specs.declared.commands.AsmForm.TheVariants.{Image, Listing}
 use Rattle.alw_config.specs.declared.commands.Form.TheVariants.{Report, Claim}
 use Rattle.alw_config.specs.Places.{IsFirst, IsRefusedAt, is_bad, asked, misfit_in}
@@ -76,6 +76,11 @@ limits : (is_bad_of (codes "--limit") (codes "0") ≡ true) × (is_bad_of (codes
 unfolding digits
 limits = (refl, refl, refl)
 
+workers : (is_bad_of (codes "--workers") (codes "0") ≡ true) × (is_bad_of (codes "--workers") (codes "1") ≡ false)
+    × (is_bad_of (codes "--workers") (codes "257") ≡ true)
+unfolding digits
+workers = (refl, refl, refl)
+
 evictions : (is_bad_of (codes "--evict") (codes "0") ≡ false) × (is_bad_of (codes "--evict") (codes "256") ≡ true)
 unfolding digits
 evictions = (refl, refl)
@@ -91,6 +96,14 @@ made = refl
 
 routed : asked (codes "route" ∷ []) ≡ Some (Route 0)
 routed = refl
+
+by_workers : asked (codes "run" ∷ codes "--workers" ∷ codes "256" ∷ [])
+    ≡ Some (Run (Workers 256) (record { pointers = 4; sets = 256; limit = 32768; evict = 0 }) Report)
+unfolding digits
+by_workers = refl
+
+workers_and_seed : is_bad (codes "run" ∷ codes "--workers" ∷ codes "2" ∷ codes "--seed" ∷ codes "1" ∷ []) 3 ≡ true
+workers_and_seed = refl
 
 -- ---- where a mesh has more than 8 columns or rows, its nodes do at most 63 operations
 

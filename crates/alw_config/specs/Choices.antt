@@ -6,12 +6,14 @@ use Rattle.std.specs.List.{AllByRecursion, list_any}
 use Rattle.alw_image.specs.Parameters.{AreParameters, set_counts}
 use Rattle.alw_config.specs.declared.commands.Command.{Command}
 use Rattle.alw_config.specs.declared.commands.Command.TheVariants as command
+use Rattle.alw_config.specs.declared.commands.How.{How}
+use Rattle.alw_config.specs.declared.commands.How.TheVariants as hows
 use Rattle.alw_config.specs.declared.rows.Made.{Made}
 use Rattle.alw_config.specs.declared.rows.Rule.{Rule}
 use Rattle.alw_config.specs.declared.rows.Value.{Value}
 use Rattle.alw_config.specs.declared.rows.Value.TheVariants as values
 use Rattle.alw_config.specs.declared.rows.Kind.{Kind}
-use Rattle.alw_config.specs.declared.rows.Kind.TheVariants.{Seed, Between, SetCount, AsmForm, Form}
+use Rattle.alw_config.specs.declared.rows.Kind.TheVariants.{Seed, Workers, Between, SetCount, AsmForm, Form}
 use Rattle.alw_config.specs.declared.rows.TheConstants.{MOST_CHOICES}
 use Rattle.alw_config.specs.Table.{Options, made, breaks}
 use Rattle.alw_config.specs.Places.{is_bad_option}
@@ -27,7 +29,8 @@ pub record AreMade (options : Options) (words : List (List ℕ)) (chosen : List 
 
 -- a value is of a kind
 abbrev pub is_of : Kind → Value → Bool
-is_of Seed (values.How how) = true
+is_of Seed (values.How (hows.Seed n)) = true
+is_of Workers (values.How (hows.Workers n)) = nat_le 1 n && nat_le n 256
 is_of (Between least most) (values.Number n) = nat_le least n && nat_le n most
 is_of SetCount (values.Number n) = list_any (λ count. n == count) set_counts
 is_of AsmForm (values.AsmForm form) = true
@@ -85,8 +88,13 @@ pub record IsWorkload (width height size : ℕ) : Type 0 where
   pub some : 1 ≤ size
   pub most : size ≤ (if nat_le width 8 && nat_le height 8 then 255 else 63)
 
--- a run's parameters are parameters, and a workload's numbers fit together
+-- workers are 1 to 256
+abbrev pub IsCounted : How → Type 0
+IsCounted (hows.Seed n) = ⊤
+IsCounted (hows.Workers n) = (1 ≤ n) × (n ≤ 256)
+
+-- a run's parameters are parameters, and it has some workers where it has any; and a workload's numbers fit together
 abbrev pub IsWithin : Command → Type 0
-IsWithin (command.Run how params write) = AreParameters params
+IsWithin (command.Run how params write) = AreParameters params × IsCounted how
 IsWithin (command.Gen seed width height size) = IsWorkload width height size
 IsWithin _ = ⊤

@@ -39,6 +39,7 @@ number_if test word = if is_decimal word && test (number_of word) then Some (num
 -- what a word stands for as a value of a kind: None where it is none
 abbrev pub value_of : Kind → List ℕ → Option Value
 value_of kinds.Seed word = option_map (λ n. values.How (hows.Seed n)) (number_if (λ n. nat_le 0 n && nat_le n 18446744073709551615) word)
+value_of kinds.Workers word = option_map (λ n. values.How (hows.Workers n)) (number_if (λ n. nat_le 1 n && nat_le n 256) word)
 value_of (kinds.Between least most) word = option_map values.Number (number_if (λ n. nat_le least n && nat_le n most) word)
 value_of kinds.SetCount word = option_map values.Number (number_if (λ n. list_any (λ count. n == count) set_counts) word)
 value_of kinds.AsmForm word = option_map values.AsmForm (row_of asm_forms word)

@@ -46,6 +46,8 @@ pub enum AsmForm {
 pub enum How {
     /// One schedule, drawn from this number.
     Seed(u64),
+    /// So many workers, on threads.
+    Workers(u32),
 }
 
 /// What a run is written as.

@@ -8,6 +8,7 @@ ghost use Rattle.alw_config.specs.Values.{row_of, number_if, value_of, asm_forms
 use crate::commands::How;
 use crate::rows::{ASM_FORMS, FORMS, Kind, Row, Value};
 use alw_image::SET_COUNTS;
+use alw_num::MOST_NODES;
 use alw_text::decimal;
 
 // What a name stands for in a table. None exactly where no row has it.
@@ -29,6 +30,9 @@ impl Kind {
     {
         match self {
             Kind::Seed => Some(Value::How(How::Seed(number_between(word, 0, u64::MAX)?))),
+            Kind::Workers => Some(Value::How(How::Workers(
+                number_between(word, 1, u64::from(MOST_NODES))? as u32,
+            ))),
             Kind::Between(least, most) => Some(Value::Number(number_between(word, least, most)?)),
             Kind::SetCount => Some(Value::Number(set_count(word)?)),
             Kind::AsmForm => Some(Value::AsmForm(row_of(&ASM_FORMS, word)?)),

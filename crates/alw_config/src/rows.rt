@@ -30,6 +30,8 @@ pub(crate) struct Meaning {
 pub(crate) enum Kind {
     // A number of 64 bits in decimal, from which a schedule is drawn.
     Seed,
+    // A number of workers, 1 to 256, in decimal.
+    Workers,
     // The numbers from one to another, both included, in decimal.
     Between(u64, u64),
     // The numbers of sets that a cache can have, in decimal.
@@ -108,12 +110,19 @@ pub(crate) const ASM_OPTIONS: [Row<Meaning>; 1] = [(
 pub(crate) const ASM_DEFAULTS: [Value; 1] = [Value::AsmForm(AsmForm::Image)];
 
 // The options of `run`.
-pub(crate) const RUN_OPTIONS: [Row<Meaning>; 6] = [
+pub(crate) const RUN_OPTIONS: [Row<Meaning>; 7] = [
     (
         b"--seed",
         Meaning {
             choice: 0,
             kind: Kind::Seed,
+        },
+    ),
+    (
+        b"--workers",
+        Meaning {
+            choice: 0,
+            kind: Kind::Workers,
         },
     ),
     (

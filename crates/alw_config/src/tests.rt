@@ -266,12 +266,16 @@ const GEN: [(&str, Option<u32>); 15] = [
     ("gen --write image", Some(1)),
 ];
 
-// Words of the commands of texts, and their refused place.
-const TEXTS: [(&str, Option<u32>); 13] = [
+// Words of the commands of texts, and of workers, and their refused place.
+const TEXTS: [(&str, Option<u32>); 17] = [
     ("route", None),
     ("route --seed 18446744073709551615", None),
     ("route --write report", Some(1)),
     ("route --seed -1", Some(2)),
+    ("run --workers 256", None),
+    ("run --workers 0", Some(2)),
+    ("run --workers 257", Some(2)),
+    ("run --workers 2 --seed 1", Some(3)),
     ("replay", None),
     ("replay --write report", None),
     ("replay --write trace", None),
