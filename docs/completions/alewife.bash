@@ -14,12 +14,12 @@ _alewife() {
         run:--write | replay:--write) words='report json trace claim summary' ;;
         run:--pointers) words='1 2 3 4 5 6 7 8' ;;
         run:--sets) words='4 8 16 32 64 128 256 512 1024 2048 4096' ;;
-        run:--seed | run:--limit | run:--evict | gen:--* | route:--*) words='' ;;
+        run:--seed | run:--workers | run:--limit | run:--evict | gen:--* | route:--*) words='' ;;
         asm:*) words='--write' ;;
         replay:*) words='--write' ;;
         gen:*) words='--seed --width --height --size' ;;
         route:*) words='--seed' ;;
-        run:*) words='--seed --pointers --sets --limit --evict --write' ;;
+        run:*) words='--seed --workers --pointers --sets --limit --evict --write' ;;
         esac
         ;;
     esac

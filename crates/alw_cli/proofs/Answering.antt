@@ -31,6 +31,7 @@ answers_by words input input' out out' (cause.Input (reason.Text fault)) journal
 answers_by words input input' out out' (cause.Input (reason.NotLegal k)) journal merged p = p
 answers_by words input input' out out' (cause.Input reason.Unfinished) journal merged p = p
 answers_by words input input' out out' (cause.Input (reason.LimitDoesNotFit number most)) journal merged p = p
+answers_by words input input' out out' (cause.Input (reason.WorkersDoNotFit number most)) journal merged p = p
 answers_by words input input' out out' cause.NoMemory journal merged p =
     let wanting = (each_kept p.command).wanting p.bytes out out' journal p.answer in
     (record { command = p.command; asked = p.asked; holds = taken (task_of p.command).reads input input' p.bytes p.read }, wanting.0, (each_kept p.command).wants p.bytes journal merged p.merges, wanting.1)

@@ -6,3 +6,5 @@ mod Reached
 mod Made
 mod NoEvict
 mod Again
+mod Trapped
+mod Begun

@@ -5,7 +5,7 @@ use Rattle.std.specs.Io.KnownBytes.{Keeps}
 use Rattle.alw_msg.specs.declared.events.Entry.{Entry}
 use Rattle.alw_image.specs.declared.parts.Parts.{Parts}
 use Rattle.alw_image.specs.Faults.{image_in, image_fault}
-use Rattle.alw_image.specs.Images.{IsImage, spelling}
+use Rattle.alw_image.specs.Images.{IsImage, spelling, node_count}
 use Rattle.alw_image.specs.Parameters.{Parameters}
 use Rattle.alw_model.specs.declared.ends.Ended.{Ended}
 use Rattle.alw_model.specs.declared.ends.Ended.TheVariants as ended
@@ -26,8 +26,12 @@ use Rattle.alw_cli.specs.declared.runs.Run.{Run}
 use Rattle.alw_cli.specs.Statuses.{cause_of}
 use Rattle.alw_cli.specs.Streams.{Stream, Stays, Gained, GainedPart}
 use Rattle.alw_cli.specs.Endings.{Telling, AnswersEnd}
-use Rattle.alw_cli.specs.Runs.{IsMade, IsRunBy, IsRunAgain, RanAgain, IsWrittenBy, IsWritten}
+use Rattle.alw_mesh.specs.Histories.{stamps_of}
+use Rattle.alw_mesh.specs.declared.errors.TheConstants.{MOST_STEPS}
+use Rattle.alw_cli.specs.Runs.{IsMade, IsTooMuch, IsRunBy, IsRunAgain, RanAgain, IsWrittenBy, IsWritten}
 use Rattle.alw_cli.specs.Running.{IsTold, Runs, RunAnswer}
+use Rattle.alw_cli.specs.declared.working.Worked.{Worked}
+use Rattle.alw_cli.specs.Working.{Works, WorkAnswer, WorkMerges, IsBegun, AreTooMany, IsRunByWorkers, RanByWorkers}
 use Rattle.alw_cli.specs.Replaying.{Spells, Replays, ReplayAnswer}
 use Rattle.alw_cli.specs.declared.routing.Routed.{Routed}
 use Rattle.alw_cli.specs.Routing.{Routes, RouteAnswer, IsRouted}
@@ -92,6 +96,60 @@ module _ (seed : ℕ) (params : Parameters) (form : Form) (bytes : List ℕ) (im
 
   pub run_answer : (out out' : Stream) (c : Cause) → IsWritten run out out' c → RunAnswer seed params form bytes out out' c run.journal
   run_answer out out' c written = as_run out out' c (answered (Runs seed params form bytes run.journal) run out out' c runs written)
+
+-- ---- run with workers
+
+module _ (workers : ℕ) (params : Parameters) (form : Form) (bytes : List ℕ) (image : Parts) (read : IsReadAs bytes image) (worked : Worked)
+    (by : IsRunByWorkers workers image params form worked) where
+  works : (Written : List ℕ → Type 0) → Written worked.run.text → Works workers params form bytes worked.run.journal worked.run.ended Written
+  works Written written = record {
+    accepted = read.accepted;
+    spelled = read.spelled ∙ ap spelling read.same;
+    few = subst (λ (p : Parts). workers ≤ node_count p) read.same by.few;
+    told = subst (λ (p : Parts). IsTold p params form worked.run.journal worked.run.ended Written) read.same
+        (told_of_made image params form worked.run Written read.is by.made written);
+    evicts = by.evicts;
+  }
+
+  as_work : (out out' : Stream) (c : Cause) → AnswersEnd (Works workers params form bytes worked.run.journal) out out' c →
+      WorkAnswer workers params form bytes out out' c worked.run.journal
+  as_work out out' cause.Fine answer = answer
+  as_work out out' (cause.Trapped at) answer = answer
+  as_work out out' (cause.Limit event) answer = answer
+  as_work out out' cause.WriteFault answer = answer
+  as_work out out' _ answer = absurd answer
+
+  pub work_answer : (out out' : Stream) (c : Cause) → IsWritten worked.run out out' c → WorkAnswer workers params form bytes out out' c worked.run.journal
+  work_answer out out' c written = as_work out out' c (answered (Works workers params form bytes worked.run.journal) worked.run out out' c works written)
+
+  -- where a text was written
+  begun_in : IsBegun (image_in bytes) params worked.run.journal worked.merged
+  begun_in = subst (λ (p : Parts). IsBegun p params worked.run.journal worked.merged) read.same by.begun
+
+  by_run_end : (e : Ended) → WorkMerges params bytes (cause_of e) worked.run.journal worked.merged
+  by_run_end ended.Halted = begun_in
+  by_run_end (ended.Trapped at) = begun_in
+  by_run_end (ended.Limit event) = begun_in
+
+  pub work_merges : (out out' : Stream) (c : Cause) → IsWritten worked.run out out' c → WorkMerges params bytes c worked.run.journal worked.merged
+  work_merges out out' c (inl written) = subst (λ (x : Cause). WorkMerges params bytes x worked.run.journal worked.merged) (sym written.0) (by_run_end worked.run.ended)
+  work_merges out out' c (inr failed) = subst (λ (x : Cause). WorkMerges params bytes x worked.run.journal worked.merged) (sym failed.0) begun_in
+
+-- why workers didn't run an image
+module _ (workers : ℕ) (params : Parameters) (form : Form) (bytes : List ℕ) (image : Parts) (read : IsReadAs bytes image) (out out' : Stream)
+    (stays : Stays out out') (journal : List Entry) (none : journal ≡ []) where
+  pub work_refused : (c : Cause) → RanByWorkers workers image params form (Err c) → WorkAnswer workers params form bytes out out' c journal
+  work_refused (cause.Input (reason.LimitDoesNotFit number most)) why =
+      (read.accepted, subst (λ (p : Parts). IsTooMuch p params number most) read.same why, none, stays)
+  work_refused (cause.Input (reason.WorkersDoNotFit number most)) why =
+      (read.accepted, subst (λ (p : Parts). stamps_of p params ≤ MOST_STEPS) read.same why.0, subst (λ (p : Parts). AreTooMany p workers number most) read.same why.1, none, stays)
+  work_refused cause.NoMemory why = (none, stays)
+  work_refused _ why = absurd why
+
+  pub none_merged : (c : Cause) → RanByWorkers workers image params form (Err c) → (merged : ℕ) → merged ≡ 0 → WorkMerges params bytes c journal merged
+  none_merged (cause.Input fault) why merged zero = zero
+  none_merged cause.NoMemory why merged zero = zero
+  none_merged _ why merged zero = absurd why
 
 -- ---- replay
 

@@ -38,7 +38,7 @@ use Rattle.alw_cli.proofs.NoEvict.{some_end}
 use Rattle.alw_cli.specs.Runs.{IsFit, IsMade, IsRunBy, IsRunAgain, IsFirstIllegal, IsUnfinished, RanAgain, EndsTrace, IsToldOf}
 
 -- the run of a machine at an end
-made : (h : History) (e : Ended) (form : Form) (run : Run) → IsRun h → IsEnd h.image h.parameters h.journal e → IsToldOf h e form run → IsMade h.image h.parameters form run
+pub made : (h : History) (e : Ended) (form : Form) (run : Run) → IsRun h → IsEnd h.image h.parameters h.journal e → IsToldOf h e form run → IsMade h.image h.parameters form run
 made h e form run is end told = record {
   parameters_are = is.parameters;
   fits = is.fits;

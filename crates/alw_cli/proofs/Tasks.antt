@@ -19,6 +19,7 @@ use Rattle.alw_config.specs.declared.commands.AsmForm.{AsmForm}
 use Rattle.alw_config.specs.declared.commands.Form.{Form}
 use Rattle.alw_config.specs.declared.commands.Form.TheVariants.{Report}
 use Rattle.alw_config.specs.declared.commands.Command.{Command}
+use Rattle.alw_config.specs.declared.commands.How.TheVariants as hows
 use Rattle.alw_config.specs.declared.commands.Command.TheVariants as commands
 use Rattle.alw_cli.specs.declared.answers.Cause.{Cause}
 use Rattle.alw_cli.specs.declared.answers.Cause.TheVariants as cause
@@ -26,7 +27,8 @@ use Rattle.alw_cli.specs.declared.answers.InputErr.TheVariants as reason
 use Rattle.alw_cli.specs.Streams.{Stream, Stays, HadNoFault}
 use Rattle.alw_cli.specs.Tasks.{Task}
 use Rattle.alw_cli.specs.Assembling.{AsmAnswer, asm_task}
-use Rattle.alw_cli.specs.Running.{seed_of, RunAnswer, run_task}
+use Rattle.alw_cli.specs.Running.{RunAnswer, run_task}
+use Rattle.alw_cli.specs.Working.{WorkAnswer, work_task}
 use Rattle.alw_cli.specs.Replaying.{Spells, ReplayAnswer, IsFinishedTrace, IsFinishedText, replay_task}
 use Rattle.alw_cli.specs.Auditing.{SpellsClaim, AuditAnswer, IsSoundText, audit_task}
 use Rattle.alw_cli.specs.Making.{Asked, GenAnswer, gen_task}
@@ -100,6 +102,35 @@ run_kept seed params form = record {
   wanting = λ bytes out out' journal answer. answer;
   wants = λ bytes journal merged merges. merges;
   complete = λ bytes out out' c journal answer accepted quiet. run_complete seed params form bytes out out' journal c answer accepted quiet;
+}
+
+-- ---- run with workers
+
+module _ (workers : ℕ) (params : Parameters) (form : Form) (bytes : List ℕ) (out out' : Stream) (journal : List Entry) where
+  work_inside : (c : Cause) → IsOutside c → WorkAnswer workers params form bytes out out' c journal → ⊥
+  work_inside (cause.Words e) outside answer = answer
+  work_inside (cause.Input reason.TooLong) outside answer = answer
+  work_inside cause.ReadFault outside answer = answer
+  work_inside _ outside answer = outside
+
+  work_complete : (c : Cause) → WorkAnswer workers params form bytes out out' c journal → (work_task workers params form).Accepts bytes → HadNoFault out out' →
+      IsTrue ((work_task workers params form).is_done c) ⊎ (c ≡ cause.NoMemory)
+  work_complete cause.Fine answer accepted quiet = inl refl
+  work_complete (cause.Trapped at) answer accepted quiet = inl refl
+  work_complete (cause.Limit event) answer accepted quiet = inl refl
+  work_complete cause.NoMemory answer accepted quiet = inr refl
+  work_complete cause.WriteFault answer accepted quiet = absurd (quiet answer.tells.told.text.1)
+  work_complete (cause.Input (reason.Image fault)) answer accepted quiet = absurd (let e : Some fault ≡ None = sym answer.0 ∙ accepted.accepted in cc)
+  work_complete (cause.Input (reason.LimitDoesNotFit number most)) answer accepted quiet = absurd (omega (arith, answer.1.above, accepted.fits))
+  work_complete (cause.Input (reason.WorkersDoNotFit number most)) answer accepted quiet = absurd (omega (arith, answer.2.above, accepted.few))
+  work_complete _ answer accepted quiet = absurd answer
+
+work_kept : (workers : ℕ) (params : Parameters) (form : Form) → IsKept (work_task workers params form)
+work_kept workers params form = record {
+  inside = λ bytes out out' c journal outside answer. work_inside workers params form bytes out out' journal c outside answer;
+  wanting = λ bytes out out' journal answer. answer;
+  wants = λ bytes journal merged merges. merges;
+  complete = λ bytes out out' c journal answer accepted quiet. work_complete workers params form bytes out out' journal c answer accepted quiet;
 }
 
 -- ---- the text of a trace or a claim isn't refused, and says one thing
@@ -243,7 +274,8 @@ route_kept = record {
 
 pub each_kept : (command : Command) → IsKept (task_of command)
 each_kept (commands.Asm form) = asm_kept form
-each_kept (commands.Run how params form) = run_kept (seed_of how) params form
+each_kept (commands.Run (hows.Seed n) params form) = run_kept n params form
+each_kept (commands.Run (hows.Workers n) params form) = work_kept n params form
 each_kept (commands.Replay form) = replay_kept form
 each_kept commands.Audit = audit_kept
 each_kept (commands.Gen seed width height size) = gen_kept (record { seed = seed; width = width; height = height; size = size })

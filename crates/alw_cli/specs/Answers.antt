@@ -5,6 +5,7 @@ use Rattle.alw_io.specs.Outside.{Rose}
 use Rattle.alw_msg.specs.declared.events.Entry.{Entry}
 use Rattle.alw_config.specs.declared.commands.Command.{Command}
 use Rattle.alw_config.specs.declared.commands.Command.TheVariants as commands
+use Rattle.alw_config.specs.declared.commands.How.TheVariants as hows
 use Rattle.alw_config.specs.Places.{IsCommand, IsRefusedAt}
 use Rattle.alw_cli.specs.declared.answers.Cause.{Cause}
 use Rattle.alw_cli.specs.declared.answers.Cause.TheVariants as cause
@@ -12,7 +13,8 @@ use Rattle.alw_cli.specs.declared.answers.InputErr.TheVariants as reason
 use Rattle.alw_cli.specs.Streams.{Stream, IsRead, IsTaken, IsInput, Stays, TookSome, TookTooMany, GainedPart, HadNoFault}
 use Rattle.alw_cli.specs.Tasks.{Task}
 use Rattle.alw_cli.specs.Assembling.{asm_task}
-use Rattle.alw_cli.specs.Running.{seed_of, run_task}
+use Rattle.alw_cli.specs.Running.{run_task}
+use Rattle.alw_cli.specs.Working.{work_task}
 use Rattle.alw_cli.specs.Replaying.{replay_task}
 use Rattle.alw_cli.specs.Auditing.{audit_task}
 use Rattle.alw_cli.specs.Making.{gen_task}
@@ -24,7 +26,8 @@ use Rattle.alw_cli.specs.Texts.{err_line}
 -- what each command is
 abbrev pub task_of : Command → Task
 task_of (commands.Asm form) = asm_task form
-task_of (commands.Run how params form) = run_task (seed_of how) params form
+task_of (commands.Run (hows.Seed n) params form) = run_task n params form
+task_of (commands.Run (hows.Workers n) params form) = work_task n params form
 task_of (commands.Replay form) = replay_task form
 task_of commands.Audit = audit_task
 task_of (commands.Gen seed width height size) = gen_task (record { seed = seed; width = width; height = height; size = size })

@@ -10,5 +10,6 @@ pub mod Running
 pub mod Replaying
 pub mod Auditing
 pub mod Routing
+pub mod Working
 pub mod Making
 pub mod Answers

@@ -11,8 +11,6 @@ use Rattle.alw_mesh.specs.Histories.{stamps_of}
 use Rattle.alw_mesh.specs.declared.errors.TheConstants.{MOST_STEPS}
 use Rattle.alw_sched.specs.Schedules.{IsSeededRun}
 use Rattle.alw_config.specs.declared.commands.Form.{Form}
-use Rattle.alw_config.specs.declared.commands.How.{How}
-use Rattle.alw_config.specs.declared.commands.How.TheVariants.{Seed}
 use Rattle.alw_cli.specs.declared.answers.Cause.{Cause}
 use Rattle.alw_cli.specs.declared.answers.Cause.TheVariants as cause
 use Rattle.alw_cli.specs.declared.answers.InputErr.TheVariants as reason
@@ -21,10 +19,6 @@ use Rattle.alw_cli.specs.Forms.{run_text}
 use Rattle.alw_cli.specs.Runs.{IsTooMuch}
 use Rattle.alw_cli.specs.Endings.{AnswersEnd}
 use Rattle.alw_cli.specs.Tasks.{Task, MergesNone}
-
--- the seed of a run
-abbrev pub seed_of : How → ℕ
-seed_of (Seed n) = n
 
 -- the headline, of a journal that was answered: it is a coherent run of an image that fits, and its text in the form that was asked for was written
 pub record IsTold (image : Parts) (parameters : Parameters) (form : Form) (journal : List Entry) (ended : Ended) (Written : List ℕ → Type 0) : Type 0 where

@@ -1,4 +1,4 @@
-ghost use Rattle.std.specs.Prelude.{◌≡◌, ◌≤◌, ◌+◌, ◌++◌, [], length};
+ghost use Rattle.std.specs.Prelude.{◌≡◌, ◌≤◌, ◌+◌, ◌++◌, [], length, codes};
 ghost use Rattle.std.specs.Fmt.{decimal};
 ghost use Rattle.alw_cli.specs.declared.answers.Cause.TheVariants.{Words, Input};
 ghost use Rattle.alw_cli.specs.Texts.{err_line, input_text, asm_text, asm_fault_text, image_text, image_fault_text, text_text, text_fault_text, input_refused, read_fault_line, write_fault_line, no_memory_line};
@@ -97,13 +97,22 @@ fn put_input(line: &mut ArrayString<96>, fault: &InputErr)
             line.push_str(" not legal");
         }
         InputErr::Unfinished => line.push_str("not finished"),
-        InputErr::LimitDoesNotFit(number, most) => {
-            line.push_str("limit ");
-            put_long(line, *number);
-            line.push_str(" above ");
-            put_long(line, *most);
-        }
+        InputErr::LimitDoesNotFit(number, most) => put_excess(line, "limit ", *number, *most),
+        InputErr::WorkersDoNotFit(number, most) => put_excess(line, "workers ", *number, *most),
     }
+}
+
+// A number that is above the most that it may be.
+fn put_excess(line: &mut ArrayString<96>, what: &str, number: u64, most: u64)
+    requires room { length line.old.bytes ≤ 24 }
+    requires short { length what.now ≤ 8 }
+    ensures text { line.new.bytes ≡ line.old.bytes ++ (what.now ++ (decimal number ++ (codes " above " ++ decimal most))) }
+    ensures few { length line.new.bytes ≤ 80 }
+{
+    line.push_str(what);
+    put_long(line, number);
+    line.push_str(" above ");
+    put_long(line, most);
 }
 
 // The fault of a source.

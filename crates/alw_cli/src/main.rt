@@ -14,8 +14,10 @@ mod routing;
 mod running;
 mod runs;
 mod top;
+mod working;
 
 use alw_io::{StdSink, StdSource};
+use alw_work::OpenGate;
 use std::alloc::Global;
 use std::env;
 use std::process::ExitCode;
@@ -32,6 +34,8 @@ fn words_of(rt: &(impl Env + AllocGlobal)) -> Option<Vec<String>> {
 
 #[cfg(test)]
 mod tests;
+#[cfg(test)]
+mod work_tests;
 
 fn main(rt: HostRuntime) -> ExitCode {
     let alloc: Global = rt.alloc();
@@ -41,6 +45,8 @@ fn main(rt: HostRuntime) -> ExitCode {
     let mut input = StdSource::new(rt.stdin());
     let mut out = StdSink::new(rt.stdout());
     let mut err = StdSink::new(rt.stderr());
-    let done = alewife(alloc, &words, &mut input, &mut out, &mut err);
+    let done = alewife(
+        &rt, alloc, &words, &mut input, &mut out, &mut err, &OpenGate,
+    );
     ExitCode::from(done.status)
 }

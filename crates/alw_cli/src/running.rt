@@ -1,11 +1,11 @@
 ghost use Rattle.std.specs.Prelude.{◌≡◌, ◌≤◌, length};
-ghost use Rattle.alw_cli.specs.Running.{seed_of, RunAnswer};
+ghost use Rattle.alw_cli.specs.Running.{RunAnswer};
 ghost use Rattle.alw_cli.specs.Runs.{Ran};
 ghost use Rattle.alw_cli.specs.Streams.{stream_of};
 
 use crate::answers::{Cause, Done, InputErr, MOST_INPUT};
 use crate::runs::{Run, told, write_run};
-use alw_config::{Form, How};
+use alw_config::Form;
 use alw_image::{Image, ImageErr, Params, read_image};
 use alw_io::Sink;
 use alw_mesh::{FitErr, Machine};
@@ -15,14 +15,14 @@ use std::alloc::Global;
 /// Runs the image that bytes spell, and writes it in the form that is asked for.
 pub fn run_bytes<K: Sink>(
     alloc: Global,
-    how: How,
+    seed: u64,
     params: &Params,
     form: Form,
     bytes: &[u8],
     out: &mut K,
 ) -> Done
     requires few { length bytes.now ≤ MOST_INPUT }
-    ensures answer { RunAnswer (seed_of how) params.now form bytes.now (stream_of (K.held out.old) (K.faults out.old)) (stream_of (K.held out.new) (K.faults out.new)) result.cause result.journal }
+    ensures answer { RunAnswer seed params.now form bytes.now (stream_of (K.held out.old) (K.faults out.old)) (stream_of (K.held out.new) (K.faults out.new)) result.cause result.journal }
     ensures out_count { K.faults out.old ≤ K.faults out.new }
     ensures merged { result.merged ≡ 0 }
 {
@@ -31,7 +31,7 @@ pub fn run_bytes<K: Sink>(
         Err(ImageErr::NoMemory) => return Done::without(alloc, Cause::NoMemory),
         Err(fault) => return Done::without(alloc, Cause::Input(InputErr::Image(fault))),
     };
-    match run_image(alloc, &image, params, seed_of(how), form) {
+    match run_image(alloc, &image, params, seed, form) {
         Ok(run) => write_run(run, out),
         Err(FitErr::NoMemory) => Done::without(alloc, Cause::NoMemory),
         Err(FitErr::DoesNotFit { number, most }) => {
@@ -54,13 +54,4 @@ fn run_image(
     let mut machine = Machine::start(alloc, image, params)?;
     let ended = finish(&mut machine, seed)?;
     Ok(told(alloc, machine, ended, form)?)
-}
-
-// The seed of a run.
-fn seed_of(how: How) -> u64
-    ensures { result ≡ seed_of how }
-{
-    match how {
-        How::Seed(seed) => seed,
-    }
 }

@@ -8,9 +8,12 @@ use alw_model::TrapAt;
 use alw_msg::{Entry, Event};
 use alw_num::NodeNo;
 use alw_trace::TextErr;
+use alw_work::OpenGate;
 use sparc_asm::AsmErr;
 use std::alloc::Global;
+use std::sync::Wait;
 use std::test::Fail;
+use std::thread::Threads;
 
 // One node, one context, one word: `ta 0`.
 const SMALLEST: [u8; 40] = [
@@ -35,8 +38,12 @@ const STORE_AND_LOAD_REPORT: &str =
     "ALEWIFE REPORT 1\nmesh 1 1 contexts 1 lines 1\nparams pointers 4 sets 256 limit 32768\nended halted\nentries 10 turns 7 misses 1 evicts 0\nmessages RREQ 0 WREQ 1 REPM 0 UPDATE 0 ACKC 0 RDATA 0 WDATA 1 INV 0 BUSY 0\nhops 0 handlers 0 spills 0\nruns 1\n0 7\nprints 1\n0 0x00000005\nmemory 1\n0x40000000 0x00000005\ndirectory 1\n0 RW normal hw 0 sw - acks 0\nend\n";
 
 // Four nodes count to 100 each, behind a lock in another line.
-const LOCK: &[u8] =
+pub(crate) const LOCK: &[u8] =
     b".mesh 2,2\nset 0x40000000,%g1\nset 0x40000010,%g2\nmov 100,%g3\nlock: ldstub [%g1],%g4\ntst %g4\nbne lock\nnop\nld [%g2],%g5\nadd %g5,1,%g5\nst %g5,[%g2]\nstb %g0,[%g1]\nsubcc %g3,1,%g3\nbne lock\nnop\nta 0\n";
+
+// Two nodes: each stores 1 into a word of its own, and then prints the other's.
+const CROSSING: &[u8] =
+    b".mesh 2,1\nset 0x40000000,%g1\nset 0x40000010,%g2\nmov 1,%g3\ntst %o0\nbne other\nnop\nst %g3,[%g1]\nld [%g2],%o0\nta 1\nta 0\nother: st %g3,[%g2]\nld [%g1],%o0\nta 1\nta 0\n";
 
 // The smallest image with another word in place of its halt.
 fn with_word(word: [u8; 4]) -> [u8; 40] {
@@ -51,14 +58,19 @@ fn with_word(word: [u8; 4]) -> [u8; 40] {
 
 // What one call answered, and what it wrote.
 #[derive(Drop)]
-struct Answered {
-    done: Done,
-    out: MemSink,
-    err: MemSink,
+pub(crate) struct Answered {
+    pub(crate) done: Done,
+    pub(crate) out: MemSink,
+    pub(crate) err: MemSink,
 }
 
 // A call by these words, parted by blanks, on these bytes.
-fn call(alloc: Global, words: &str, bytes: &[u8]) -> Result<Answered, Fail> {
+pub(crate) fn call(
+    rt: &(impl Threads + Wait + Sync + AllocGlobal),
+    words: &str,
+    bytes: &[u8],
+) -> Result<Answered, Fail> {
+    let alloc = rt.alloc();
     let mut list = Vec::new(alloc);
     for word in words.split(' ') {
         if !word.is_empty() {
@@ -68,23 +80,23 @@ fn call(alloc: Global, words: &str, bytes: &[u8]) -> Result<Answered, Fail> {
     let mut input = MemSource::new(alloc, bytes, 4096, &[])?;
     let mut out = MemSink::new(alloc, 1_000_000, 4096, &[])?;
     let mut err = MemSink::new(alloc, 4096, 4096, &[])?;
-    let done = alewife(alloc, &list, &mut input, &mut out, &mut err);
+    let done = alewife(rt, alloc, &list, &mut input, &mut out, &mut err, &OpenGate);
     Ok(Answered { done, out, err })
 }
 
 // The answer, or want of memory.
-fn is_answer(answered: &Answered, status: u8, cause: Cause) -> bool {
+pub(crate) fn is_answer(answered: &Answered, status: u8, cause: Cause) -> bool {
     let done = &answered.done;
     done.cause == Cause::NoMemory || done.status == status && done.cause == cause
 }
 
 // The line on `err`, or want of memory.
-fn tells(answered: &Answered, line: &str) -> bool {
+pub(crate) fn tells(answered: &Answered, line: &str) -> bool {
     answered.done.cause == Cause::NoMemory || answered.err.bytes() == line.as_bytes()
 }
 
 // A text stands somewhere among bytes.
-fn holds(bytes: &[u8], text: &[u8]) -> bool {
+pub(crate) fn holds(bytes: &[u8], text: &[u8]) -> bool {
     for from in 0..bytes.len() {
         let (_, rest) = bytes.split_at(from);
         if rest.strip_prefix(text).is_some() {
@@ -96,7 +108,7 @@ fn holds(bytes: &[u8], text: &[u8]) -> bool {
 
 #[test]
 fn smallest(rt: HostRuntime) -> Result<(), Fail> {
-    let answered = call(rt.alloc(), "run", &SMALLEST)?;
+    let answered = call(&rt, "run", &SMALLEST)?;
     assert!(rt; is_answer(&answered, 0, Cause::Fine));
     if answered.done.status == 0 {
         assert_eq!(rt; answered.out.bytes(), SMALLEST_REPORT.as_bytes());
@@ -110,11 +122,10 @@ fn smallest(rt: HostRuntime) -> Result<(), Fail> {
 
 #[test]
 fn stores_and_loads(rt: HostRuntime) -> Result<(), Fail> {
-    let alloc = rt.alloc();
-    let image = call(alloc, "asm", STORE_AND_LOAD)?;
+    let image = call(&rt, "asm", STORE_AND_LOAD)?;
     assert!(rt; is_answer(&image, 0, Cause::Fine));
     for words in ["run", "run --seed 7", "run --seed 18446744073709551615"] {
-        let run = call(alloc, words, image.out.bytes())?;
+        let run = call(&rt, words, image.out.bytes())?;
         assert!(rt; is_answer(&run, 0, Cause::Fine));
         assert!(rt; run.done.status != 0 || run.out.bytes() == STORE_AND_LOAD_REPORT.as_bytes());
     }
@@ -123,8 +134,7 @@ fn stores_and_loads(rt: HostRuntime) -> Result<(), Fail> {
 
 #[test]
 fn lock_counts_every_turn(rt: HostRuntime) -> Result<(), Fail> {
-    let alloc = rt.alloc();
-    let image = call(alloc, "asm", LOCK)?;
+    let image = call(&rt, "asm", LOCK)?;
     assert!(rt; is_answer(&image, 0, Cause::Fine));
     let counted = "\nmemory 1\n0x40000010 0x00000190\ndirectory ";
     for words in [
@@ -133,11 +143,11 @@ fn lock_counts_every_turn(rt: HostRuntime) -> Result<(), Fail> {
         "run --limit 1048576 --seed 3",
         "run --limit 1048576 --seed 4",
     ] {
-        let run = call(alloc, words, image.out.bytes())?;
+        let run = call(&rt, words, image.out.bytes())?;
         assert!(rt; is_answer(&run, 0, Cause::Fine));
         assert!(rt; run.done.status != 0 || holds(run.out.bytes(), counted.as_bytes()));
     }
-    let first = call(alloc, "run --limit 10", image.out.bytes())?;
+    let first = call(&rt, "run --limit 10", image.out.bytes())?;
     if first.done.cause != Cause::NoMemory && first.done.journal.len() > 0 {
         let event = Event::Instr { node: NodeNo(3) };
         assert_eq!(rt; first.done.journal.at(0), Entry { stamp: 1, event });
@@ -145,9 +155,27 @@ fn lock_counts_every_turn(rt: HostRuntime) -> Result<(), Fail> {
     Ok(())
 }
 
+// On one memory, whatever the order of turns, one of the two words that are printed is 1.
+#[test]
+fn stores_that_cross_loads(rt: HostRuntime) -> Result<(), Fail> {
+    let image = call(&rt, "asm", CROSSING)?;
+    for seed in 1..65_u32 {
+        let words = format!(in rt.alloc(); "run --seed {seed}")?;
+        let run = call(&rt, &words, image.out.bytes())?;
+        assert!(rt; is_answer(&run, 0, Cause::Fine));
+        if run.done.status == 0 {
+            let report = run.out.bytes();
+            assert!(rt; holds(report, b"\nprints 2\n"));
+            assert!(rt; !holds(report, b"\n0 0x00000000\n1 0x00000000\nmemory "));
+            assert!(rt; !holds(report, b"\n1 0x00000000\n0 0x00000000\nmemory "));
+        }
+    }
+    Ok(())
+}
+
 #[test]
 fn refused_images(rt: HostRuntime) -> Result<(), Fail> {
-    let wide = call(rt.alloc(), "run --limit 131073", &WIDE)?;
+    let wide = call(&rt, "run --limit 131073", &WIDE)?;
     let fault = InputErr::LimitDoesNotFit(8_388_672, 8_388_608);
     assert!(rt; is_answer(&wide, 3, Cause::Input(fault)));
     assert!(rt;
@@ -156,9 +184,9 @@ fn refused_images(rt: HostRuntime) -> Result<(), Fail> {
             "alewife: input refused: limit 8388672 above 8388608\n"
         )
     );
-    let fits = call(rt.alloc(), "run --limit 131072", &WIDE)?;
+    let fits = call(&rt, "run --limit 131072", &WIDE)?;
     assert!(rt; is_answer(&fits, 0, Cause::Fine));
-    let none = call(rt.alloc(), "run", &[])?;
+    let none = call(&rt, "run", &[])?;
     assert!(rt;
         is_answer(
             &none,
@@ -179,11 +207,11 @@ fn refused_words(rt: HostRuntime) -> Result<(), Fail> {
         ("run --seed", 2),
         ("run --seed 01", 2),
     ] {
-        let refused = call(rt.alloc(), words, &SMALLEST)?;
+        let refused = call(&rt, words, &SMALLEST)?;
         assert!(rt; is_answer(&refused, 2, Cause::Words(WordErr { at })));
         assert_eq!(rt; refused.out.bytes().len(), 0);
     }
-    let none = call(rt.alloc(), "", &[])?;
+    let none = call(&rt, "", &[])?;
     assert!(rt; tells(&none, "alewife: word 0 refused\n"));
     Ok(())
 }
@@ -191,7 +219,7 @@ fn refused_words(rt: HostRuntime) -> Result<(), Fail> {
 #[test]
 fn traps(rt: HostRuntime) -> Result<(), Fail> {
     // a `nop` alone: the second turn finds no word
-    let past = call(rt.alloc(), "run", &with_word([1, 0, 0, 0]))?;
+    let past = call(&rt, "run", &with_word([1, 0, 0, 0]))?;
     let at = TrapAt {
         entry: 1,
         node: 0,
@@ -200,7 +228,7 @@ fn traps(rt: HostRuntime) -> Result<(), Fail> {
         tt: 1,
     };
     assert!(rt; is_answer(&past, 4, Cause::Trapped(at)));
-    let illegal = call(rt.alloc(), "run", &with_word([0, 0, 0, 0]))?;
+    let illegal = call(&rt, "run", &with_word([0, 0, 0, 0]))?;
     let at = TrapAt {
         entry: 0,
         node: 0,
@@ -217,23 +245,23 @@ fn limit(rt: HostRuntime) -> Result<(), Fail> {
     // `ba,a .`
     let event = Event::Instr { node: NodeNo(0) };
     let image = with_word([0x30, 0x80, 0, 0]);
-    let ten = call(rt.alloc(), "run --limit 10", &image)?;
+    let ten = call(&rt, "run --limit 10", &image)?;
     assert!(rt; is_answer(&ten, 5, Cause::Limit(event)));
     assert!(rt; ten.done.cause == Cause::NoMemory || ten.done.journal.len() == 10);
-    let one = call(rt.alloc(), "run --limit 1", &image)?;
+    let one = call(&rt, "run --limit 1", &image)?;
     assert!(rt; is_answer(&one, 5, Cause::Limit(event)));
     Ok(())
 }
 
 #[test]
 fn assembles(rt: HostRuntime) -> Result<(), Fail> {
-    let image = call(rt.alloc(), "asm", b"ta 0\n")?;
+    let image = call(&rt, "asm", b"ta 0\n")?;
     assert!(rt; is_answer(&image, 0, Cause::Fine));
     assert!(rt; image.done.status != 0 || image.out.bytes() == SMALLEST.as_slice());
-    let listing = call(rt.alloc(), "asm --write listing", b"mov 7,%o0\n\nta 1\n")?;
+    let listing = call(&rt, "asm --write listing", b"mov 7,%o0\n\nta 1\n")?;
     let lines = b"00000000 90102007 1\n00000004 91d02001 3\n";
     assert!(rt; listing.done.status != 0 || listing.out.bytes() == lines.as_slice());
-    let wrong = call(rt.alloc(), "asm", b"ta 0\nadd %g1,5000,%g2\n")?;
+    let wrong = call(&rt, "asm", b"ta 0\nadd %g1,5000,%g2\n")?;
     assert!(rt;
         is_answer(
             &wrong,
@@ -252,12 +280,16 @@ fn faults_outside(rt: HostRuntime) -> Result<(), Fail> {
     let mut err = MemSink::new(alloc, 100, 100, &[])?;
     let mut input = MemSource::new(alloc, &SMALLEST, 1000, &[1])?;
     let mut out = MemSink::new(alloc, 1000, 1000, &[])?;
-    let read = alewife(alloc, &words, &mut input, &mut out, &mut err);
+    let read = alewife(
+        &rt, alloc, &words, &mut input, &mut out, &mut err, &OpenGate,
+    );
     assert_eq!(rt; read.cause, Cause::ReadFault);
     assert_eq!(rt; err.bytes(), b"alewife: read fault\n".as_slice());
     let mut input = MemSource::new(alloc, &SMALLEST, 1, &[])?;
     let mut out = MemSink::new(alloc, 1000, 16, &[2])?;
-    let written = alewife(alloc, &words, &mut input, &mut out, &mut err);
+    let written = alewife(
+        &rt, alloc, &words, &mut input, &mut out, &mut err, &OpenGate,
+    );
     if written.cause != Cause::NoMemory {
         assert_eq!(rt; written.status, 7);
         assert_eq!(rt; out.bytes(), b"ALEWIFE REPORT 1".as_slice());
@@ -345,10 +377,46 @@ fn a_trace_is_replayed(rt: HostRuntime) -> Result<(), Fail> {
         ("replay --write trace", trace.as_str()),
         ("replay --write claim", claim.as_str()),
     ] {
-        let again = call(alloc, words, trace.as_str().as_bytes())?;
+        let again = call(&rt, words, trace.as_str().as_bytes())?;
         assert!(rt; is_answer(&again, 0, Cause::Fine));
         assert!(rt; again.done.status != 0 || again.out.bytes() == text.as_bytes());
     }
+    Ok(())
+}
+
+// Entries of two nodes as a merge has them, by stamp and then by node.
+const MERGED: &str = "entries 21
+1 I 0
+1 I 1
+2 I 0
+2 I 1
+3 D 0 0
+4 D 0 0
+5 I 0
+6 D 1 0
+7 D 0 0
+8 D 0 0
+9 I 0
+9 D 0 1
+10 D 0 0
+10 I 1
+11 I 1
+12 D 0 1
+13 D 1 0
+14 D 0 0
+15 I 0
+16 I 0
+17 I 0
+end
+";
+
+#[test]
+fn merged_entries_are_replayed(rt: HostRuntime) -> Result<(), Fail> {
+    let trace = joined(rt.alloc(), TWO_WRITERS, MERGED)?;
+    let again = call(&rt, "replay", trace.as_str().as_bytes())?;
+    assert!(rt; is_answer(&again, 0, Cause::Fine));
+    let told = b"\nruns 5\n0 1\n1 1\n0 1\n1 2\n0 3\nprints 1\n0 0x00000001\n";
+    assert!(rt; again.done.status != 0 || holds(again.out.bytes(), told));
     Ok(())
 }
 
@@ -380,7 +448,7 @@ fn traces_that_are_refused(rt: HostRuntime) -> Result<(), Fail> {
         ),
     ] {
         let trace = joined(alloc, TWO_WRITERS, entries)?;
-        let refused = call(alloc, "replay", trace.as_str().as_bytes())?;
+        let refused = call(&rt, "replay", trace.as_str().as_bytes())?;
         assert!(rt; is_answer(&refused, 3, Cause::Input(fault)));
         assert!(rt; tells(&refused, line));
         assert_eq!(rt; refused.out.bytes().len(), 0);
@@ -392,7 +460,7 @@ fn traces_that_are_refused(rt: HostRuntime) -> Result<(), Fail> {
 fn claims_are_audited(rt: HostRuntime) -> Result<(), Fail> {
     let alloc = rt.alloc();
     let sound = joined(alloc, CLAIM, LISTS)?;
-    let audited = call(alloc, "audit", sound.as_str().as_bytes())?;
+    let audited = call(&rt, "audit", sound.as_str().as_bytes())?;
     assert!(rt; is_answer(&audited, 0, Cause::Fine));
     assert!(rt; audited.done.status != 0 || audited.out.bytes() == "sound\n".as_bytes());
     let turns = "runs 4\n1 1\n0 1\n1 2\n0 4\n";
@@ -420,7 +488,7 @@ fn claims_are_audited(rt: HostRuntime) -> Result<(), Fail> {
     ] {
         let claim = joined(alloc, CLAIM, turns)?;
         let claim = joined(alloc, claim.as_str(), lists)?;
-        let audited = call(alloc, "audit", claim.as_str().as_bytes())?;
+        let audited = call(&rt, "audit", claim.as_str().as_bytes())?;
         assert!(rt; is_answer(&audited, 9, cause));
         assert!(rt; audited.done.status != 9 || audited.out.bytes() == line.as_bytes());
     }
@@ -430,15 +498,14 @@ fn claims_are_audited(rt: HostRuntime) -> Result<(), Fail> {
 // A workload reads nothing, and its run is one whose trace is replayed and whose claim is sound.
 #[test]
 fn a_workload_goes_round(rt: HostRuntime) -> Result<(), Fail> {
-    let alloc = rt.alloc();
     let words = "gen --width 2 --height 1 --size 3 --seed 1";
-    let image = call(alloc, words, b"not read")?;
+    let image = call(&rt, words, b"not read")?;
     assert!(rt; is_answer(&image, 0, Cause::Fine));
-    let summary = call(alloc, "run --write summary", image.out.bytes())?;
-    let trace = call(alloc, "run --write trace", image.out.bytes())?;
-    let claim = call(alloc, "run --write claim", image.out.bytes())?;
-    let again = call(alloc, "replay --write summary", trace.out.bytes())?;
-    let audited = call(alloc, "audit", claim.out.bytes())?;
+    let summary = call(&rt, "run --write summary", image.out.bytes())?;
+    let trace = call(&rt, "run --write trace", image.out.bytes())?;
+    let claim = call(&rt, "run --write claim", image.out.bytes())?;
+    let again = call(&rt, "replay --write summary", trace.out.bytes())?;
+    let audited = call(&rt, "audit", claim.out.bytes())?;
     if audited.done.status == 0 && again.done.status == 0 {
         assert_eq!(rt; again.out.bytes(), summary.out.bytes());
         assert_eq!(rt; audited.out.bytes(), "sound\n".as_bytes());

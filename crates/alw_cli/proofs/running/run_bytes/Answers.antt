@@ -1,8 +1,6 @@
 -- The run of the image that was read, and its answer.
-use Rattle.std.proofs.Common.{ℕ, subst}
+use Rattle.std.proofs.Common.{subst}
 use Rattle.alw_image.specs.Images.{IsImage}
-use Rattle.alw_cli.specs.Runs.{IsRunBy}
-use Rattle.alw_cli.specs.Running.{seed_of}
 use Rattle.alw_cli.specs.Streams.{stream_of}
 use Rattle.alw_cli.proofs.Made.{run_answer}
 use Rattle.alw_cli.proofs.running.run_bytes.Goals as goal
@@ -12,10 +10,10 @@ returns-in-Ok-run_image-clause-answer g c =
     let before = stream_of (g.K.Sink.held c.args.out.now) (g.K.Sink.faults c.args.out.now) in
     let after = stream_of (g.K.Sink.held c.write_run.new.out) (g.K.Sink.faults c.write_run.new.out) in
     let run = c.in-Ok-run_image.run' in
-    rw c.write_run.ensures.journal (run_answer (seed_of c.args.how) c.args.params.now c.args.form c.args.bytes.now c.in-Ok.image (record {
+    rw c.write_run.ensures.journal (run_answer c.args.seed c.args.params.now c.args.form c.args.bytes.now c.in-Ok.image (record {
       same = c.in-Ok.ensures.parts;
       spelled = c.in-Ok.ensures.found;
       accepted = c.in-Ok.ensures.accepted;
       is = subst IsImage c.image.view_is c.image.invariant;
-    }) run (subst (λ (n : ℕ). IsRunBy n c.in-Ok.image c.args.params.now c.args.form run) c.seed_of.ensures c.in-Ok-run_image.ensures)
+    }) run c.in-Ok-run_image.ensures
     before after c.write_run.result.cause c.write_run.ensures.written)
