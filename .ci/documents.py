@@ -353,11 +353,13 @@ def check_names(findings, file, repository, folder):
 
 
 def is_there(path, folder):
-    """Whether a path is there, from the top, from crates/ or from the crate of a README, else from any crate; .antt may be left out."""
+    """Whether a path is there, from the top, from crates/ or from the crate of a README, else from any crate; .antt may be left out.
+    What a build makes, in a folder out, isn't there."""
     crates = ROOT / 'crates'
     own = [folder, folder / 'specs'] if folder.parent == crates else [*crates.iterdir()]
     bases = (ROOT, crates, *own)
-    return any(list(base.glob(path + end)) for base in bases for end in ('', '.antt'))
+    found = [file for base in bases for end in ('', '.antt') for file in base.glob(path + end)]
+    return any('out' not in file.relative_to(ROOT).parts for file in found)
 
 
 def is_name(span):
