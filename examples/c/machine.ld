@@ -1,0 +1,24 @@
+/* Code at 0, shared data at 0x40000000, and the stacks behind them. examples/c/build gives shared_end and contexts. */
+ENTRY(start)
+SECTIONS
+{
+    .text 0 : { KEEP(*(.text.start)) *(.text .text.*) . = ALIGN(4); }
+    . = 0x40000000;
+    .data : { *(.rodata .rodata.* .data .data.*) }
+    .bss : { *(.bss .bss.* COMMON) }
+    data_end = ALIGN(16);
+    stack_size = data_end < shared_end ? ((shared_end - data_end) / contexts) & ~15 : 0;
+    ASSERT(stack_size >= 256, "shared data have less than 256 bytes of stack for each context: give the nodes more lines")
+
+    /* Any section that isn't named here is refused: the image wouldn't have it. */
+    .debug_abbrev 0 : { *(.debug_abbrev) }
+    .debug_aranges 0 : { *(.debug_aranges) }
+    .debug_frame 0 : { *(.debug_frame) }
+    .debug_info 0 : { *(.debug_info) }
+    .debug_line 0 : { *(.debug_line) }
+    .debug_line_str 0 : { *(.debug_line_str) }
+    .debug_loclists 0 : { *(.debug_loclists) }
+    .debug_rnglists 0 : { *(.debug_rnglists) }
+    .debug_str 0 : { *(.debug_str) }
+    /DISCARD/ : { *(.comment) *(.note*) *(.eh_frame*) *(.gnu.attributes) *(.iplt) *(.rela.*) }
+}
