@@ -1,0 +1,239 @@
+"""The runs of a sweep: the numbers of its options, each run's summary as a row, and the file that rows are kept in."""
+import errno
+import fcntl
+import hashlib
+import itertools
+import math
+import os
+import re
+import subprocess
+from dataclasses import dataclass
+from pathlib import Path
+
+MOST = 1_000_000
+FORM = '''ALEWIFE REPORT 1
+mesh {width} {height} contexts {contexts} lines {lines}
+params pointers {pointers} sets {sets} limit {limit}
+ended {ended}
+entries {entries} turns {turns} misses {misses} evicts {evicts}
+messages RREQ {RREQ} WREQ {WREQ} REPM {REPM} UPDATE {UPDATE} ACKC {ACKC} RDATA {RDATA} WDATA {WDATA} INV {INV} BUSY {BUSY}
+hops {hops} handlers {handlers} spills {spills}
+'''
+SUMMARY = re.compile(re.sub(r'\{(\w+)\}', lambda name: rf'(?P<{name[1]}>{"[^,]+" if name[1] == "ended" else "[0-9]+"})', FORM))
+OPTIONS = ('seed', 'pointers', 'sets', 'limit', 'evict')
+KEY = ('image', *OPTIONS)
+COUNTS = tuple(re.findall(r'\{(\w+)\}', FORM.partition('ended')[2]))
+COLUMNS = ('image', 'width', 'height', 'contexts', 'lines', *OPTIONS, *COUNTS)
+
+
+class SweepError(Exception):
+    """Why there is no sweep, in a line."""
+
+
+# ---- what is run
+
+
+def numbers(text):
+    """The numbers of a list as 0-9,16: each part is a number or a range with both its ends, and no number comes twice."""
+    found = []
+    for part in text.split(','):
+        match = re.fullmatch(r'([0-9]+)(?:-([0-9]+))?', part)
+        if not match:
+            raise SweepError(f'{text} is no list of numbers and ranges, as 0-9,16')
+        first, last = int(match[1]), int(match[2] or match[1])
+        if not 0 <= last - first < MOST - len(found):
+            raise SweepError(f'{part} ends before it begins, or there are more than {MOST} numbers')
+        found += range(first, last + 1)
+    if len(set(found)) < len(found):
+        raise SweepError(f'{text} has a number twice')
+    return found
+
+
+@dataclass(frozen=True)
+class Image:
+    """An image, and the first 16 digits of its SHA-256, by which rows name it."""
+    data: bytes
+    digest: str
+
+
+def read_image(path):
+    """The image in a file."""
+    data = read(path)
+    return Image(data, hashlib.sha256(data).hexdigest()[:16])
+
+
+def read(path):
+    """The bytes of a file."""
+    try:
+        return Path(path).read_bytes()
+    except OSError as fault:
+        raise SweepError(f"can't read {path}: {fault.strerror}") from fault
+
+
+def runs_of(lists, part, parts):
+    """The runs of a part, each as its options: all combinations in order, of which part i has the i-th and each parts-th behind it."""
+    count = math.prod(len(each) for each in lists.values())
+    if count > MOST:
+        raise SweepError(f'{count} runs, and a sweep has at most {MOST}')
+    order = [name for name in OPTIONS if name != 'seed'] + ['seed']
+    for chosen in itertools.islice(itertools.product(*(lists[name] for name in order)), part - 1, None, parts):
+        yield {name: str(value) for name, value in zip(order, chosen)}
+
+
+def row_of(binary, image, options):
+    """Runs an image: its row, by the program's summary."""
+    words = ['run', *(word for name in OPTIONS for word in (f'--{name}', options[name])), '--write', 'summary']
+    try:
+        ran = subprocess.run([binary, *words], input=image.data, stdout=subprocess.PIPE, stderr=subprocess.PIPE)
+    except OSError as fault:
+        raise SweepError(f"{binary} can't be run: {fault.strerror}. Name the program, or build it: ./alewife --help") from fault
+    match = SUMMARY.fullmatch(ran.stdout.decode(errors='replace'))
+    if ran.returncode not in (0, 4, 5) or not match:
+        why = ran.stderr.decode(errors='replace').strip() or 'what it wrote is no summary'
+        raise SweepError(f'refused: {" ".join(words)}: status {ran.returncode}, {why}')
+    return {'image': image.digest, **options, **match.groupdict()}
+
+
+# ---- rows in files
+
+
+def key_of(row):
+    """What tells a run from all others."""
+    return tuple(row[name] for name in KEY)
+
+
+def line_of(values):
+    """A line of a table. No value has a comma."""
+    return ','.join(values) + '\n'
+
+
+def read_rows(path, text):
+    """The columns of a table of rows, and its rows, each with its line's number."""
+    lines = text.splitlines(keepends=True) or ['']
+    columns = lines[0].strip().split(',')
+    if not set(KEY) <= set(columns):
+        raise SweepError(f'{path}: the first line is no header of a sweep')
+    rows = []
+    for number, line in enumerate(lines[1:], 2):
+        values = line[:-1].split(',')
+        row = dict(zip(columns, values))
+        if not line.endswith('\n') or len(values) != len(columns) or not all(row[name].isdecimal() for name in OPTIONS):
+            raise SweepError(f'{path}: line {number} is no whole row')
+        rows.append((number, row))
+    return columns, rows
+
+
+def keys_in(path, text, image, wanted):
+    """The keys of the rows that a file of this sweep has. Refuses a file of another one."""
+    columns, rows = read_rows(path, text)
+    if tuple(columns) != COLUMNS:
+        raise SweepError(f'{path} has other columns')
+    for number, row in rows:
+        if row['image'] != image.digest or key_of(row) not in wanted:
+            raise SweepError(f'{path} is there with other runs (line {number}): name another file, or remove it')
+    return {key_of(row) for _, row in rows}
+
+
+class Sheet:
+    """The rows of a sweep as they come, in PATH.partial, which gets the name PATH when all are there."""
+
+    def __init__(self, path):
+        """Opens the file, for this sweep alone, and cuts off a row that isn't whole."""
+        self.path, self.partial = Path(path), Path(f'{path}.partial')
+        try:
+            self.file = os.open(self.partial, os.O_RDWR | os.O_CREAT, 0o644)
+            self.lock()
+            with open(self.file, 'rb', closefd=False) as rows:
+                data = rows.read()
+            self.size = data.rfind(b'\n') + 1
+            os.truncate(self.file, self.size)
+            os.lseek(self.file, self.size, os.SEEK_SET)
+        except OSError as fault:
+            raise SweepError(f"can't write {self.partial}: {fault.strerror}") from fault
+        self.text = data[:self.size].decode(errors='replace') or line_of(COLUMNS)
+        if not self.size:
+            self.add(COLUMNS)
+
+    def __enter__(self):
+        return self
+
+    def __exit__(self, *_):
+        """Closes the file. One without rows isn't left behind."""
+        if self.size == len(line_of(COLUMNS)):
+            self.partial.unlink(missing_ok=True)
+        os.close(self.file)
+
+    def lock(self):
+        """Refuses a second sweep on the same file, where the file system has locks."""
+        try:
+            fcntl.flock(self.file, fcntl.LOCK_EX | fcntl.LOCK_NB)
+        except BlockingIOError as fault:
+            raise SweepError(f'another sweep writes {self.partial}') from fault
+        except OSError:
+            pass
+
+    def add(self, values):
+        """Adds a row whole, or not at all."""
+        line = line_of(values).encode()
+        try:
+            if os.write(self.file, line) < len(line):
+                raise OSError(errno.ENOSPC, os.strerror(errno.ENOSPC))
+        except OSError as fault:
+            os.truncate(self.file, self.size)
+            raise SweepError(f"can't write {self.partial}: {fault.strerror}") from fault
+        self.size += len(line)
+
+    def finish(self):
+        """All rows are there."""
+        try:
+            os.fsync(self.file)
+            os.replace(self.partial, self.path)
+        except OSError as fault:
+            raise SweepError(f"can't write {self.path}: {fault.strerror}") from fault
+
+
+def sweep(path, binary, image, runs):
+    """Runs what isn't in the file yet: how many runs that were, and how many there are."""
+    wanted = {(image.digest, *(run[name] for name in OPTIONS)): run for run in runs}
+    if Path(path).exists():
+        if len(keys_in(path, read(path).decode(errors='replace'), image, wanted)) < len(wanted):
+            raise SweepError(f'{path} is there with fewer runs: name another file, and gather both')
+        return 0, len(wanted)
+    with Sheet(path) as sheet:
+        done = keys_in(sheet.partial, sheet.text, image, wanted)
+        for key in (key for key in wanted if key not in done):
+            row = row_of(binary, image, wanted[key])
+            sheet.add(row[name] for name in COLUMNS)
+        sheet.finish()
+    return len(wanted) - len(done), len(wanted)
+
+
+# ---- parts
+
+
+def write_whole(path, text):
+    """Writes a file whole, or not at all."""
+    scratch = Path(f'{path}.{os.getpid()}')
+    try:
+        scratch.write_text(text)
+        os.replace(scratch, path)
+    except OSError as fault:
+        scratch.unlink(missing_ok=True)
+        raise SweepError(f"can't write {path}: {fault.strerror}") from fault
+
+
+def gather(parts):
+    """The columns and rows of all parts, in order, each run once. Refuses other columns, and two rows that differ on one run."""
+    first, found = None, {}
+    for path in parts:
+        columns, rows = read_rows(path, read(path).decode(errors='replace'))
+        first = first or columns
+        if columns != first:
+            raise SweepError(f'{path} and {parts[0]} have different headers')
+        for number, row in rows:
+            place, other = found.setdefault(key_of(row), (f'{path}: line {number}', row))
+            if other != row:
+                raise SweepError(f'{path}: line {number} and {place} differ on one run')
+    order = ('image', 'pointers', 'sets', 'limit', 'evict', 'seed')
+    rows = [row for _, row in found.values()]
+    return first, sorted(rows, key=lambda row: [row[name].zfill(20) for name in order])
