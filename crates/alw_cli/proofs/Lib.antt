@@ -8,3 +8,4 @@ mod NoEvict
 mod Again
 mod Trapped
 mod Begun
+mod FoundSound

@@ -139,7 +139,7 @@ trace_read : (bytes : List ℕ) (t : Trace) (fault : TextErr) → Spells bytes t
 trace_read bytes t fault spells refused =
     read_back t fault spells.is spells.types (subst (λ (bs : List ℕ). ReadsTrace bs (Err fault)) spells.text refused)
 
-claim_read : (bytes : List ℕ) (c : Claim) (fault : TextErr) → SpellsClaim bytes c → ReadsClaim bytes (Err fault) → fault ≡ text.NoMemory
+pub claim_read : (bytes : List ℕ) (c : Claim) (fault : TextErr) → SpellsClaim bytes c → ReadsClaim bytes (Err fault) → fault ≡ text.NoMemory
 claim_read bytes c fault spells refused =
     claim_back c fault spells.is spells.types (subst (λ (bs : List ℕ). ReadsClaim bs (Err fault)) spells.text refused)
 
@@ -149,7 +149,7 @@ one_spelled bytes one other is are = same_trace one other is.is are.is is.types 
 finished_so : (bytes : List ℕ) (other : Trace) → IsFinishedText bytes → Spells bytes other → IsFinishedTrace other
 finished_so bytes other accepted spells = subst IsFinishedTrace (one_spelled bytes accepted.trace other accepted.spelled spells) accepted.holds
 
-sound_so : (bytes : List ℕ) (other : Claim) → IsSoundText bytes → SpellsClaim bytes other → IsSound other
+pub sound_so : (bytes : List ℕ) (other : Claim) → IsSoundText bytes → SpellsClaim bytes other → IsSound other
 sound_so bytes other accepted spells =
     let mine = accepted.spelled in
     subst IsSound (same_claim accepted.claim other mine.is spells.is mine.types spells.types (sym mine.text ∙ spells.text)) accepted.sound
@@ -192,7 +192,7 @@ replay_kept form = record {
 
 -- ---- audit
 
-differs_unsound : (place : Place) (claimed real : ℕ) → verdict.Differs place claimed real ≡ verdict.Sound → ⊥
+pub differs_unsound : (place : Place) (claimed real : ℕ) → verdict.Differs place claimed real ≡ verdict.Sound → ⊥
 differs_unsound place claimed real same = absurd cc
 
 module _ (bytes : List ℕ) (out out' : Stream) (journal : List Entry) where

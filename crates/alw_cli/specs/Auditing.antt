@@ -71,6 +71,13 @@ AuditAnswer bytes out out' (cause.Input (reason.Text fault)) journal =
 AuditAnswer bytes out out' cause.NoMemory journal = (journal ≡ []) × Stays out out'
 AuditAnswer bytes out out' _ journal = ⊥
 
+-- what is answered to a claim that is sound: that it is, or that a write failed meanwhile, or that memory was refused
+abbrev pub FindsSound : Stream → Stream → Cause → Type 0
+FindsSound out out' cause.Fine = Gained out out' sound_line
+FindsSound out out' cause.WriteFault = GainedPart out out' sound_line
+FindsSound out out' cause.NoMemory = Stays out out'
+FindsSound out out' _ = ⊥
+
 -- the claim is sound
 abbrev pub is_sound : Cause → Bool
 is_sound cause.Fine = true

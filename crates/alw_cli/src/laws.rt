@@ -6,6 +6,8 @@ ghost use Rattle.alw_model.specs.declared.ends.Ended.{Ended};
 ghost use Rattle.alw_trace.specs.Texts.{trace_text};
 ghost use Rattle.alw_config.specs.declared.commands.Form.TheVariants as forms;
 ghost use Rattle.alw_cli.specs.declared.answers.Cause.{Cause};
+ghost use Rattle.alw_cli.specs.Auditing.{AuditAnswer, FindsSound, IsSoundText};
+ghost use Rattle.alw_cli.specs.Forms.{run_text};
 ghost use Rattle.alw_cli.specs.Streams.{Stream};
 ghost use Rattle.alw_cli.specs.Running.{is_run};
 ghost use Rattle.alw_cli.specs.Replaying.{IsFinishedText, IsRunThatFits, ReplayAnswer, ReportsTheSame, trace_of};
@@ -20,4 +22,15 @@ pub fn traces_report_the_same()
         (out : Stream) → (after : Stream) → (answered : Cause) → (again : List Entry) → IsTrue (is_run answered) →
         ReplayAnswer forms.Report (trace_text (trace_of image parameters journal)) out after answered again →
         ReportsTheSame image parameters journal ended out after answered again }
+{}
+
+/// What a run claims is found sound. The claim that `run` or `replay` writes of a run of an image that fits
+/// is a claim's one text, with at most 8,388,608 turns, and an audit of it that is carried out answers
+/// `sound`: it names no difference, and refuses nothing but for want of memory.
+pub fn claims_are_found_sound()
+    ensures accepted { (image : Parts) → (parameters : Parameters) → (journal : List Entry) → (ended : Ended) → IsRunThatFits image parameters journal ended →
+        IsSoundText (run_text forms.Claim image parameters journal ended) }
+    ensures sound { (image : Parts) → (parameters : Parameters) → (journal : List Entry) → (ended : Ended) → IsRunThatFits image parameters journal ended →
+        (out : Stream) → (after : Stream) → (answered : Cause) → (again : List Entry) →
+        AuditAnswer (run_text forms.Claim image parameters journal ended) out after answered again → FindsSound out after answered }
 {}
