@@ -1,5 +1,5 @@
 -- How what a command answers is an answer of the program.
-use Rattle.std.proofs.Common.{◌≡◌, ◌≤◌, ℕ, Bool, true, false, List, [], Option, None, Ok, sym, ap, subst, ◌∙◌}
+use Rattle.std.proofs.Common.{◌≡◌, ℕ, Bool, true, false, List, [], Option, Ok, sym, subst, ◌∙◌}
 use Rattle.std.proofs.lemmas.Bool.{true≢false}
 use Rattle.alw_io.specs.Outside.{Took}
 use Rattle.alw_msg.specs.declared.events.Entry.{Entry}

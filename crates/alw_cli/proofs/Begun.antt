@@ -1,5 +1,5 @@
 -- A run that workers began, and the schedule of seed 0 took to an end.
-use Rattle.std.proofs.Common.{◌≡◌, ℕ, ◌<◌, ◌≤◌, Bool, true, false, cond, List, [], ◌∷◌, ◌++◌, map, flat_map, length, take, refl, sym, ap, subst, ◌∙◌, arith, suc}
+use Rattle.std.proofs.Common.{◌≡◌, ℕ, ◌<◌, ◌≤◌, Bool, true, false, cond, List, [], ◌∷◌, ◌++◌, map, length, take, refl, sym, ap, subst, ◌∙◌, arith, suc}
 use Rattle.std.specs.Prelude.{Err}
 use Rattle.std.specs.List.{AllByRecursion}
 use Rattle.std.proofs.lemmas.Bool.{true≢false}
@@ -14,13 +14,13 @@ use Rattle.alw_model.specs.NodeStates.{NodeState, node_start}
 use Rattle.alw_model.specs.NodeSteps.{node_step}
 use Rattle.alw_model.specs.Machine.{state, node_at, any_trapped, IsLegal}
 use Rattle.alw_model.specs.Threads.{Logged, Logs, log_at, node_after, IsRunFrom, is_before, placed, in_order, merged}
-use Rattle.alw_order.specs.Merges.{AreLocalRuns, entries_of}
+use Rattle.alw_order.specs.Merges.{entries_of}
 use Rattle.alw_order.specs.Orders.{Ascends}
 use Rattle.alw_order.proofs.Merging.{merged_legal, merged_ascends, merged_nodes}
 use Rattle.alw_cells.specs.Cells.{IsSpent}
 use Rattle.alw_tally.specs.Remaining.{trapped_in}
 use Rattle.alw_work.specs.Works.{holds_trap}
-use Rattle.alw_mesh.specs.Histories.{History, begun}
+use Rattle.alw_mesh.specs.Histories.{History}
 use Rattle.alw_mesh.specs.declared.errors.FitErr.{FitErr}
 use Rattle.alw_mesh.specs.declared.errors.FitErr.TheVariants as fits
 use Rattle.alw_merge.specs.Replays.{IsReplayed, Replays}

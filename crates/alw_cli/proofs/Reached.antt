@@ -1,10 +1,10 @@
 -- A run that was made: a machine at an end, which a seed has taken there from the start of an image, or which took the entries of a trace.
-use Rattle.std.proofs.Common.{◌≡◌, ℕ, zero, suc, ◌<◌, ◌≤◌, List, length, take, sym, ap, subst, ◌∙◌, arith}
+use Rattle.std.proofs.Common.{◌≡◌, ℕ, suc, ◌<◌, ◌≤◌, List, length, sym, ap, subst, ◌∙◌, arith}
 use Rattle.std.specs.Prelude.{None, Ok, Err}
 use Rattle.std.proofs.lemmas.List.{take_all}
 use Rattle.alw_msg.specs.declared.events.Entry.{Entry}
 use Rattle.alw_image.specs.declared.parts.Parts.{Parts}
-use Rattle.alw_image.specs.Parameters.{Parameters, AreParameters}
+use Rattle.alw_image.specs.Parameters.{Parameters}
 use Rattle.alw_model.specs.declared.ends.Ended.{Ended}
 use Rattle.alw_model.specs.Machine.{IsLegal, end_of}
 use Rattle.alw_model.specs.Runs.{turns_of, prints_of}

@@ -1,9 +1,8 @@
 -- What each command keeps, whatever it does.
-use Rattle.std.proofs.Common.{◌≡◌, ◌<◌, ◌≤◌, arith, ℕ, suc, List, [], take, Some, None, refl, sym, ◌∙◌, ◌⊎◌, inl, inr, ⊎_elim, subst, IsTrue}
+use Rattle.std.proofs.Common.{◌≡◌, arith, ℕ, suc, List, [], Some, None, refl, sym, ◌∙◌, ◌⊎◌, inl, inr, subst, IsTrue}
 use Rattle.std.specs.Prelude.{Err}
 use Rattle.alw_msg.specs.declared.events.Entry.{Entry}
 use Rattle.alw_image.specs.Parameters.{Parameters}
-use Rattle.alw_model.specs.Machine.{IsLegal}
 use Rattle.alw_model.proofs.Journals.{legal_take}
 use Rattle.alw_trace.specs.declared.values.Trace.{Trace}
 use Rattle.alw_trace.specs.declared.values.Claim.{Claim}

@@ -1,5 +1,5 @@
 -- A log that holds a trapping turn leaves its node with a trapped context.
-use Rattle.std.proofs.Common.{◌≡◌, ℕ, ◌+◌, ◌≤◌, ◌<◌, Bool, true, false, ◌||◌, ◌&&◌, ◌==◌, nat_lt, not, Option, List, [], ◌∷◌, length, refl, sym, ap, subst, ◌∙◌, arith, ◌^◌, ◌-◌}
+use Rattle.std.proofs.Common.{◌≡◌, ℕ, ◌≤◌, ◌<◌, Bool, true, false, ◌||◌, ◌==◌, nat_lt, not, Option, List, [], ◌∷◌, length, refl, sym, ap, ◌∙◌, arith, ◌^◌, ◌-◌}
 use Rattle.std.proofs.lemmas.Bool.{true≢false, ne_eqb}
 use Rattle.sparc_table.specs.declared.outcomes.Outcome.TheVariants.{Trap}
 use Rattle.alw_msg.specs.declared.messages.Msg.{Msg}
@@ -13,9 +13,9 @@ use Rattle.alw_image.specs.Images.{node_count}
 use Rattle.alw_image.specs.Parameters.{Parameters}
 use Rattle.alw_model.specs.declared.steps.Did.{Did}
 use Rattle.alw_model.specs.declared.steps.Did.TheVariants.{Turn}
-use Rattle.alw_model.specs.NodeStates.{NodeState, node_start, stamp_of, may, is_enabled_at}
+use Rattle.alw_model.specs.NodeStates.{NodeState, stamp_of, may, is_enabled_at}
 use Rattle.alw_model.specs.NodeSteps.{handle_by, handle_front, node_step}
-use Rattle.alw_model.specs.Machine.{MachineState, no_node, node_at, any_trapped, state, IsLegal}
+use Rattle.alw_model.specs.Machine.{no_node, node_at, any_trapped, state, IsLegal}
 use Rattle.alw_model.specs.Threads.{Logged, IsRunFrom, node_after}
 use Rattle.alw_model.proofs.Journals.{and_parts}
 use Rattle.alw_order.proofs.Reached.{state_aimed}

@@ -1,6 +1,5 @@
 -- A run that was made: by the schedule of a seed, or from a trace.
 use Rattle.std.specs.Prelude.{◌≡◌, ℕ, suc, ◌<◌, ◌≤◌, ◌⊎◌, None, List, length, take, Result, Ok, Err}
-use Rattle.alw_msg.specs.declared.events.Entry.{Entry}
 use Rattle.alw_image.specs.declared.parts.Parts.{Parts}
 use Rattle.alw_image.specs.Parameters.{Parameters, AreParameters}
 use Rattle.alw_model.specs.declared.ends.Ended.{Ended}

@@ -36,6 +36,8 @@ fn words_of(rt: &(impl Env + AllocGlobal)) -> Option<Vec<String>> {
 mod tests;
 #[cfg(test)]
 mod work_tests;
+#[cfg(test)]
+mod worked_tests;
 
 fn main(rt: HostRuntime) -> ExitCode {
     let alloc: Global = rt.alloc();

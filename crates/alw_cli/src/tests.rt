@@ -299,7 +299,7 @@ fn faults_outside(rt: HostRuntime) -> Result<(), Fail> {
 
 // Two nodes store their second and first argument at one address; the first loads and prints it. The trace is
 // one of an independent program.
-const TWO_WRITERS: &str = "ALEWIFE TRACE 1
+pub(crate) const TWO_WRITERS: &str = "ALEWIFE TRACE 1
 image 76
 414c455700010201010000010000000800000000000000020000000003100000
 d2204000d000400091d0200191d0200003100000d020400091d0200000000000
@@ -360,7 +360,7 @@ end
 ";
 
 // A text in two parts.
-fn joined(alloc: Global, front: &str, behind: &str) -> Result<String, Fail> {
+pub(crate) fn joined(alloc: Global, front: &str, behind: &str) -> Result<String, Fail> {
     let mut text = String::from_str(alloc, front)?;
     text.push_str(behind)?;
     Ok(text)

@@ -1,5 +1,4 @@
 -- All entries were taken and an end holds, or what is refused.
-use Rattle.std.proofs.Common.{sym, ◌∙◌}
 use Rattle.std.proofs.lemmas.Result.{err_from_is_err_and}
 use Rattle.alw_cli.proofs.Reached.{not_started, no_end, run_again}
 use Rattle.alw_cli.proofs.replaying.replay_trace.Goals as goal

@@ -1,6 +1,5 @@
 -- All entries were taken, an end holds and the messages arrived, or what is refused.
-use Rattle.std.proofs.Common.{sym, ap, subst, ◌∙◌}
-use Rattle.std.specs.Prelude.{List, ℕ}
+use Rattle.std.proofs.Common.{ap, ◌∙◌}
 use Rattle.std.proofs.lemmas.Result.{err_from_is_err_and}
 use Rattle.alw_config.specs.declared.commands.Form.TheVariants.{Report}
 use Rattle.alw_mesh.specs.Histories.{History}

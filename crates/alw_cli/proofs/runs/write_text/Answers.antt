@@ -1,4 +1,4 @@
-use Rattle.std.proofs.Common.{List, ℕ, subst, inl, inr, ◌∙◌}
+use Rattle.std.proofs.Common.{List, ℕ, subst, inl, inr}
 use Rattle.alw_cli.specs.Streams.{stream_of, Gained, GainedPart}
 use Rattle.alw_cli.proofs.runs.write_text.Goals as goal
 use Rattle.alw_cli.proofs.runs.write_text.Goals.{in-Ok, in-Err}

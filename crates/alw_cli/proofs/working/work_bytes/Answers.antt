@@ -2,7 +2,7 @@
 use Rattle.std.proofs.Common.{subst}
 use Rattle.alw_image.specs.Images.{IsImage}
 use Rattle.alw_cli.specs.Streams.{stream_of}
-use Rattle.alw_cli.proofs.Made.{IsReadAs, keeps, work_answer, work_merges, work_refused, none_merged}
+use Rattle.alw_cli.proofs.Made.{keeps, work_answer, work_merges, work_refused, none_merged}
 use Rattle.alw_cli.proofs.working.work_bytes.Goals as goal
 
 pub returns-in-Ok-work_image-clause-answer : goal.returns-in-Ok-work_image-clause-answer

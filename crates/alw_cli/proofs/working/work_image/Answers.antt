@@ -1,5 +1,5 @@
 -- What workers left was taken again and taken on to an end, or what is refused.
-use Rattle.std.proofs.Common.{◌≡◌, ◌<◌, ◌≤◌, sym, ◌∙◌, refl, arith}
+use Rattle.std.proofs.Common.{refl, arith}
 use Rattle.std.proofs.lemmas.Result.{err_from_is_err_and}
 use Rattle.std.proofs.lemmas.Bool.Decides.{nat_tests}
 use Rattle.alw_cli.proofs.Begun.{run_by_workers, refits}
