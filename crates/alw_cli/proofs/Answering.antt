@@ -31,6 +31,7 @@ answers_by words input input' out out' (cause.Input (reason.Text fault)) journal
 answers_by words input input' out out' (cause.Input (reason.NotLegal k)) journal merged p = p
 answers_by words input input' out out' (cause.Input reason.Unfinished) journal merged p = p
 answers_by words input input' out out' (cause.Input (reason.LimitDoesNotFit number most)) journal merged p = p
+answers_by words input input' out out' (cause.Input (reason.StateDiffers line)) journal merged p = p
 answers_by words input input' out out' (cause.Input (reason.WorkersDoNotFit number most)) journal merged p = p
 answers_by words input input' out out' cause.NoMemory journal merged p =
     let wanting = (each_kept p.command).wanting p.bytes out out' journal p.answer in

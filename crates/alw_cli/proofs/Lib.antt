@@ -3,6 +3,8 @@ pub mod Tasks
 pub mod Answering
 pub mod Completing
 mod Reached
+mod Saved
+mod Resumable
 mod Made
 mod NoEvict
 mod Again

@@ -49,14 +49,14 @@ by_end Tells out out' (ended.Trapped at) tells = tells
 by_end Tells out out' (ended.Limit event) tells = tells
 
 -- what holds of a run however it is written is answered
-answered : (Tells : Telling) (run : Run) (out out' : Stream) (c : Cause) → ((Written : List ℕ → Type 0) → Written run.text → Tells run.ended Written) →
+pub answered : (Tells : Telling) (run : Run) (out out' : Stream) (c : Cause) → ((Written : List ℕ → Type 0) → Written run.text → Tells run.ended Written) →
     IsWritten run out out' c → AnswersEnd Tells out out' c
 answered Tells run out out' c tells (inl written) =
     subst (AnswersEnd Tells out out') (sym written.0) (by_end Tells out out' run.ended (tells (Gained out out') written.1))
 answered Tells run out out' c tells (inr failed) =
     subst (AnswersEnd Tells out out') (sym failed.0) (record { end = run.ended; tells = tells (GainedPart out out') failed.1 })
 
-told_of_made : (image : Parts) (params : Parameters) (form : Form) (run : Run) (Written : List ℕ → Type 0) → IsImage image → IsMade image params form run →
+pub told_of_made : (image : Parts) (params : Parameters) (form : Form) (run : Run) (Written : List ℕ → Type 0) → IsImage image → IsMade image params form run →
     Written run.text → IsTold image params form run.journal run.ended Written
 told_of_made image params form run Written is made written = record {
   image_is = is;

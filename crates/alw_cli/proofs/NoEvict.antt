@@ -101,6 +101,16 @@ module _ (parts : Parts) (p : Parameters) where
     subst (λ (s : MachineState). AreLegal parts (calm p) s rest) (sym (step_same m entry.event)) (are_legal_same (step parts p m entry.event) rest legal),
   )
 
+  are_legal_back : (m : MachineState) (journal : List Entry) → AreLegal parts (calm p) m journal → AreLegal parts p m journal
+  are_legal_back m [] legal = tt
+  are_legal_back m (entry ∷ rest) (next, legal) = (
+    record { enabled = subst IsTrue (enabled_same m entry.event) next.enabled; within = next.within; stamp = next.stamp },
+    are_legal_back (step parts p m entry.event) rest (subst (λ (s : MachineState). AreLegal parts (calm p) s rest) (step_same m entry.event) legal),
+  )
+
+  pub legal_back : (journal : List Entry) → IsLegal parts (calm p) journal → IsLegal parts p journal
+  legal_back journal legal = are_legal_back (machine_start parts) journal legal
+
   pub legal_same : (journal : List Entry) → IsLegal parts p journal → IsLegal parts (calm p) journal
   legal_same journal legal = are_legal_same (machine_start parts) journal legal
 

@@ -1,6 +1,7 @@
 -- What each command keeps, whatever it does.
-use Rattle.std.proofs.Common.{◌≡◌, arith, ℕ, suc, List, [], Some, None, refl, sym, ◌∙◌, ◌⊎◌, inl, inr, subst, IsTrue}
+use Rattle.std.proofs.Common.{◌≡◌, arith, ℕ, suc, List, [], Some, None, refl, sym, ◌∙◌, ◌⊎◌, inl, inr, subst, IsTrue, ap, Bool, true, false}
 use Rattle.std.specs.Prelude.{Err}
+use Rattle.std.proofs.lemmas.Bool.{false≢true}
 use Rattle.alw_msg.specs.declared.events.Entry.{Entry}
 use Rattle.alw_image.specs.Parameters.{Parameters}
 use Rattle.alw_model.proofs.Journals.{legal_take}
@@ -28,10 +29,17 @@ use Rattle.alw_cli.specs.Tasks.{Task}
 use Rattle.alw_cli.specs.Assembling.{AsmAnswer, asm_task}
 use Rattle.alw_cli.specs.Running.{RunAnswer, run_task}
 use Rattle.alw_cli.specs.Working.{WorkAnswer, work_task}
-use Rattle.alw_cli.specs.Replaying.{Spells, ReplayAnswer, IsFinishedTrace, IsFinishedText, replay_task}
+use Rattle.alw_cli.specs.Replaying.{Spells, IsTraceThat, ReplayAnswer, IsFinishedTrace, IsFinishedText, replay_task}
 use Rattle.alw_cli.specs.Auditing.{SpellsClaim, AuditAnswer, IsSoundText, audit_task}
 use Rattle.alw_cli.specs.Making.{Asked, GenAnswer, gen_task}
 use Rattle.alw_cli.specs.Routing.{RouteAnswer, route_task}
+use Rattle.alw_cli.specs.Saving.{SaveAnswer, save_task}
+use Rattle.alw_cli.specs.Resuming.{ResumeAnswer, IsSomeCheckpoint, resume_task}
+use Rattle.alw_save.specs.declared.faults.RestoreErr.{RestoreErr}
+use Rattle.alw_save.specs.declared.faults.RestoreErr.TheVariants as restore
+use Rattle.alw_save.specs.Cuts as cuts
+use Rattle.alw_save.specs.Restoring.{Restores}
+use Rattle.alw_cli.proofs.Resumable.{restored_so}
 use Rattle.alw_cli.specs.Answers.{task_of}
 
 -- causes that no command has
@@ -243,6 +251,79 @@ gen_kept asked = record {
   complete = λ bytes out out' c journal answer accepted quiet. gen_complete asked out out' journal c answer quiet;
 }
 
+-- ---- save
+
+sound_trace : (bytes : List ℕ) (other : Trace) → IsTraceThat cuts.IsSound bytes → Spells bytes other → cuts.IsSound other
+sound_trace bytes other accepted spells = subst cuts.IsSound (one_spelled bytes accepted.trace other accepted.spelled spells) accepted.holds
+
+module _ (at : ℕ) (bytes : List ℕ) (out out' : Stream) (journal : List Entry) where
+  save_inside : (c : Cause) → IsOutside c → SaveAnswer at bytes out out' c journal → ⊥
+  save_inside (cause.Words e) outside answer = answer
+  save_inside (cause.Input reason.TooLong) outside answer = answer
+  save_inside cause.ReadFault outside answer = answer
+  save_inside _ outside answer = outside
+
+  save_complete : (c : Cause) → SaveAnswer at bytes out out' c journal → (save_task at).Accepts bytes → HadNoFault out out' →
+      IsTrue ((save_task at).is_done c) ⊎ (c ≡ cause.NoMemory)
+  save_complete cause.Fine answer accepted quiet = inl refl
+  save_complete cause.NoMemory answer accepted quiet = inr refl
+  save_complete cause.WriteFault answer accepted quiet = absurd (quiet answer.text.1)
+  save_complete (cause.Input (reason.Text fault)) answer accepted quiet =
+      absurd (answer.0.0 (trace_read bytes accepted.trace fault accepted.spelled answer.0.1))
+  save_complete (cause.Input (reason.LimitDoesNotFit number most)) answer accepted quiet =
+      let many = answer.0 in absurd (omega (arith, many.holds.above, (sound_trace bytes many.trace accepted many.spelled).fits))
+  save_complete (cause.Input (reason.NotLegal k)) answer accepted quiet =
+      let illegal = answer.0 in
+      absurd (illegal.holds.1.here (legal_take illegal.trace.image illegal.trace.params (suc k) illegal.trace.journal
+      (sound_trace bytes illegal.trace accepted illegal.spelled).legal))
+  save_complete _ answer accepted quiet = absurd answer
+
+save_kept : (at : ℕ) → IsKept (save_task at)
+save_kept at = record {
+  inside = λ bytes out out' c journal outside answer. save_inside at bytes out out' journal c outside answer;
+  wanting = λ bytes out out' journal answer. answer;
+  wants = λ bytes journal merged merges. merges;
+  complete = λ bytes out out' c journal answer accepted quiet. save_complete at bytes out out' journal c answer accepted quiet;
+}
+
+-- ---- resume
+
+abbrev is_wanting : RestoreErr → Bool
+is_wanting restore.NoMemory = true
+is_wanting _ = false
+
+module _ (seed evict : ℕ) (form : Form) (bytes : List ℕ) (out out' : Stream) (journal : List Entry) where
+  resume_inside : (c : Cause) → IsOutside c → ResumeAnswer seed evict form bytes out out' c journal → ⊥
+  resume_inside (cause.Words e) outside answer = answer
+  resume_inside (cause.Input reason.TooLong) outside answer = answer
+  resume_inside cause.ReadFault outside answer = answer
+  resume_inside _ outside answer = outside
+
+  not_refused : (fault : RestoreErr) → is_wanting fault ≡ false → IsSomeCheckpoint evict bytes → Restores bytes evict (Err fault) → ⊥
+  not_refused fault other accepted refused = false≢true (sym other ∙ ap is_wanting (restored_so bytes evict accepted.machine accepted.is fault refused))
+
+  resume_complete : (c : Cause) → ResumeAnswer seed evict form bytes out out' c journal → (resume_task seed evict form).Accepts bytes → HadNoFault out out' →
+      IsTrue ((resume_task seed evict form).is_done c) ⊎ (c ≡ cause.NoMemory)
+  resume_complete cause.Fine answer accepted quiet = inl refl
+  resume_complete (cause.Trapped at) answer accepted quiet = inl refl
+  resume_complete (cause.Limit event) answer accepted quiet = inl refl
+  resume_complete cause.NoMemory answer accepted quiet = inr refl
+  resume_complete cause.WriteFault answer accepted quiet = absurd (quiet answer.tells.told.text.1)
+  resume_complete (cause.Input (reason.Text fault)) answer accepted quiet = absurd (not_refused (restore.Text fault) refl accepted answer.0)
+  resume_complete (cause.Input (reason.LimitDoesNotFit number most)) answer accepted quiet =
+      absurd (not_refused (restore.DoesNotFit number most) refl accepted answer.0)
+  resume_complete (cause.Input (reason.NotLegal k)) answer accepted quiet = absurd (not_refused (restore.NotLegal k) refl accepted answer.0)
+  resume_complete (cause.Input (reason.StateDiffers line)) answer accepted quiet = absurd (not_refused (restore.StateDiffers line) refl accepted answer.0)
+  resume_complete _ answer accepted quiet = absurd answer
+
+resume_kept : (seed evict : ℕ) (form : Form) → IsKept (resume_task seed evict form)
+resume_kept seed evict form = record {
+  inside = λ bytes out out' c journal outside answer. resume_inside seed evict form bytes out out' journal c outside answer;
+  wanting = λ bytes out out' journal answer. answer;
+  wants = λ bytes journal merged merges. merges;
+  complete = λ bytes out out' c journal answer accepted quiet. resume_complete seed evict form bytes out out' journal c answer accepted quiet;
+}
+
 -- ---- route
 
 module _ (bytes : List ℕ) (out out' : Stream) (journal : List Entry) where
@@ -279,3 +360,5 @@ each_kept (commands.Replay form) = replay_kept form
 each_kept commands.Audit = audit_kept
 each_kept (commands.Gen seed width height size) = gen_kept (record { seed = seed; width = width; height = height; size = size })
 each_kept (commands.Route seed) = route_kept
+each_kept (commands.Save at) = save_kept at
+each_kept (commands.Resume seed evict form) = resume_kept seed evict form

@@ -19,6 +19,8 @@ use Rattle.alw_cli.specs.Replaying.{replay_task}
 use Rattle.alw_cli.specs.Auditing.{audit_task}
 use Rattle.alw_cli.specs.Making.{gen_task}
 use Rattle.alw_cli.specs.Routing.{route_task}
+use Rattle.alw_cli.specs.Saving.{save_task}
+use Rattle.alw_cli.specs.Resuming.{resume_task}
 use Rattle.alw_cli.specs.Texts.{err_line}
 
 -- ---- the answers
@@ -32,6 +34,8 @@ task_of (commands.Replay form) = replay_task form
 task_of commands.Audit = audit_task
 task_of (commands.Gen seed width height size) = gen_task (record { seed = seed; width = width; height = height; size = size })
 task_of (commands.Route seed) = route_task
+task_of (commands.Save at) = save_task at
+task_of (commands.Resume seed evict form) = resume_task seed evict form
 
 -- the words are a command, the whole input was read where it reads, and this was answered to it
 pub record Performed (words : List (List ℕ)) (input input' out out' : Stream) (cause : Cause) (journal : List Entry) (merged : ℕ) : Type 0 where

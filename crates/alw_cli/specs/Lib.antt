@@ -10,6 +10,8 @@ pub mod Running
 pub mod Replaying
 pub mod Auditing
 pub mod Routing
+pub mod Saving
+pub mod Resuming
 pub mod Working
 pub mod Making
 pub mod Answers

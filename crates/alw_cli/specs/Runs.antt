@@ -10,6 +10,7 @@ use Rattle.alw_mesh.specs.Histories.{History, stamps_of}
 use Rattle.alw_mesh.specs.declared.errors.TheConstants.{MOST_STEPS}
 use Rattle.alw_mesh.specs.declared.errors.FitErr.{FitErr}
 use Rattle.alw_mesh.specs.declared.errors.FitErr.TheVariants as fits
+use Rattle.alw_merge.specs.Replays as replays
 use Rattle.alw_sched.specs.Schedules.{IsSeededRun}
 use Rattle.alw_trace.specs.declared.values.Trace.{Trace}
 use Rattle.alw_config.specs.declared.commands.Form.{Form}
@@ -51,10 +52,8 @@ abbrev pub IsFit : Trace → Type 0
 IsFit trace = stamps_of trace.image trace.params ≤ MOST_STEPS
 
 -- an entry is the first that isn't legal
-pub record IsFirstIllegal (trace : Trace) (k : ℕ) : Type 0 where
-  pub exists : k < length trace.journal
-  pub before : IsLegal trace.image trace.params (take k trace.journal)
-  pub here : IsLegal trace.image trace.params (take (suc k) trace.journal) → ⊥
+abbrev pub IsFirstIllegal : Trace → ℕ → Type 0
+IsFirstIllegal trace k = replays.IsFirstIllegal trace.image trace.params trace.journal k
 
 -- all entries are legal, and no end holds after the last
 pub record IsUnfinished (trace : Trace) : Type 0 where

@@ -5,6 +5,8 @@ use Rattle.alw_model.specs.declared.ends.Ended.TheVariants.{Halted, Trapped, Lim
 use Rattle.alw_cli.specs.declared.answers.Cause.{Cause}
 use Rattle.alw_cli.specs.declared.answers.Cause.TheVariants as cause
 use Rattle.alw_cli.specs.declared.answers.InputErr.TheVariants as reason
+use Rattle.alw_save.specs.declared.faults.CutErr.{CutErr}
+use Rattle.alw_save.specs.declared.faults.CutErr.TheVariants as cuts
 use Rattle.alw_mesh.specs.declared.errors.FitErr.{FitErr}
 use Rattle.alw_mesh.specs.declared.errors.FitErr.TheVariants as fits
 
@@ -23,6 +25,12 @@ abbrev pub cause_of : Ended → Cause
 cause_of Halted = cause.Fine
 cause_of (Trapped at) = cause.Trapped at
 cause_of (Limit event) = cause.Limit event
+
+-- the cause where a trace isn't cut
+abbrev pub cause_of_cut : CutErr → Cause
+cause_of_cut (cuts.DoesNotFit number most) = cause.Input (reason.LimitDoesNotFit number most)
+cause_of_cut (cuts.NotLegal k) = cause.Input (reason.NotLegal k)
+cause_of_cut cuts.NoMemory = cause.NoMemory
 
 -- the cause where a machine doesn't start
 abbrev pub cause_of_fit : FitErr → Cause

@@ -79,6 +79,7 @@ input_text (input.Image fault) = image_text fault
 input_text (input.Text fault) = text_text fault
 input_text (input.NotLegal k) = codes "entry " ++ (decimal k ++ codes " not legal")
 input_text input.Unfinished = codes "not finished"
+input_text (input.StateDiffers line) = codes "state line " ++ decimal line
 input_text (input.LimitDoesNotFit number most) = codes "limit " ++ (decimal number ++ (codes " above " ++ decimal most))
 input_text (input.WorkersDoNotFit number most) = codes "workers " ++ (decimal number ++ (codes " above " ++ decimal most))
 

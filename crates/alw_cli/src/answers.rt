@@ -15,8 +15,8 @@ pub const MOST_INPUT: usize = 268_435_456;
 
 /// Why an input was refused: it is too long; it is no source, no image, or no text of a trace or a claim; nodes
 /// times the event limit are above the most that a machine takes, with both numbers; there are more workers
-/// than nodes, with both numbers; an entry of a trace, counted from 0, is the first that isn't legal; or no
-/// end holds after its last entry.
+/// than nodes, with both numbers; an entry of a trace, counted from 0, is the first that isn't legal; no end
+/// holds after its last entry; or a line of a checkpoint, counted from 1, isn't the one that its entries leave.
 #[derive(Clone, Copy, Debug, PartialEq, Eq)]
 pub enum InputErr {
     TooLong,
@@ -26,6 +26,7 @@ pub enum InputErr {
     NotLegal(u32),
     Unfinished,
     LimitDoesNotFit(u64, u64),
+    StateDiffers(u64),
     WorkersDoNotFit(u64, u64),
 }
 

@@ -98,6 +98,10 @@ fn put_input(line: &mut ArrayString<96>, fault: &InputErr)
         }
         InputErr::Unfinished => line.push_str("not finished"),
         InputErr::LimitDoesNotFit(number, most) => put_excess(line, "limit ", *number, *most),
+        InputErr::StateDiffers(at) => {
+            line.push_str("state line ");
+            put_long(line, *at);
+        }
         InputErr::WorkersDoNotFit(number, most) => put_excess(line, "workers ", *number, *most),
     }
 }

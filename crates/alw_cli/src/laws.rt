@@ -1,10 +1,20 @@
-ghost use Rattle.std.specs.Prelude.{IsTrue, List};
+ghost use Rattle.std.specs.Prelude.{◌≡◌, ◌≤◌, ℕ, Err, IsTrue, List};
 ghost use Rattle.alw_msg.specs.declared.events.Entry.{Entry};
 ghost use Rattle.alw_image.specs.declared.parts.Parts.{Parts};
 ghost use Rattle.alw_image.specs.Parameters.{Parameters};
 ghost use Rattle.alw_model.specs.declared.ends.Ended.{Ended};
 ghost use Rattle.alw_trace.specs.Texts.{trace_text};
 ghost use Rattle.alw_config.specs.declared.commands.Form.TheVariants as forms;
+ghost use Rattle.alw_order.specs.Orders.{kept_by};
+ghost use Rattle.alw_mesh.specs.Histories.{History};
+ghost use Rattle.alw_trace.specs.declared.values.Trace.{Trace};
+ghost use Rattle.alw_trace.specs.Readings.{IsTrace, HasTraceTypes};
+ghost use Rattle.alw_save.specs.declared.faults.RestoreErr.{RestoreErr};
+ghost use Rattle.alw_save.specs.declared.faults.RestoreErr.TheVariants.{NoMemory};
+ghost use Rattle.alw_save.specs.Cuts.{IsSound};
+ghost use Rattle.alw_save.specs.Checkpoints.{checkpoint_text};
+ghost use Rattle.alw_save.specs.Restoring.{IsCheckpoint, Restores};
+ghost use Rattle.alw_cli.specs.Resuming.{IsSomeCheckpoint};
 ghost use Rattle.alw_cli.specs.declared.answers.Cause.{Cause};
 ghost use Rattle.alw_cli.specs.Auditing.{AuditAnswer, FindsSound, IsSoundText};
 ghost use Rattle.alw_cli.specs.Forms.{run_text};
@@ -33,4 +43,13 @@ pub fn claims_are_found_sound()
     ensures sound { (image : Parts) → (parameters : Parameters) → (journal : List Entry) → (ended : Ended) → IsRunThatFits image parameters journal ended →
         (out : Stream) → (after : Stream) → (answered : Cause) → (again : List Entry) →
         AuditAnswer (run_text forms.Claim image parameters journal ended) out after answered again → FindsSound out after answered }
+{}
+
+/// What `save` writes is a checkpoint that `resume` takes, however often evictions are then tried; and a checkpoint
+/// is refused for want of memory alone.
+pub fn checkpoints_are_resumed()
+    ensures accepted { (trace : Trace) → (at : ℕ) → (evict : ℕ) → IsTrace trace → HasTraceTypes trace → IsSound trace → evict ≤ 255 →
+        IsSomeCheckpoint evict (checkpoint_text trace.image trace.params (kept_by at trace.journal)) }
+    ensures unrefused { (bytes : List ℕ) → (evict : ℕ) → (machine : History) → IsCheckpoint bytes evict machine → (fault : RestoreErr) →
+        Restores bytes evict (Err fault) → fault ≡ NoMemory }
 {}

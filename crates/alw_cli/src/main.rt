@@ -10,9 +10,11 @@ mod laws;
 mod listings;
 mod making;
 mod replaying;
+mod resuming;
 mod routing;
 mod running;
 mod runs;
+mod saving;
 mod top;
 mod working;
 

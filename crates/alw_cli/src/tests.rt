@@ -515,3 +515,20 @@ fn a_workload_goes_round(rt: HostRuntime) -> Result<(), Fail> {
     }
     Ok(())
 }
+
+// A checkpoint of a whole run tells the run, and one of no entry is a run from its start.
+#[test]
+fn checkpoints_go_round(rt: HostRuntime) -> Result<(), Fail> {
+    let image = call(&rt, "gen --width 2 --height 1 --size 3 --seed 1", b"")?;
+    let trace = call(&rt, "run --seed 7 --write trace", image.out.bytes())?;
+    for (save, resume) in [
+        ("save", "resume --write trace"),
+        ("save --at 0", "resume --seed 7 --write trace"),
+    ] {
+        let saved = call(&rt, save, trace.out.bytes())?;
+        let again = call(&rt, resume, saved.out.bytes())?;
+        assert!(rt; is_answer(&again, 0, Cause::Fine));
+        assert!(rt; again.done.status != 0 || again.out.bytes() == trace.out.bytes());
+    }
+    Ok(())
+}

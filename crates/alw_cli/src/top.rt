@@ -10,8 +10,10 @@ use crate::auditing::audit_bytes;
 use crate::err_lines::err_line;
 use crate::making::make_workload;
 use crate::replaying::replay_bytes;
+use crate::resuming::resume_bytes;
 use crate::routing::route_bytes;
 use crate::running::run_bytes;
+use crate::saving::save_bytes;
 use crate::working::work_bytes;
 use alw_config::{Command, Form, How, command};
 use alw_image::Params;
@@ -23,8 +25,8 @@ use std::sync::Wait;
 use std::thread::Threads;
 
 /// Does what the command words ask for: reads `input` to its end, assembles the source, runs the image,
-/// replays the trace or audits the claim that it is, or else makes a workload and reads nothing, and writes
-/// what comes of it to `out`. A refusal, a fault of the outside and want of memory have a line on `err`.
+/// replays, routes or saves the trace, resumes the checkpoint or audits the claim that it is, or else makes a
+/// workload and reads nothing, and writes what comes of it to `out`. A refusal, a fault of the outside and want of memory have a line on `err`.
 ///
 /// The status follows from the cause: 0 is a source that was assembled, a workload that was made, a run that
 /// halted or a claim that is sound, 2 refused words, 3 a refused input, 4 a trapped run, 5 a run at its limit,
@@ -128,6 +130,10 @@ fn perform<R: Threads + Wait + Sync, K: Sink, G: Gate>(
             size,
         } => make_workload(alloc, seed, width, height, size, out),
         Command::Route { seed } => route_bytes(alloc, seed, bytes, out),
+        Command::Save { at } => save_bytes(alloc, at, bytes, out),
+        Command::Resume { seed, evict, write } => {
+            resume_bytes(alloc, seed, evict, write, bytes, out)
+        }
     }
 }
 

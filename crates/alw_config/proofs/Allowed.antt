@@ -120,6 +120,12 @@ defaults_allowed names.Gen (suc (suc (suc zero))) l = refl
 defaults_allowed names.Gen (suc (suc (suc (suc k)))) l = absurd (omega arith)
 defaults_allowed names.Route zero l = refl
 defaults_allowed names.Route (suc k) l = absurd (omega arith)
+defaults_allowed names.Save zero l = refl
+defaults_allowed names.Save (suc k) l = absurd (omega arith)
+defaults_allowed names.Resume zero l = refl
+defaults_allowed names.Resume (suc zero) l = refl
+defaults_allowed names.Resume (suc (suc zero)) l = refl
+defaults_allowed names.Resume (suc (suc (suc k))) l = absurd (omega arith)
 
 pub few_defaults : (name : Name) → length (defaults_of name) ≤ MOST_CHOICES
 few_defaults names.Asm = omega arith
@@ -128,6 +134,8 @@ few_defaults names.Replay = omega arith
 few_defaults names.Audit = omega arith
 few_defaults names.Gen = omega arith
 few_defaults names.Route = omega arith
+few_defaults names.Save = omega arith
+few_defaults names.Resume = omega arith
 
 pub value_allowed : (name : Name) (chosen : List (Option Made)) (k : ℕ) → AreAllowed (options_of name) chosen → k < length (defaults_of name)
     → IsTrue (is_allowed (options_of name) k (value_by chosen (defaults_of name) k))

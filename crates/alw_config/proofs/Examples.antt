@@ -2,7 +2,7 @@
 use Rattle.std.proofs.Common.{◌≡◌, ℕ, zero, suc, ◌<◌, Bool, true, false, List, [], ◌∷◌, codes, refl, inl, arith}
 use Rattle.std.specs.Prelude.{Option, None, Some}
 use Rattle.std.specs.Fmt.{digits}
-use Rattle.alw_config.specs.declared.commands.Command.TheVariants.{Asm, Run, Replay, Audit, Gen, Route}
+use Rattle.alw_config.specs.declared.commands.Command.TheVariants.{Asm, Run, Replay, Audit, Gen, Route, Save, Resume}
 use Rattle.alw_config.specs.declared.commands.How.TheVariants.{Seed, Workers}
 use Rattle.alw_config.specs.declared.commands.AsmForm.TheVariants.{Image, Listing}
 use Rattle.alw_config.specs.declared.commands.Form.TheVariants.{Report, Claim}
@@ -96,6 +96,12 @@ made = refl
 
 routed : asked (codes "route" ∷ []) ≡ Some (Route 0)
 routed = refl
+
+saved : asked (codes "save" ∷ []) ≡ Some (Save 4294967295)
+saved = refl
+
+resumed : asked (codes "resume" ∷ []) ≡ Some (Resume 0 0 Report)
+resumed = refl
 
 by_workers : asked (codes "run" ∷ codes "--workers" ∷ codes "256" ∷ [])
     ≡ Some (Run (Workers 256) (record { pointers = 4; sets = 256; limit = 32768; evict = 0 }) Report)

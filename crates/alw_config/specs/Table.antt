@@ -8,12 +8,13 @@ use Rattle.alw_config.specs.declared.commands.Command.TheVariants as command
 use Rattle.alw_config.specs.declared.rows.Value.{Value}
 use Rattle.alw_config.specs.declared.rows.Value.TheVariants.{Number, How, AsmForm, Form}
 use Rattle.alw_config.specs.declared.rows.Name.{Name}
-use Rattle.alw_config.specs.declared.rows.Name.TheVariants.{Asm, Run, Replay, Audit, Gen, Route}
+use Rattle.alw_config.specs.declared.rows.Name.TheVariants.{Asm, Run, Replay, Audit, Gen, Route, Save, Resume}
 use Rattle.alw_config.specs.declared.rows.Meaning.{Meaning}
 use Rattle.alw_config.specs.declared.rows.Made.{Made}
 use Rattle.alw_config.specs.declared.rows.Rule.{Rule}
 use Rattle.alw_config.specs.declared.rows.TheConstants.{COMMANDS, ASM_OPTIONS, ASM_DEFAULTS, RUN_OPTIONS, RUN_DEFAULTS, REPLAY_OPTIONS, REPLAY_DEFAULTS}
 use Rattle.alw_config.specs.declared.rows.TheConstants.{AUDIT_OPTIONS, AUDIT_DEFAULTS, GEN_OPTIONS, GEN_DEFAULTS, GEN_RULE, ROUTE_OPTIONS, ROUTE_DEFAULTS}
+use Rattle.alw_config.specs.declared.rows.TheConstants.{SAVE_OPTIONS, SAVE_DEFAULTS, RESUME_OPTIONS, RESUME_DEFAULTS}
 use Rattle.alw_config.specs.Values.{row_of, value_of}
 
 -- the commands, by their names
@@ -32,6 +33,8 @@ options_of Replay = map (λ row. (row.0.now, row.1)) REPLAY_OPTIONS
 options_of Audit = map (λ row. (row.0.now, row.1)) AUDIT_OPTIONS
 options_of Gen = map (λ row. (row.0.now, row.1)) GEN_OPTIONS
 options_of Route = map (λ row. (row.0.now, row.1)) ROUTE_OPTIONS
+options_of Save = map (λ row. (row.0.now, row.1)) SAVE_OPTIONS
+options_of Resume = map (λ row. (row.0.now, row.1)) RESUME_OPTIONS
 
 abbrev pub defaults_of : Name → List Value
 defaults_of Asm = ASM_DEFAULTS
@@ -40,6 +43,8 @@ defaults_of Replay = REPLAY_DEFAULTS
 defaults_of Audit = AUDIT_DEFAULTS
 defaults_of Gen = GEN_DEFAULTS
 defaults_of Route = ROUTE_DEFAULTS
+defaults_of Save = SAVE_DEFAULTS
+defaults_of Resume = RESUME_DEFAULTS
 
 -- a word is an option that makes this choice
 abbrev pub makes : Options → ℕ → List ℕ → Bool
@@ -109,4 +114,6 @@ command_of Replay (Form write ∷ []) = Some (command.Replay write)
 command_of Audit [] = Some command.Audit
 command_of Gen (Number seed ∷ Number width ∷ Number height ∷ Number size ∷ []) = Some (command.Gen seed width height size)
 command_of Route (Number seed ∷ []) = Some (command.Route seed)
+command_of Save (Number at ∷ []) = Some (command.Save at)
+command_of Resume (Number seed ∷ Number evict ∷ Form write ∷ []) = Some (command.Resume seed evict write)
 command_of _ _ = None

@@ -32,6 +32,16 @@ pub enum Command {
     Route {
         seed: u64,
     },
+    /// Writes a checkpoint of the entries of a trace with a stamp of at most `at`.
+    Save {
+        at: u32,
+    },
+    /// Goes on from a checkpoint by the schedule of a seed.
+    Resume {
+        seed: u64,
+        evict: u8,
+        write: Form,
+    },
 }
 
 /// What an assembled source is written as.

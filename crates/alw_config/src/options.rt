@@ -8,8 +8,9 @@ use crate::commands::{AsmForm, Command, Form, How, WordErr};
 use crate::lookups::row_of;
 use crate::rows::{
     ASM_DEFAULTS, ASM_OPTIONS, AUDIT_DEFAULTS, AUDIT_OPTIONS, GEN_DEFAULTS, GEN_OPTIONS, GEN_RULE,
-    MOST_CHOICES, Made, Meaning, Name, REPLAY_DEFAULTS, REPLAY_OPTIONS, ROUTE_DEFAULTS,
-    ROUTE_OPTIONS, RUN_DEFAULTS, RUN_OPTIONS, Row, Rule, Value,
+    MOST_CHOICES, Made, Meaning, Name, REPLAY_DEFAULTS, REPLAY_OPTIONS, RESUME_DEFAULTS,
+    RESUME_OPTIONS, ROUTE_DEFAULTS, ROUTE_OPTIONS, RUN_DEFAULTS, RUN_OPTIONS, Row, Rule,
+    SAVE_DEFAULTS, SAVE_OPTIONS, Value,
 };
 use alw_image::Params;
 
@@ -93,6 +94,8 @@ impl Name {
             Name::Audit => &AUDIT_OPTIONS,
             Name::Gen => &GEN_OPTIONS,
             Name::Route => &ROUTE_OPTIONS,
+            Name::Save => &SAVE_OPTIONS,
+            Name::Resume => &RESUME_OPTIONS,
         }
     }
 
@@ -108,6 +111,8 @@ impl Name {
             Name::Audit => &AUDIT_DEFAULTS,
             Name::Gen => &GEN_DEFAULTS,
             Name::Route => &ROUTE_DEFAULTS,
+            Name::Save => &SAVE_DEFAULTS,
+            Name::Resume => &RESUME_DEFAULTS,
         }
     }
 
@@ -171,6 +176,14 @@ impl Name {
             },
             Name::Route => Command::Route {
                 seed: self.value(chosen, 0).number(),
+            },
+            Name::Save => Command::Save {
+                at: self.value(chosen, 0).number() as u32,
+            },
+            Name::Resume => Command::Resume {
+                seed: self.value(chosen, 0).number(),
+                evict: self.value(chosen, 1).number() as u8,
+                write: self.value(chosen, 2).form(),
             },
         }
     }

@@ -15,6 +15,8 @@ pub(crate) enum Name {
     Audit,
     Gen,
     Route,
+    Save,
+    Resume,
 }
 
 // What an option stands for. A command leaves choices, numbered from 0: an option makes one of them, by a
@@ -73,13 +75,15 @@ pub(crate) struct Rule {
 pub(crate) const MOST_CHOICES: usize = 6;
 
 // The commands, by their names.
-pub(crate) const COMMANDS: [Row<Name>; 6] = [
+pub(crate) const COMMANDS: [Row<Name>; 8] = [
     (b"asm", Name::Asm),
     (b"run", Name::Run),
     (b"replay", Name::Replay),
     (b"audit", Name::Audit),
     (b"gen", Name::Gen),
     (b"route", Name::Route),
+    (b"save", Name::Save),
+    (b"resume", Name::Resume),
 ];
 
 // What an assembled source is written as.
@@ -248,3 +252,46 @@ pub(crate) const ROUTE_OPTIONS: [Row<Meaning>; 1] = [(
 )];
 
 pub(crate) const ROUTE_DEFAULTS: [Value; 1] = [Value::Number(0)];
+
+// The options of `save`, and what it chooses where no option does.
+pub(crate) const SAVE_OPTIONS: [Row<Meaning>; 1] = [(
+    b"--at",
+    Meaning {
+        choice: 0,
+        kind: Kind::Between(0, u32::MAX as u64),
+    },
+)];
+
+pub(crate) const SAVE_DEFAULTS: [Value; 1] = [Value::Number(u32::MAX as u64)];
+
+// The options of `resume`.
+pub(crate) const RESUME_OPTIONS: [Row<Meaning>; 3] = [
+    (
+        b"--seed",
+        Meaning {
+            choice: 0,
+            kind: Kind::Between(0, u64::MAX),
+        },
+    ),
+    (
+        b"--evict",
+        Meaning {
+            choice: 1,
+            kind: Kind::Between(0, 255),
+        },
+    ),
+    (
+        b"--write",
+        Meaning {
+            choice: 2,
+            kind: Kind::Form,
+        },
+    ),
+];
+
+// What `resume` chooses where no option does.
+pub(crate) const RESUME_DEFAULTS: [Value; 3] = [
+    Value::Number(0),
+    Value::Number(0),
+    Value::Form(Form::Report),
+];

@@ -267,11 +267,17 @@ const GEN: [(&str, Option<u32>); 15] = [
 ];
 
 // Words of the commands of texts, and of workers, and their refused place.
-const TEXTS: [(&str, Option<u32>); 17] = [
+const TEXTS: [(&str, Option<u32>); 23] = [
     ("route", None),
     ("route --seed 18446744073709551615", None),
     ("route --write report", Some(1)),
     ("route --seed -1", Some(2)),
+    ("save --at 4294967295", None),
+    ("save --at 4294967296", Some(2)),
+    ("save --write report", Some(1)),
+    ("resume --seed 1 --evict 255 --write trace", None),
+    ("resume --evict 256", Some(2)),
+    ("resume --limit 5", Some(1)),
     ("run --workers 256", None),
     ("run --workers 0", Some(2)),
     ("run --workers 257", Some(2)),
