@@ -1,0 +1,174 @@
+// The page: what is shown, and the controls and keys that change it.
+
+/** What is shown: the place of the frame, the followed line, and which rows and what size. */
+const VIEW = { at: 0, line: null, rows: NODES > MOST_LABELLED ? 'changed' : 'all', size: '1' };
+const SHOWN = { history: null };
+const part = (name) => document.getElementById(name);
+
+/** Shows why the page doesn't work. */
+function fail(text) {
+  part('fault').hidden = false;
+  part('fault').textContent = `This page failed: ${text}`;
+}
+
+/** The place of the last frame whose stamp isn't above a number. */
+function placeOfStamp(stamp) {
+  return Math.max(0, FRAMES.findLastIndex((frame) => frame.stamp <= stamp));
+}
+
+/** Takes what the address asks for, as #stamp=12&line=0. */
+function readAddress() {
+  const asked = new URLSearchParams(location.hash.slice(1));
+  VIEW.at = asked.has('stamp') ? placeOfStamp(Number(asked.get('stamp'))) : VIEW.at;
+  const line = Number(asked.get('line'));
+  VIEW.line = asked.has('line') && LINES.includes(line) ? line : null;
+  if (['all', 'changed', 'followed'].includes(asked.get('rows'))) VIEW.rows = asked.get('rows');
+  if (['1', '0.6', 'fit'].includes(asked.get('size'))) VIEW.size = asked.get('size');
+}
+
+/** Puts what is shown into the address. */
+function writeAddress() {
+  const words = [`stamp=${FRAMES[VIEW.at].stamp}`];
+  if (VIEW.line !== null) words.push(`line=${VIEW.line}`);
+  words.push(`rows=${VIEW.rows}`, `size=${VIEW.size}`);
+  history.replaceState(null, '', `#${words.join('&')}`);
+}
+
+/** Says the stamp and its events. */
+function showNow(frame, events) {
+  const told = [...events].sort(([a], [b]) => a - b).map(([node, text]) => `node ${node} ${text}`);
+  const few = told.length > 12 ? [...told.slice(0, 12), `and ${told.length - 12} more`] : told;
+  const text = escaped(few.join('; ') || 'the start, before any event');
+  part('now').innerHTML = `<b>Stamp ${frame.stamp}</b> (frame ${VIEW.at + 1} of ${FRAMES.length}): ${text}.`;
+}
+
+/** Sets the controls to what is shown. */
+function showControls(frame) {
+  part('slider').value = VIEW.at;
+  part('slider').setAttribute('aria-valuetext', `stamp ${frame.stamp}`);
+  part('follow').value = VIEW.line === null ? '' : String(VIEW.line);
+  part('rows').value = VIEW.rows;
+  part('size').value = VIEW.size;
+  const changes = VIEW.line === null ? [] : changesOf(VIEW.line);
+  const disabled = { first: VIEW.at === 0, back: VIEW.at === 0, next: VIEW.at === FRAMES.length - 1, last: VIEW.at === FRAMES.length - 1 };
+  disabled.before = !changes.some((at) => at < VIEW.at);
+  disabled.after = !changes.some((at) => at > VIEW.at);
+  for (const [name, value] of Object.entries(disabled)) part(name).setAttribute('aria-disabled', value);
+}
+
+/** Shows the followed line over the stamps, and marks where in it the frame is. */
+function showHistory() {
+  const name = VIEW.line === null ? '' : `${VIEW.line} ${changesOf(VIEW.line).length > MOST_CHANGES ? VIEW.at : ''}`;
+  if (SHOWN.history !== name) part('history').innerHTML = VIEW.line === null ? '' : drawHistory(VIEW.line, VIEW.at);
+  SHOWN.history = name;
+  const rows = [...part('history').querySelectorAll('tbody tr')];
+  const current = rows.findLast((each) => Number(each.dataset.at) <= VIEW.at);
+  for (const each of rows) {
+    each.cells[0].textContent = each === current ? '▶' : '';
+    each.toggleAttribute('aria-current', each === current);
+  }
+  if (current) part('history').scrollTop = current.offsetTop - part('history').clientHeight / 2;
+}
+
+/** Shows the frame. */
+function show() {
+  const frame = FRAMES[VIEW.at], state = stateOf(frame), events = eventsOf(VIEW.at);
+  showNow(frame, events);
+  showControls(frame);
+  part('map').classList.toggle('fit', VIEW.size === 'fit');
+  part('map').innerHTML = drawMap(state, frame, events, VIEW.size);
+  part('tables').innerHTML = drawTables(state, frame, FRAMES[VIEW.at - 1]);
+  part('text').textContent = frame.lines.join('\n') + '\n';
+  showHistory();
+  writeAddress();
+}
+
+/** Goes to a frame, or to the end that is nearer. */
+function go(at) {
+  VIEW.at = Math.min(Math.max(at, 0), FRAMES.length - 1);
+  show();
+}
+
+/** Goes to where the followed line changes before or after this frame. */
+function goToChange(forward) {
+  const changes = VIEW.line === null ? [] : changesOf(VIEW.line);
+  const at = forward ? changes.find((each) => each > VIEW.at) : changes.findLast((each) => each < VIEW.at);
+  if (at !== undefined) go(at);
+}
+
+/** Scrolls the map to a node, where it doesn't show the whole of it. */
+function bringToView(node) {
+  const map = part('map'), scale = map.scrollWidth / (placeOf(NODES - 1).right + BOX.margin), { left, right, top, bottom } = placeOf(node);
+  if (left * scale < map.scrollLeft || right * scale > map.scrollLeft + map.clientWidth) map.scrollLeft = left * scale - map.clientWidth / 3;
+  if (top * scale < map.scrollTop || bottom * scale > map.scrollTop + map.clientHeight) map.scrollTop = top * scale - map.clientHeight / 3;
+}
+
+/** Follows a line, or none. The focus stays where it was, also on a button that is drawn anew. */
+function followLine(line) {
+  const focused = document.activeElement?.closest('#tables section');
+  const place = focused ? [...part('tables').children].indexOf(focused) : -1;
+  VIEW.line = line;
+  show();
+  if (line !== null) bringToView(Math.floor(line / RUN.lines));
+  if (place >= 0) part('tables').children[place].querySelector(`button[data-line="${line}"]`)?.focus();
+}
+
+const KEYS = {
+  ArrowLeft: () => go(VIEW.at - 1), ArrowRight: () => go(VIEW.at + 1), '[': () => go(VIEW.at - 10), ']': () => go(VIEW.at + 10),
+  n: () => goToChange(true), p: () => goToChange(false), f: () => part('follow').focus(),
+};
+
+/** Does what a key says. The slider, lists and parts that scroll keep the keys that move in them. */
+function press(event) {
+  const letter = event.key.length === 1;
+  const keeps = event.target.closest('select') || (!letter && event.target.closest('#slider, #map, #history, #text'));
+  if (event.ctrlKey || event.metaKey || event.altKey || keeps || !(event.key in KEYS)) return;
+  event.preventDefault();
+  KEYS[event.key]();
+}
+
+/** Follows the line, or goes to the frame, of what was clicked on. */
+function click(event) {
+  const picked = event.target.closest('[data-line]'), frame = event.target.closest('button[data-at]');
+  if (picked) followLine(Number(picked.dataset.line));
+  if (frame) go(Number(frame.dataset.at));
+}
+
+/** Ties the controls. */
+function tie() {
+  part('slider').max = FRAMES.length - 1;
+  part('slider').addEventListener('input', () => go(Number(part('slider').value)));
+  const places = { first: () => go(0), back: () => go(VIEW.at - 1), next: () => go(VIEW.at + 1), last: () => go(FRAMES.length - 1) };
+  const buttons = { ...places, before: () => goToChange(false), after: () => goToChange(true) };
+  for (const [name, action] of Object.entries(buttons)) part(name).addEventListener('click', action);
+  part('follow').innerHTML = '<option value="">none</option>' + LINES.map((line) => `<option>${line}</option>`).join('');
+  part('follow').addEventListener('change', () => followLine(part('follow').value === '' ? null : Number(part('follow').value)));
+  for (const name of ['rows', 'size']) part(name).addEventListener('change', () => { VIEW[name] = part(name).value; show(); });
+  document.addEventListener('keydown', press);
+  document.addEventListener('click', click);
+  window.addEventListener('hashchange', () => { readAddress(); show(); });
+}
+
+/** A number of things, in words. */
+function counted(number, name) {
+  return `${number} ${name}${number === 1 ? '' : 's'}`;
+}
+
+/** Begins. */
+function begin() {
+  const { pointers, sets, limit } = RUN.params;
+  document.title = `${RUN.name}: a run of alewife`;
+  part('name').textContent = RUN.name;
+  const node = `${counted(RUN.contexts, 'context')} and ${counted(RUN.lines, 'home line')} a node`;
+  const end = RUN.loads ? '' : '; the trace has no end, so that no wire’s load in all is told';
+  part('about').textContent = `Mesh ${WIDTH} by ${HEIGHT}, ${node}, ${counted(pointers, 'hardware pointer')}, ${sets} sets, limit ${limit}; `
+    + `${counted(RUN.entries, 'event')}, ${counted(FRAMES.length, 'frame')}${end}.`;
+  readAddress();
+  tie();
+  show();
+  if (VIEW.line !== null) bringToView(Math.floor(VIEW.line / RUN.lines));
+  document.body.dataset.shown = 'yes';
+}
+
+window.addEventListener('error', (event) => fail(event.message));
+begin();
