@@ -1,9 +1,9 @@
 // The map: the mesh with a box for each node, wires with their loads, and arrows for the messages on their way.
 
-const BOX = { width: 252, row: 16, across: 176, down: 140, margin: 96 };
+const BOX = { width: 276, row: 16, across: 176, down: 140, margin: 96 };
 const MOST_ROWS = { cache: 4, pending: 4, home: 4, packet: 3 };
 const DASHES = { RREQ: '', WREQ: '', RDATA: '', WDATA: '', INV: '8 4', ACKC: '2 3', UPDATE: '2 3', REPM: '2 3', BUSY: '9 3 2 3' };
-const LETTERS = 33;
+const LETTERS = 35;
 const MOST_LABELLED = 16;
 
 /** How many rows of each part a box has: the most that any frame needs, up to a limit. */

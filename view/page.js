@@ -2,7 +2,7 @@
 
 /** What is shown: the place of the frame, the followed line, and which rows and what size. */
 const VIEW = { at: 0, line: null, rows: NODES > MOST_LABELLED ? 'changed' : 'all', size: '1' };
-const SHOWN = { history: null };
+const SHOWN = { history: null, address: 0 };
 const part = (name) => document.getElementById(name);
 
 /** Shows why the page doesn't work. */
@@ -26,8 +26,14 @@ function readAddress() {
   if (['1', '0.6', 'fit'].includes(asked.get('size'))) VIEW.size = asked.get('size');
 }
 
-/** Puts what is shown into the address. */
+/** Puts what is shown into the address, when nothing has changed for a moment: a browser takes few addresses a second. */
 function writeAddress() {
+  clearTimeout(SHOWN.address);
+  SHOWN.address = setTimeout(putAddress, 200);
+}
+
+/** Puts what is shown into the address. */
+function putAddress() {
   const words = [`stamp=${FRAMES[VIEW.at].stamp}`];
   if (VIEW.line !== null) words.push(`line=${VIEW.line}`);
   words.push(`rows=${VIEW.rows}`, `size=${VIEW.size}`);
@@ -65,13 +71,24 @@ function showHistory() {
   const current = rows.findLast((each) => Number(each.dataset.at) <= VIEW.at);
   for (const each of rows) {
     each.cells[0].textContent = each === current ? '▶' : '';
-    each.toggleAttribute('aria-current', each === current);
+    if (each === current) each.setAttribute('aria-current', 'true');
+    else each.removeAttribute('aria-current');
   }
   if (current) part('history').scrollTop = current.offsetTop - part('history').clientHeight / 2;
 }
 
-/** Shows the frame. */
+/** A button in a part that is drawn anew, as what finds its like there: its part, and what it is about. */
+function focusedButton() {
+  const button = document.activeElement?.closest('button[data-line], button[data-at]'), within = button?.closest('#tables > section, #history');
+  if (!within) return null;
+  const [name, value] = Object.entries(button.dataset)[0];
+  const place = [...part('tables').children].indexOf(within);
+  return () => (place < 0 ? part('history') : part('tables').children[place]).querySelector(`button[data-${name}="${value}"]`);
+}
+
+/** Shows the frame. The focus stays where it was, also on a button that is drawn anew. */
 function show() {
+  const focused = focusedButton();
   const frame = FRAMES[VIEW.at], state = stateOf(frame), events = eventsOf(VIEW.at);
   showNow(frame, events);
   showControls(frame);
@@ -80,6 +97,7 @@ function show() {
   part('tables').innerHTML = drawTables(state, frame, FRAMES[VIEW.at - 1]);
   part('text').textContent = frame.lines.join('\n') + '\n';
   showHistory();
+  if (focused && !document.activeElement?.closest('button')) focused()?.focus({ preventScroll: true });
   writeAddress();
 }
 
@@ -103,14 +121,11 @@ function bringToView(node) {
   if (top * scale < map.scrollTop || bottom * scale > map.scrollTop + map.clientHeight) map.scrollTop = top * scale - map.clientHeight / 3;
 }
 
-/** Follows a line, or none. The focus stays where it was, also on a button that is drawn anew. */
+/** Follows a line, or none. */
 function followLine(line) {
-  const focused = document.activeElement?.closest('#tables section');
-  const place = focused ? [...part('tables').children].indexOf(focused) : -1;
   VIEW.line = line;
   show();
   if (line !== null) bringToView(Math.floor(line / RUN.lines));
-  if (place >= 0) part('tables').children[place].querySelector(`button[data-line="${line}"]`)?.focus();
 }
 
 const KEYS = {
@@ -118,10 +133,10 @@ const KEYS = {
   n: () => goToChange(true), p: () => goToChange(false), f: () => part('follow').focus(),
 };
 
-/** Does what a key says. The slider, lists and parts that scroll keep the keys that move in them. */
+/** Does what a key says. Lists, the slider and parts that scroll keep the keys that move in them. */
 function press(event) {
   const letter = event.key.length === 1;
-  const keeps = event.target.closest('select') || (!letter && event.target.closest('#slider, #map, #history, #text'));
+  const keeps = event.target.matches('select') || (!letter && event.target.matches('#slider, #map, #history, #text'));
   if (event.ctrlKey || event.metaKey || event.altKey || keeps || !(event.key in KEYS)) return;
   event.preventDefault();
   KEYS[event.key]();
