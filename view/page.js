@@ -175,9 +175,10 @@ function begin() {
   document.title = `${RUN.name}: a run of alewife`;
   part('name').textContent = RUN.name;
   const node = `${counted(RUN.contexts, 'context')} and ${counted(RUN.lines, 'home line')} a node`;
+  const begin = FRAMES[0].stamp ? `, from stamp ${FRAMES[0].stamp} on, where loads so far count from 0` : '';
   const end = RUN.loads ? '' : '; the trace has no end, so that no wire’s load in all is told';
   part('about').textContent = `Mesh ${WIDTH} by ${HEIGHT}, ${node}, ${counted(pointers, 'hardware pointer')}, ${sets} sets, limit ${limit}; `
-    + `${counted(RUN.entries, 'event')}, ${counted(FRAMES.length, 'frame')}${end}.`;
+    + `${counted(RUN.entries, 'event')}, ${counted(FRAMES.length, 'frame')}${begin}${end}.`;
   readAddress();
   tie();
   show();
