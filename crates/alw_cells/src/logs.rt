@@ -76,6 +76,7 @@ impl Log {
         self.events.len() as u32
     }
 
+    /// The log has no event.
     pub fn is_empty(&self) -> bool
         ensures { IsTrue result ↔ (self.now.entries ≡ []) }
     {
