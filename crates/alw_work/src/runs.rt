@@ -25,8 +25,8 @@ const NARROW_ROOM: usize = 4;
 const FEW_NODES: usize = 64;
 
 /// Steps the nodes of an image on so many threads, from the start, and answers what each node did. Unless
-/// a context trapped no node has anything left to do but to wait for messages. It may wait for a lock;
-/// what it promises holds where it returns.
+/// a context trapped, each node has come to its limit, or has no Ready context and no packet left. It may
+/// wait for a lock; what it promises holds where it returns.
 pub fn run_workers<R: Threads + Wait + Sync, G: Gate>(
     rt: &R,
     alloc: Global,
