@@ -35,6 +35,8 @@ fn words_of(rt: &(impl Env + AllocGlobal)) -> Option<Vec<String>> {
 }
 
 #[cfg(test)]
+mod checkpoint_tests;
+#[cfg(test)]
 mod tests;
 #[cfg(test)]
 mod work_tests;

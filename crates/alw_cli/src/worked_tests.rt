@@ -29,7 +29,7 @@ const WRITTEN: &str = "1 I 0
 16 I 0
 ";
 
-const WRITTEN_REPORT: &str = "ALEWIFE REPORT 1
+pub(crate) const WRITTEN_REPORT: &str = "ALEWIFE REPORT 1
 mesh 2 1 contexts 1 lines 1
 params pointers 4 sets 256 limit 32768
 ended halted
@@ -127,7 +127,7 @@ end
 ";
 
 // The trace of two writers: how many entries it has, and what follows those of `WRITTEN`.
-fn written(alloc: Global, count: &str, rest: &str) -> Result<String, Fail> {
+pub(crate) fn written(alloc: Global, count: &str, rest: &str) -> Result<String, Fail> {
     let front = joined(alloc, TWO_WRITERS, count)?;
     let entries = joined(alloc, front.as_str(), WRITTEN)?;
     joined(alloc, entries.as_str(), rest)

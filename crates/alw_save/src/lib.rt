@@ -19,6 +19,3 @@ pub use faults::{CutErr, RestoreErr};
 pub use restores::restore;
 pub use saves::{checkpoint, save};
 pub use values::Cut;
-
-#[cfg(test)]
-mod tests;
