@@ -10,6 +10,3 @@ mod verdicts;
 pub use auditing::audit;
 pub use laws::runs_claim_what_is_sound;
 pub use verdicts::{Place, Verdict};
-
-#[cfg(test)]
-mod tests;

@@ -12,6 +12,3 @@ pub use alw_model::Did;
 pub use cells::{NodeCell, Stepped};
 pub use laws::cells_are_runs;
 pub use logs::{Cursor, Log, Logs};
-
-#[cfg(test)]
-mod tests;

@@ -14,6 +14,3 @@ pub use inspections::inspect;
 pub use laws::views_are_sound;
 pub use showing::view;
 pub use views::{Copies, LineView, LinkMsgs, Pending};
-
-#[cfg(test)]
-mod tests;

@@ -8,6 +8,3 @@ mod replays;
 pub use laws::merges_are_kept;
 pub use merges::merge;
 pub use replays::{Replayed, replay, take};
-
-#[cfg(test)]
-mod tests;

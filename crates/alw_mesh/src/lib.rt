@@ -14,10 +14,3 @@ mod views;
 pub use errors::{FitErr, MOST_STEPS, StepErr, fit};
 pub use machines::Machine;
 pub use parts::MachineParts;
-
-#[cfg(test)]
-mod plays;
-#[cfg(test)]
-mod run_tests;
-#[cfg(test)]
-mod tests;

@@ -9,6 +9,3 @@ pub use alw_memory::HomeView;
 pub use laws::shares_are_enough;
 pub use nodes::Node;
 pub use shares::Share;
-
-#[cfg(test)]
-mod tests;

@@ -18,6 +18,3 @@ pub use memory::put_line;
 pub use reports::{report, summary};
 pub use values::{DirectoryLine, DirectoryLines, Report};
 pub use worked_runs::{worked_json, worked_reports};
-
-#[cfg(test)]
-mod tests;

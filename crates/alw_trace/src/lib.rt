@@ -27,10 +27,3 @@ pub use laws::{claims_are_read_back, traces_are_read_back};
 pub use reading::read_trace;
 pub use values::{Claim, Trace};
 pub use writing::{write_claim, write_trace};
-
-#[cfg(test)]
-mod claim_tests;
-#[cfg(test)]
-mod read_tests;
-#[cfg(test)]
-mod tests;

@@ -12,6 +12,3 @@ mod workers;
 
 pub use gates::{Gate, OpenGate};
 pub use runs::run_workers;
-
-#[cfg(test)]
-mod tests;

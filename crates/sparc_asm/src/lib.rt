@@ -19,6 +19,3 @@ pub use names::{Name, Names, Value};
 pub use sources::read_source;
 pub use statements::{Address, Expression, Line, Lines, Signed, Source, Statement, Term};
 pub use values::{Sum, value_of};
-
-#[cfg(test)]
-mod tests;

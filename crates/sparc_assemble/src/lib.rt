@@ -10,6 +10,3 @@ mod memory;
 mod refusals;
 
 pub use assembling::{Assembled, assemble};
-
-#[cfg(test)]
-mod tests;

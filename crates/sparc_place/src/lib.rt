@@ -13,6 +13,3 @@ pub use cursors::{Place, Places};
 pub use passes::{Laid, fault_at, lay_out};
 pub use plans::Plan;
 pub use sizes::Sizes;
-
-#[cfg(test)]
-mod tests;

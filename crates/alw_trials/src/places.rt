@@ -1,5 +1,5 @@
-use crate::*;
 use sparc_asm::{AsmErr, read_source};
+use sparc_place::*;
 use std::test::Fail;
 
 #[test]

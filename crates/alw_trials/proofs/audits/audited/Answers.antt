@@ -5,7 +5,7 @@ use Rattle.alw_num.specs.declared.addresses.TheConstants.{SHARED_BASE}
 use Rattle.alw_image.specs.declared.parts.Parts.{Parts}
 use Rattle.alw_image.specs.Images.{context_count, line_count}
 use Rattle.alw_flat.specs.Machines.{IsSharedWord}
-use Rattle.alw_audit.proofs.tests.audited.Goals as goal
+use Rattle.alw_trials.proofs.audits.audited.Goals as goal
 
 contexts : (p : Parts) (turns : List ℕ) → context_count p ≡ 1 → AllByRecursion (λ context. context < 1) turns → AllByRecursion (λ context. context < context_count p) turns
 contexts p [] one all = tt

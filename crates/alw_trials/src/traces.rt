@@ -1,10 +1,10 @@
 ghost use Rattle.std.specs.Prelude.{◌<◌, length};
 
-use crate::*;
 use alw_image::{Params, read_image};
 use alw_msg::{Entry, Event, Journal, Prints, Turns, Words};
 use alw_num::NodeNo;
 use alw_text::Text;
+use alw_trace::*;
 use std::alloc::Global;
 use std::test::Fail;
 

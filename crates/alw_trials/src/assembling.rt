@@ -1,6 +1,6 @@
-use crate::*;
 use alw_num::LineNo;
 use sparc_asm::AsmErr;
+use sparc_assemble::*;
 use std::test::Fail;
 
 #[test]

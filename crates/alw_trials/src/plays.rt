@@ -1,5 +1,5 @@
-use crate::Machine;
 use alw_image::{Bodies, Code, Image, LineList, Params, Parts, Starts};
+use alw_mesh::Machine;
 use alw_model::{Counts, Did, Ended, TrapAt};
 use alw_msg::{Event, Kind};
 use alw_num::{LineNo, Meta, NodeNo, NodeSet, SHARED_BASE, State};

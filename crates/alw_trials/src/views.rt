@@ -1,5 +1,5 @@
-use crate::{Copies, LineView, LinkMsgs, Pending, inspect, view};
 use alw_image::{Params, read_image};
+use alw_laws::{Copies, LineView, LinkMsgs, Pending, inspect, view};
 use alw_memory::HomeView;
 use alw_mesh::Machine;
 use alw_msg::Kind::{ACKC, BUSY, INV, RDATA, REPM, RREQ, UPDATE, WDATA, WREQ};

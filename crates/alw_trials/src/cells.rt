@@ -1,44 +1,21 @@
-use crate::{NodeCell, Stepped};
-use alw_image::{Bodies, Code, Image, LineList, Params, Parts, Starts};
+use crate::images::{LINK_TO_ITSELF, ONE_NODE, Sizes, image_of};
+use alw_cells::{NodeCell, Stepped};
+use alw_image::{Params, Starts};
 use alw_msg::{Entry, Event, Kind};
 use alw_num::NodeNo;
 use std::alloc::Global;
 use std::test::Fail;
 
-// Five is stored at the first address of shared data, loaded and printed.
-const LINK_TO_ITSELF: [u32; 7] = [
-    0x0310_0000,
-    0x9010_2005,
-    0xd020_4000,
-    0x9010_0000,
-    0xd000_4000,
-    0x91d0_2001,
-    0x91d0_2000,
-];
-
 const NODE: NodeNo = NodeNo(0);
 
 // The only node of a machine, at its start.
 fn lone_cell(alloc: Global) -> Result<NodeCell, Fail> {
-    let mut code = Code::empty(alloc);
-    for word in &LINK_TO_ITSELF {
-        if code.len() < 100 {
-            code.push(*word)?;
-        }
-    }
-    let mut starts = Starts::empty(alloc);
-    starts.push((NODE, 0, 0))?;
-    let image = Image::from_parts(Parts {
-        width: 1,
-        height: 1,
-        contexts: 1,
+    let sizes = Sizes {
         per_node: 4,
-        code,
-        bodies: Bodies::empty(alloc),
-        starts,
-        always: LineList::empty(alloc),
-    })
-    .ok_or("no image")?;
+        ..ONE_NODE
+    };
+    let starts = Starts::from_slice(alloc, &[(NODE, 0, 0)])?;
+    let image = image_of(alloc, sizes, &LINK_TO_ITSELF, starts, &[])?;
     let params = Params::new(4, 64, 100, 0).ok_or("no parameters")?;
     let count = u16::from(image.width()) * u16::from(image.height());
     if count == 0 {

@@ -4,7 +4,7 @@ ghost use Rattle.std.specs.List.Sorted.{IsStrictlyIncreasing};
 ghost use Rattle.alw_num.specs.declared.addresses.TheConstants.{SHARED_BASE};
 ghost use Rattle.alw_image.specs.Images.{context_count, line_count};
 
-use crate::*;
+use alw_audit::*;
 use alw_image::{Bodies, Code, Image, LineList, Parts, Starts};
 use alw_msg::{Prints, Turns, Words};
 use alw_num::{NoMemory, NodeNo, SHARED_BASE};

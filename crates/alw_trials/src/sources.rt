@@ -1,4 +1,4 @@
-use crate::*;
+use sparc_asm::*;
 use sparc_table::{Instr, Operand};
 use std::test::Fail;
 

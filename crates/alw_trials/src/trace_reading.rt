@@ -1,6 +1,6 @@
-use crate::*;
 use alw_image::ImageErr;
 use alw_text::Text;
+use alw_trace::*;
 use std::alloc::Global;
 use std::test::Fail;
 

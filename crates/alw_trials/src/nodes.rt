@@ -3,26 +3,16 @@ ghost use Rattle.alw_image.specs.Images.{node_count};
 ghost use Rattle.alw_model.specs.NodeStates.{is_enabled_at};
 ghost use Rattle.alw_node.specs.Nodes.{IsGiven};
 
-use crate::{HomeView, Node};
+use crate::images::{LINK_TO_ITSELF, Sizes, image_of};
 use alw_image::{Bodies, Code, Image, LineList, Params, Parts, Starts};
 use alw_model::Did;
 use alw_msg::{Event, Kind, Msg, Sends, Status};
+use alw_node::{HomeView, Node};
 use alw_num::{Line, LineNo, Meta, Mode, NodeNo, NodeSet, State};
 use sparc_table::Outcome;
 use std::alloc::Global;
 use std::sync::Arc;
 use std::test::Fail;
-
-// Five is stored at the first address of shared data, loaded and printed.
-const LINK_TO_ITSELF: [u32; 7] = [
-    0x0310_0000,
-    0x9010_2005,
-    0xd020_4000,
-    0x9010_0000,
-    0xd000_4000,
-    0x91d0_2001,
-    0x91d0_2000,
-];
 
 // One context loads from a line, and the other one stores to it.
 const LOAD_AND_STORE: [u32; 6] = [
@@ -36,54 +26,6 @@ const LOAD_AND_STORE: [u32; 6] = [
 
 // Stores to lines 0 and 4.
 const TWO_STORES: [u32; 4] = [0x0310_0000, 0xd220_4000, 0xd220_6040, 0x91d0_2000];
-
-// The sizes of a machine.
-#[derive(Clone, Copy, Debug)]
-struct Sizes {
-    width: u8,
-    height: u8,
-    contexts: u8,
-    per_node: u16,
-}
-
-// An image without data: its sizes, its code, its starts as node, slot and address, and its
-// Trap-Always lines.
-fn image_of(
-    alloc: Global,
-    sizes: Sizes,
-    words: &[u32],
-    contexts: &[(u16, u8, u32)],
-    lines: &[u32],
-) -> Result<Option<Image>, Fail> {
-    let mut code = Code::empty(alloc);
-    for word in words {
-        if code.len() < 100 {
-            code.push(*word)?;
-        }
-    }
-    let mut starts = Starts::empty(alloc);
-    for (node, slot, address) in contexts {
-        if starts.len() < 100 {
-            starts.push((NodeNo(*node), *slot, *address))?;
-        }
-    }
-    let mut always = LineList::empty(alloc);
-    for line in lines {
-        if always.len() < 100 {
-            always.push(*line)?;
-        }
-    }
-    Ok(Image::from_parts(Parts {
-        width: sizes.width,
-        height: sizes.height,
-        contexts: sizes.contexts,
-        per_node: sizes.per_node,
-        code,
-        bodies: Bodies::empty(alloc),
-        starts,
-        always,
-    }))
-}
 
 // The nodes of a machine, and the messages on its links, each with the nodes that it goes from and
 // to, those of one link in order.
@@ -99,10 +41,14 @@ fn started(
     sizes: Sizes,
     sets: u32,
     words: &[u32],
-    contexts: &[(u16, u8, u32)],
+    contexts: &[(NodeNo, u8, u32)],
     lines: &[u32],
 ) -> Result<Mesh, Fail> {
-    let image = image_of(alloc, sizes, words, contexts, lines)?.ok_or("no image")?;
+    if contexts.len() > 100 {
+        return Err("too long".into());
+    }
+    let starts = Starts::from_slice(alloc, contexts)?;
+    let image = image_of(alloc, sizes, words, starts, lines)?;
     let params = Params::new(4, sets, 100, 0).ok_or("no parameters")?;
     let count = u16::from(image.width()) * u16::from(image.height());
     let code = Arc::new(alloc, image.code().copy()?)?;
@@ -262,7 +208,14 @@ fn a_node_asks_itself(rt: HostRuntime) -> Result<(), Fail> {
         per_node: 1,
     };
     let mut sent = Sends::room(rt.alloc(), 2)?;
-    let mut mesh = started(rt.alloc(), sizes, 4, &LINK_TO_ITSELF, &[(0, 0, 0)], &[])?;
+    let mut mesh = started(
+        rt.alloc(),
+        sizes,
+        4,
+        &LINK_TO_ITSELF,
+        &[(NodeNo(0), 0, 0)],
+        &[],
+    )?;
     let run = [
         (1, instr(0), done(0)),
         (2, instr(0), done(0)),
@@ -303,7 +256,7 @@ fn two_contexts_share_a_line(rt: HostRuntime) -> Result<(), Fail> {
         contexts: 2,
         per_node: 1,
     };
-    let starts = [(0, 0, 0), (0, 1, 0x0c)];
+    let starts = [(NodeNo(0), 0, 0), (NodeNo(0), 1, 0x0c)];
     let mut sent = Sends::room(rt.alloc(), 2)?;
     let mut mesh = started(rt.alloc(), sizes, 4, &LOAD_AND_STORE, &starts, &[])?;
     let asks = [
@@ -345,7 +298,7 @@ fn one_set(rt: HostRuntime) -> Result<(), Fail> {
         per_node: 8,
     };
     let mut sent = Sends::room(rt.alloc(), 2)?;
-    let mut mesh = started(rt.alloc(), sizes, 4, &TWO_STORES, &[(0, 0, 0)], &[])?;
+    let mut mesh = started(rt.alloc(), sizes, 4, &TWO_STORES, &[(NodeNo(0), 0, 0)], &[])?;
     let first = [
         (1, instr(0), done(0)),
         (2, instr(0), Did::Missed { slot: 0 }),
@@ -385,7 +338,7 @@ fn a_listed_line_always_traps(rt: HostRuntime) -> Result<(), Fail> {
         contexts: 1,
         per_node: 1,
     };
-    let starts = [(0, 0, 0x0c), (1, 0, 0)];
+    let starts = [(NodeNo(0), 0, 0x0c), (NodeNo(1), 0, 0)];
     let mut sent = Sends::room(rt.alloc(), 2)?;
     let mut mesh = started(rt.alloc(), sizes, 4, &LOAD_AND_STORE, &starts, &[0])?;
     let evict = Event::Evict {
@@ -430,7 +383,7 @@ fn a_line_in_progress_keeps_messages_waiting(rt: HostRuntime) -> Result<(), Fail
         contexts: 1,
         per_node: 1,
     };
-    let starts = [(0, 0, 0x0c), (1, 0, 0)];
+    let starts = [(NodeNo(0), 0, 0x0c), (NodeNo(1), 0, 0)];
     let mut sent = Sends::room(rt.alloc(), 2)?;
     let mut mesh = started(rt.alloc(), sizes, 4, &LOAD_AND_STORE, &starts, &[0])?;
     let traps = [
@@ -475,7 +428,7 @@ fn sixteen_by_sixteen_nodes_start(rt: HostRuntime) -> Result<(), Fail> {
         sizes,
         256,
         &LINK_TO_ITSELF,
-        &[(255, 0, 0)],
+        &[(NodeNo(255), 0, 0)],
         &[1023],
     )?;
     assert_eq!(rt; mesh.nodes.len(), 256);

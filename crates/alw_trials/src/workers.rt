@@ -1,7 +1,8 @@
-use crate::{Gate, OpenGate, run_workers};
+use crate::images::{ONE_NODE, Sizes, image_of};
 use alw_cells::{Logs, links_agree};
-use alw_image::{Bodies, Code, Image, LineList, Params, Parts, Starts};
+use alw_image::{Image, Params, Starts};
 use alw_num::NodeNo;
+use alw_work::{Gate, OpenGate, run_workers};
 use std::alloc::Global;
 use std::sync::atomic::{AtomicBool, Ordering};
 use std::test::Fail;
@@ -44,24 +45,18 @@ impl Gate for HoldingGate {
 
 // Each node stores to one line, loads from it and prints.
 fn writers(alloc: Global, width: u8, height: u8) -> Result<Image, Fail> {
-    let code = Code::from_slice(alloc, &STORE_LOAD_PRINT)?;
     let mut starts = Starts::empty(alloc);
     for node in 0..u16::from(width.min(16)) * u16::from(height.min(16)) {
         if starts.len() < 256 {
             starts.push((NodeNo(node), 0, 0))?;
         }
     }
-    let parts = Parts {
+    let sizes = Sizes {
         width,
         height,
-        contexts: 1,
-        per_node: 1,
-        code,
-        bodies: Bodies::empty(alloc),
-        starts,
-        always: LineList::empty(alloc),
+        ..ONE_NODE
     };
-    Ok(Image::from_parts(parts).ok_or("no image")?)
+    image_of(alloc, sizes, &STORE_LOAD_PRINT, starts, &[])
 }
 
 // How many events the nodes logged, where there are few.

@@ -1,8 +1,8 @@
-use crate::{DirectoryLine, DirectoryLines, Report, json, report, summary};
 use alw_image::Params;
 use alw_model::{Counts, Ended, TrapAt};
 use alw_msg::{Prints, Stretches, Words};
 use alw_num::{LineNo, Meta, NodeNo, NodeSet, State};
+use alw_report::{DirectoryLine, DirectoryLines, Report, json, report, summary};
 use std::alloc::Global;
 use std::test::Fail;
 

@@ -1,6 +1,6 @@
 use crate::plays::{Play, event_of, goes, started};
-use crate::{FitErr, MOST_STEPS, Machine, MachineParts, StepErr};
 use alw_image::{Params, read_image};
+use alw_mesh::{FitErr, MOST_STEPS, Machine, MachineParts, StepErr};
 use alw_model::{Counts, Ended};
 use alw_msg::{Entry, Event, Msg, Status};
 use alw_node::HomeView;

@@ -1,7 +1,8 @@
-use crate::{Carried, carry, route_text};
-use alw_image::{Bodies, Code, Image, LineList, Params, Parts, Starts};
+use crate::images::{ONE_NODE, Sizes, image_of};
+use alw_image::{Image, Params, Starts};
 use alw_msg::{Entry, Event, Journal};
 use alw_num::NodeNo;
+use alw_route::{Carried, carry, route_text};
 use alw_text::Text;
 use std::alloc::Global;
 use std::test::Fail;
@@ -86,21 +87,12 @@ fn journal_of(alloc: Global, events: &[(u32, Option<u16>, u16)]) -> Result<Journ
     Ok(journal)
 }
 
-fn image_of(alloc: Global, run: &Run<'_>) -> Result<Image, Fail> {
-    if run.code.len() > 100 || run.starts.len() > 16 {
-        return Err(Fail::from("too long"));
-    }
-    let image = Image::from_parts(Parts {
-        width: run.starts.len() as u8,
-        height: 1,
-        contexts: 1,
-        per_node: 1,
-        code: Code::from_slice(alloc, run.code)?,
-        bodies: Bodies::empty(alloc),
-        starts: starts_of(alloc, run.starts)?,
-        always: LineList::empty(alloc),
-    });
-    Ok(image.ok_or("no image")?)
+fn image_of_run(alloc: Global, run: &Run<'_>) -> Result<Image, Fail> {
+    let sizes = Sizes {
+        width: (run.starts.len() % 16) as u8,
+        ..ONE_NODE
+    };
+    image_of(alloc, sizes, run.code, starts_of(alloc, run.starts)?, &[])
 }
 
 // The text of the messages of entries, all of which are legal, by the draws of a seed.
@@ -122,7 +114,7 @@ fn two_writers(rt: HostRuntime) -> Result<(), Fail> {
     let alloc = rt.alloc();
     let wanted =
         b"ALEWIFE ROUTE 1\nmesh 2 1\nmessages 10\ncrossings 4\nlinks 2\n0 1 2\n1 0 2\nend\n";
-    let image = image_of(alloc, &WRITERS)?;
+    let image = image_of_run(alloc, &WRITERS)?;
     let entries = journal_of(alloc, WRITERS.events)?;
     for seed in [0, 1, 7] {
         let text = text_of(alloc, &image, &entries, seed)?;
@@ -134,7 +126,7 @@ fn two_writers(rt: HostRuntime) -> Result<(), Fail> {
 #[test]
 fn the_smallest_sends_nothing(rt: HostRuntime) -> Result<(), Fail> {
     let alloc = rt.alloc();
-    let image = image_of(alloc, &SMALLEST)?;
+    let image = image_of_run(alloc, &SMALLEST)?;
     let entries = journal_of(alloc, SMALLEST.events)?;
     let text = text_of(alloc, &image, &entries, 0)?;
     let wanted = b"ALEWIFE ROUTE 1\nmesh 1 1\nmessages 0\ncrossings 0\nlinks 0\nend\n";

@@ -1,5 +1,5 @@
-use crate::merge;
 use alw_cells::{Log, Logs, links_agree};
+use alw_merge::merge;
 use alw_msg::{Entry, Event, Kind, Msg, Sends};
 use alw_num::{Line, LineNo, NodeNo};
 use std::alloc::Global;
