@@ -1,0 +1,7 @@
+pub mod Turns
+mod Messages
+mod HomeTable
+mod CacheSide
+mod NodeEvents
+mod Starts
+pub mod Runs
