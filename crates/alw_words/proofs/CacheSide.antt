@@ -35,7 +35,8 @@ put_words : (key : ℕ) (copy : Copy) (entries : List (ℕ × Copy)) → AreWord
 put_words key copy [] are all = (are, tt)
 put_words key copy (entry ∷ rest) are all = go (nat_lt key entry.0) (key == entry.0) (put_words key copy rest are all.1)
   where
-    go : (b c : Bool) → AllCopies (put key copy rest) → AllCopies (cond b ((key, copy) ∷ entry ∷ rest) (cond c ((key, copy) ∷ rest) (entry ∷ put key copy rest)))
+    go : (b c : Bool) → AllCopies (put key copy rest)
+        → AllCopies (cond b ((key, copy) ∷ entry ∷ rest) (cond c ((key, copy) ∷ rest) (entry ∷ put key copy rest)))
     go true c more = (are, all)
     go false true more = (are, all.1)
     go false false more = (all.0, more)
@@ -100,8 +101,9 @@ module _ (sets : ℕ) (cache : Cache) (all : AllCopies cache.entries) where
 
   fill_words : (copy : Copy) → AreWords copy.body → CacheActs (fill sets cache copy)
   fill_words copy are =
-      let out = kept_words (λ (other : Copy). not (other.line == copy.line)) (value_at cache (set_of sets copy.line)) (value_words cache all (set_of sets copy.line)) in
-      record { copies = with_words cache all (set_of sets copy.line) copy are; asks = evicted_words (replaced sets cache copy.line) out }
+      let set = set_of sets copy.line in
+      let out = kept_words (λ (other : Copy). not (other.line == copy.line)) (value_at cache set) (value_words cache all set) in
+      record { copies = with_words cache all set copy are; asks = evicted_words (replaced sets cache copy.line) out }
 
   answer_words : (mode : Mode) (body : Line) → AreWords body → AsksWords (inv_answer mode body)
   answer_words Read body are = tt

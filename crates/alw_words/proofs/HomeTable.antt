@@ -84,13 +84,18 @@ pub record EntryActs (d : Directory) (after : Directory × Sends) : Type 0 where
   pub sends : AllTell after.1
 
 pub hardware_words : (d : Directory) (i : ℕ) (said : ToMemory) → AreWords d.body → AsksWords said → EntryActs d (hardware_act d i said)
-hardware_words d i said are asks = let acts = row_acts (hardware_of d) i are d.state said asks in record { body = acts.body; always = refl; sends = acts.sends }
+hardware_words d i said are asks =
+    let acts = row_acts (hardware_of d) i are d.state said asks in
+    record { body = acts.body; always = refl; sends = acts.sends }
 
 pub handler_words : (d : Directory) (i : ℕ) (said : ToMemory) → AreWords d.body → AsksWords said → EntryActs d (handle d i said)
-handler_words d i said are asks = let acts = row_acts (full_map_of d) i are d.state said asks in record { body = acts.body; always = refl; sends = acts.sends }
+handler_words d i said are asks =
+    let acts = row_acts (full_map_of d) i are d.state said asks in
+    record { body = acts.body; always = refl; sends = acts.sends }
 
 -- an entry that is listed as the one before it leaves all entries listed as before
-pub still_listed : (homes : List Directory) (place : ℕ) (d : Directory) → d.always ≡ (entry_at homes place).always → (at : ℕ) → (entry_at (slice_set homes place d) at).always ≡ (entry_at homes at).always
+pub still_listed : (homes : List Directory) (place : ℕ) (d : Directory) → d.always ≡ (entry_at homes place).always → (at : ℕ)
+    → (entry_at (slice_set homes place d) at).always ≡ (entry_at homes at).always
 still_listed [] place d same at = refl
 still_listed (first ∷ rest) zero d same zero = same
 still_listed (first ∷ rest) zero d same (suc at) = refl

@@ -1,7 +1,9 @@
 -- An event of a node leaves words where there were words, sends words, and leaves the entries of home lines listed as they were.
-use Rattle.std.proofs.Common.{◌≡◌, ℕ, ◌<◌, Bool, true, false, cond, Option, Some, None, List, [], ◌∷◌, refl, arith}
+use Rattle.std.proofs.Common.{◌≡◌, ℕ, ◌<◌, Bool, true, false, cond, Option, Some, None, List, [], ◌∷◌, slice_set, refl, arith}
 use Rattle.std.specs.Prelude.{⊤}
 use Rattle.std.specs.List.{AllByRecursion}
+use Rattle.alw_num.specs.declared.addresses.Line.{Line}
+use Rattle.alw_num.specs.declared.addresses.LineNo.{LineNo}
 use Rattle.alw_num.specs.declared.states.Mode.{Mode}
 use Rattle.alw_num.specs.declared.states.Mode.TheVariants.{Read, Write}
 use Rattle.alw_num.specs.Maps.{value_at}
@@ -13,7 +15,7 @@ use Rattle.sparc_table.specs.declared.outcomes.Need.TheVariants as needs
 use Rattle.sparc_table.specs.declared.outcomes.Outcome.{Outcome}
 use Rattle.sparc_table.specs.declared.outcomes.Outcome.TheVariants as outcomes
 use Rattle.sparc_exec.proofs.RegisterWords.{of_start}
-use Rattle.alw_msg.specs.declared.contexts.Status.TheVariants.{Ready, Trapped}
+use Rattle.alw_msg.specs.declared.contexts.Status.TheVariants.{Ready, Waiting, Trapped}
 use Rattle.alw_msg.specs.declared.messages.Msg.{Msg}
 use Rattle.alw_msg.specs.declared.events.Event.{Event}
 use Rattle.alw_msg.specs.declared.events.Event.TheVariants.{Instr, Handle, Deliver, Evict}
@@ -23,16 +25,19 @@ use Rattle.alw_image.specs.declared.parts.Parts.{Parts}
 use Rattle.alw_image.specs.Images.{line_count, zero_line}
 use Rattle.alw_image.specs.Numbers.{IsWord}
 use Rattle.alw_image.specs.Parameters.{Parameters}
-use Rattle.alw_model.specs.LimitLess.{Directory, directory_start, is_trapped, trapped}
-use Rattle.alw_model.specs.Caches.{Copy, Cache, Transaction, granted_copy, ended_by}
+use Rattle.alw_model.specs.LimitLess.{Directory, directory_start}
+use Rattle.alw_model.specs.Caches.{Copy, Cache, Transaction, ended_by}
 use Rattle.alw_model.specs.Contexts.{Slot, no_slot, slot_at, running, woken, wake}
-use Rattle.alw_model.specs.Sides.{entry_at}
-use Rattle.alw_model.specs.NodeStates.{NodeState, home_at, place_of, stamp_of}
-use Rattle.alw_model.specs.ProcessorSteps.{status_after, opened, slots_after}
-use Rattle.alw_model.specs.NodeSteps.{Stepped, take_turn, miss, access, instr_by, instr, at_home, at_cache, evict_from, deliver_by, deliver, handle_by, handle_front, event_at, node_step}
+use Rattle.alw_model.specs.Sides.{Processor, Memory, entry_at}
+use Rattle.alw_model.specs.NodeStates.{processor_of, memory_of, NodeState, place_of, stamp_of}
+use Rattle.alw_model.specs.ProcessorSteps.{ProcessorStep, status_after, opened, slots_after}
+use Rattle.alw_model.specs.ProcessorSteps as processor
+use Rattle.alw_model.specs.MemorySteps.{MemoryStep}
+use Rattle.alw_model.specs.MemorySteps as memory
+use Rattle.alw_model.specs.NodeSteps.{by_processor, by_memory, Stepped, take_turn, miss, access, instr_by, instr, at_home, at_cache, evict_from, deliver_by, deliver, handle_by, handle_front, event_at, node_step}
 use Rattle.alw_order.proofs.Aims.{every_set, every_at, every_push}
 use Rattle.alw_words.specs.Words.{AreWords, AreRegisters}
-use Rattle.alw_words.proofs.Turns.{TrapsByByte, turn_words}
+use Rattle.alw_words.proofs.Turns.{TurnWords, TrapsByByte, turn_words}
 use Rattle.alw_words.proofs.Messages.{AsksWords, TellsWords, SaysWords, AllAsk, AllSend, zero_words, says, asked_words, told_words}
 use Rattle.alw_words.proofs.HomeTable.{hardware_words, handler_words, still_listed}
 use Rattle.alw_words.proofs.CacheSide.{AllCopies, OfWords, granted_words, store_words, evict_words, react_words}
@@ -45,13 +50,16 @@ pub record SlotWords (slot : Slot) : Type 0 where
 abbrev pub AllSlots : List Slot → Type 0
 AllSlots slots = AllByRecursion SlotWords slots
 
+abbrev pub AllEntries : List Directory → Type 0
+AllEntries entries = AllByRecursion (λ (entry : Directory). AreWords entry.body) entries
+
 abbrev pub AllMessages : List Msg → Type 0
 AllMessages messages = AllByRecursion (λ (msg : Msg). AreWords msg.body) messages
 
 pub record NodeWords (node : NodeState) : Type 0 where
   pub slots : AllSlots node.slots
   pub copies : AllCopies node.cache.entries
-  pub homes : AllByRecursion (λ (entry : Directory). AreWords entry.body) node.homes
+  pub homes : AllEntries node.homes
   pub packets : AllMessages node.packets
 
 -- what an event leaves of a node that was so
@@ -64,6 +72,14 @@ pub record StepWords (node : NodeState) (stepped : Stepped) : Type 0 where
 abbrev pub TakesWords : Option Msg → Type 0
 TakesWords None = ⊤
 TakesWords (Some msg) = AreWords msg.body
+
+-- the bytes of a home's entry of a line
+pub entry_words : (homes : List Directory) (place : ℕ) → AllEntries homes → AreWords (entry_at homes place).body
+entry_words homes place all = every_at (λ (entry : Directory). AreWords entry.body) homes place (directory_start zero_line false) all zero_words
+
+-- the entries with another one, whose bytes are words too
+put_words : (homes : List Directory) (place : ℕ) (entry : Directory) → AllEntries homes → AreWords entry.body → AllEntries (slice_set homes place entry)
+put_words homes place entry all is = every_set (λ (e : Directory). AreWords e.body) homes place entry all is
 
 -- ---- slots
 
@@ -84,6 +100,9 @@ trap_type regs outcomes.Done byte pc type e = absurd (cc)
 trap_type regs (outcomes.Miss line mode) byte pc type e = absurd (cc)
 trap_type regs (outcomes.Out word) byte pc type e = absurd (cc)
 trap_type regs outcomes.Halt byte pc type e = absurd (cc)
+
+waiting_words : (regs : Regs) (line : LineNo) → AreRegisters regs → SlotWords (record { regs = regs; status = Waiting line; hold = None })
+waiting_words regs line are = record { regs = are; trap = λ pc type e. absurd (cc) }
 
 woken_words : (line : ℕ) (slot : Slot) → SlotWords slot → SlotWords (woken line slot)
 woken_words line slot are = go (waits_on line slot.status)
@@ -107,138 +126,119 @@ ended_words slots line true (Some transaction) all =
 -- ---- an event
 
 module _ (parts : Parts) (parameters : Parameters) (n stamp : ℕ) (node : NodeState) (are : NodeWords node) where
-  -- an instruction
+  abbrev p : Processor
+  p = processor_of parts parameters n node
 
-  turn_leaves : (slot : ℕ) (cache : Cache) (regs : Regs) (outcome : Outcome) → AllCopies cache.entries → AreRegisters regs → TrapsByByte outcome → StepWords node (take_turn parts parameters n node slot cache regs outcome)
-  turn_leaves slot cache regs outcome copies registers byte = record {
-    left = record {
-      slots = every_set SlotWords node.slots slot _ are.slots (record { regs = registers; trap = trap_type regs outcome byte });
-      copies = copies;
-      homes = are.homes;
-      packets = are.packets;
-    };
-    sends = tt;
+  abbrev m : Memory
+  m = memory_of parts parameters n node
+
+  -- a step of one side leaves the other side as it was
+  of_processor : (step : ProcessorStep) → AllSlots step.slots → AllCopies step.cache.entries → AllSend step.sends → StepWords node (by_processor node step)
+  of_processor step slots copies sends = record {
+    left = record { slots = slots; copies = copies; homes = are.homes; packets = are.packets };
+    sends = sends;
     always = λ at. refl;
   }
+
+  of_memory : (step : MemoryStep) → AllEntries step.homes → AllMessages step.packets → AllSend step.sends
+      → ((at : ℕ) → (entry_at step.homes at).always ≡ (entry_at node.homes at).always) → StepWords node (by_memory node step)
+  of_memory step homes packets sends always = record {
+    left = record { slots = are.slots; copies = are.copies; homes = homes; packets = packets };
+    sends = sends;
+    always = always;
+  }
+
+  -- an instruction
+
+  turn_leaves : (slot : ℕ) (cache : Cache) (after : Regs × Line × Outcome) → AllCopies cache.entries → TurnWords after
+      → StepWords node (take_turn parts parameters n node slot cache after.0 after.2)
+  turn_leaves slot cache after copies words =
+      let slots = every_set SlotWords node.slots slot _ are.slots (record { regs = words.regs; trap = trap_type after.0 after.2 words.trap }) in
+      of_processor (processor.take_turn p slot cache after.0 after.2) slots copies tt
 
   opened_asks : (slot line : ℕ) (mode : Mode) (o : Option Transaction) → AllAsk (opened node.transactions line mode slot o).1
   opened_asks slot line mode (Some transaction) = tt
-  opened_asks slot line mode None = go mode
-    where
-      go : (mode : Mode) → AllAsk (opened node.transactions line mode slot None).1
-      go Read = (tt, tt)
-      go Write = (tt, tt)
+  opened_asks slot line Read None = (tt, tt)
+  opened_asks slot line Write None = (tt, tt)
 
   miss_leaves : (slot line : ℕ) (mode : Mode) → StepWords node (miss parts parameters n stamp node slot line mode)
-  miss_leaves slot line mode = record {
-    left = record {
-      slots = every_set SlotWords node.slots slot _ are.slots (record { regs = (slot_words node.slots slot are.slots).regs; trap = λ pc type e. absurd (cc) });
-      copies = are.copies;
-      homes = are.homes;
-      packets = are.packets;
-    };
-    sends = asked_words parts.per_node n stamp _ (opened_asks slot line mode (value_at node.transactions line));
-    always = λ at. refl;
-  }
+  miss_leaves slot line mode =
+      let regs = (slot_words node.slots slot are.slots).regs in
+      let slots = every_set SlotWords node.slots slot _ are.slots (waiting_words _ (record { 0 = line }) regs) in
+      of_processor (processor.miss stamp p slot line mode) slots are.copies
+      (asked_words parts.per_node n stamp _ (opened_asks slot line mode (value_at node.transactions line)))
+
+  turned : (slot : ℕ) (body : Line) → AreWords body → TurnWords (turn_of parts.code (slot_at node.slots slot).regs (line_count parts) body)
+  turned slot body words = turn_words parts.code (slot_at node.slots slot).regs (line_count parts) body (slot_words node.slots slot are.slots).regs words
 
   access_leaves : (slot line : ℕ) (mode : Mode) (o : Option Copy) → OfWords o → StepWords node (access parts parameters n stamp node slot line mode o)
   access_leaves slot line mode None held = miss_leaves slot line mode
   access_leaves slot line mode (Some copy) held =
-      let after = turn_words parts.code (slot_at node.slots slot).regs (line_count parts) copy.body (slot_words node.slots slot are.slots).regs held in
-      turn_leaves slot _ _ _ (store_words parameters.sets node.cache are.copies copy mode _ after.line) after.regs after.trap
-
-  quiet_leaves : (slot : ℕ) → let after = turn_of parts.code (slot_at node.slots slot).regs (line_count parts) zero_line in StepWords node (take_turn parts parameters n node slot node.cache after.0 after.2)
-  quiet_leaves slot =
-      let after = turn_words parts.code (slot_at node.slots slot).regs (line_count parts) zero_line (slot_words node.slots slot are.slots).regs zero_words in
-      turn_leaves slot node.cache _ _ are.copies after.regs after.trap
+      let after = turned slot copy.body held in
+      turn_leaves slot _ _ (store_words parameters.sets node.cache are.copies copy mode _ after.line) after
 
   need_leaves : (slot : ℕ) (need : Need) → StepWords node (instr_by parts parameters n stamp node slot need)
-  need_leaves slot (needs.Copy line mode) = access_leaves slot line.0 mode (granted_copy parameters.sets node.cache line.0 mode) (granted_words parameters.sets node.cache are.copies line.0 mode)
-  need_leaves slot needs.Nothing = quiet_leaves slot
-  need_leaves slot (needs.Trap type) = quiet_leaves slot
+  need_leaves slot (needs.Copy line mode) = access_leaves slot line.0 mode _ (granted_words parameters.sets node.cache are.copies line.0 mode)
+  need_leaves slot needs.Nothing = turn_leaves slot node.cache _ are.copies (turned slot zero_line zero_words)
+  need_leaves slot (needs.Trap type) = turn_leaves slot node.cache _ are.copies (turned slot zero_line zero_words)
 
   instr_leaves : (slot : Option ℕ) → StepWords node (instr parts parameters n stamp node slot)
-  instr_leaves None = record { left = record { slots = are.slots; copies = are.copies; homes = are.homes; packets = are.packets }; sends = tt; always = λ at. refl }
+  instr_leaves None = of_processor (processor.idle p) are.slots are.copies tt
   instr_leaves (Some slot) = need_leaves slot (need_of parts.code (slot_at node.slots slot).regs (line_count parts))
 
-  -- a message, an eviction
+  -- a message
 
-  entry_words : (line : ℕ) → AreWords (home_at parts node line).body
-  entry_words line = every_at (λ (entry : Directory). AreWords entry.body) node.homes (place_of parts line) (directory_start zero_line false) are.homes zero_words
-
-  home_leaves : (msg : Msg) (said : ToMemory) → AreWords msg.body → AsksWords said → (traps : Bool) → StepWords node (at_home parts parameters n stamp node msg said traps)
+  home_leaves : (msg : Msg) (said : ToMemory) → AreWords msg.body → AsksWords said → (traps : Bool)
+      → StepWords node (at_home parts parameters n stamp node msg said traps)
   home_leaves msg said words asks true =
-      let d = home_at parts node msg.line.0 in
-      record {
-        left = record {
-          slots = are.slots;
-          copies = are.copies;
-          homes = every_set (λ (entry : Directory). AreWords entry.body) node.homes (place_of parts msg.line.0) (trapped d) are.homes (entry_words msg.line.0);
-          packets = every_push (λ (packet : Msg). AreWords packet.body) node.packets msg are.packets words;
-        };
-        sends = tt;
-        always = still_listed node.homes (place_of parts msg.line.0) (trapped d) refl;
-      }
+      let place = place_of parts msg.line.0 in
+      let homes = put_words node.homes place _ are.homes (entry_words node.homes place are.homes) in
+      let packets = every_push (λ (packet : Msg). AreWords packet.body) node.packets msg are.packets words in
+      of_memory (memory.at_home stamp m msg said true) homes packets tt (still_listed node.homes place _ refl)
   home_leaves msg said words asks false =
-      let d = home_at parts node msg.line.0 in
-      let acts = hardware_words d msg.src.0 said (entry_words msg.line.0) asks in
-      record {
-        left = record {
-          slots = are.slots;
-          copies = are.copies;
-          homes = every_set (λ (entry : Directory). AreWords entry.body) node.homes (place_of parts msg.line.0) _ are.homes acts.body;
-          packets = are.packets;
-        };
-        sends = told_words n stamp msg.line.0 _ acts.sends;
-        always = still_listed node.homes (place_of parts msg.line.0) _ acts.always;
-      }
+      let place = place_of parts msg.line.0 in
+      let acts = hardware_words (entry_at node.homes place) msg.src.0 said (entry_words node.homes place are.homes) asks in
+      let homes = put_words node.homes place _ are.homes acts.body in
+      of_memory (memory.at_home stamp m msg said false) homes are.packets (told_words n stamp msg.line.0 _ acts.sends)
+      (still_listed node.homes place _ acts.always)
 
   cache_leaves : (line : ℕ) (said : ToCache) → TellsWords said → StepWords node (at_cache parts parameters n stamp node line said)
   cache_leaves line said tells =
       let acts = react_words parameters.sets node.cache are.copies line said tells in
-      record {
-        left = record {
-          slots = ended_words node.slots line (brings_line said) (ended_by node.transactions line said) are.slots;
-          copies = acts.copies;
-          homes = are.homes;
-          packets = are.packets;
-        };
-        sends = asked_words parts.per_node n stamp _ acts.asks;
-        always = λ at. refl;
-      }
+      let slots = ended_words node.slots line (brings_line said) (ended_by node.transactions line said) are.slots in
+      of_processor (processor.at_cache stamp p line said) slots acts.copies
+      (asked_words parts.per_node n stamp _ acts.asks)
 
   message_leaves : (msg : Msg) → AreWords msg.body → (said : Content) → SaysWords said → StepWords node (deliver_by parts parameters n stamp node msg said)
-  message_leaves msg words (ForMemory said) asks = home_leaves msg said words asks (is_trapped parameters.pointers (home_at parts node msg.line.0) msg.src.0 said)
+  message_leaves msg words (ForMemory said) asks = home_leaves msg said words asks _
   message_leaves msg words (ForCache said) tells = cache_leaves msg.line.0 said tells
 
   delivery_leaves : (taken : Option Msg) → TakesWords taken → StepWords node (deliver parts parameters n stamp node taken)
-  delivery_leaves None words = record { left = are; sends = tt; always = λ at. refl }
+  delivery_leaves None words = of_processor (processor.idle p) are.slots are.copies tt
   delivery_leaves (Some msg) words = message_leaves msg words (content msg) (says msg.kind msg.body words)
+
+  -- the handler
 
   packet_leaves : (packet : Msg) (rest : List Msg) → AllMessages rest → (said : Content) → SaysWords said
       → StepWords node (handle_by parts parameters n stamp (record node { packets = rest }) packet said)
-  packet_leaves packet rest all (ForCache said) tells = record { left = record { slots = are.slots; copies = are.copies; homes = are.homes; packets = all }; sends = tt; always = λ at. refl }
+  packet_leaves packet rest all (ForCache said) tells = of_memory (memory.idle (record m { packets = rest })) are.homes all tt (λ at. refl)
   packet_leaves packet rest all (ForMemory said) asks =
-      let acts = handler_words (home_at parts node packet.line.0) packet.src.0 said (entry_words packet.line.0) asks in
-      record {
-        left = record {
-          slots = are.slots;
-          copies = are.copies;
-          homes = every_set (λ (entry : Directory). AreWords entry.body) node.homes (place_of parts packet.line.0) _ are.homes acts.body;
-          packets = all;
-        };
-        sends = told_words n stamp packet.line.0 _ acts.sends;
-        always = still_listed node.homes (place_of parts packet.line.0) _ acts.always;
-      }
+      let place = place_of parts packet.line.0 in
+      let acts = handler_words (entry_at node.homes place) packet.src.0 said (entry_words node.homes place are.homes) asks in
+      let homes = put_words node.homes place _ are.homes acts.body in
+      of_memory (memory.handle_by stamp (record m { packets = rest }) packet (ForMemory said)) homes all (told_words n stamp packet.line.0 _ acts.sends)
+      (still_listed node.homes place _ acts.always)
 
   queue_leaves : (queue : List Msg) → AllMessages queue → StepWords node (handle_front parts parameters n stamp node queue)
-  queue_leaves [] all = record { left = record { slots = are.slots; copies = are.copies; homes = are.homes; packets = are.packets }; sends = tt; always = λ at. refl }
+  queue_leaves [] all = of_memory (memory.idle m) are.homes are.packets tt (λ at. refl)
   queue_leaves (packet ∷ rest) all = packet_leaves packet rest all.1 (content packet) (says packet.kind packet.body all.0)
+
+  -- by the kind of event
 
   evict_leaves : (set : ℕ) → StepWords node (evict_from parts parameters n stamp node set)
   evict_leaves set =
       let acts = evict_words parameters.sets node.cache are.copies set in
-      record { left = record { slots = are.slots; copies = acts.copies; homes = are.homes; packets = are.packets }; sends = asked_words parts.per_node n stamp _ acts.asks; always = λ at. refl }
+      of_processor (processor.evict_from stamp p set) are.slots acts.copies (asked_words parts.per_node n stamp _ acts.asks)
 
   event_leaves : (event : Event) (taken : Option Msg) → TakesWords taken → StepWords node (event_at parts parameters n stamp node event taken)
   event_leaves (Instr at) taken words = instr_leaves (running node.slots node.current)
@@ -246,7 +246,12 @@ module _ (parts : Parts) (parameters : Parameters) (n stamp : ℕ) (node : NodeS
   event_leaves (Deliver from to) taken words = delivery_leaves taken words
   event_leaves (Evict at set) taken words = evict_leaves set
 
-pub step_leaves : (parts : Parts) (parameters : Parameters) (n : ℕ) (node : NodeState) → NodeWords node → (event : Event) (taken : Option Msg) → TakesWords taken → StepWords node (node_step parts parameters n node event taken)
+pub step_leaves : (parts : Parts) (parameters : Parameters) (n : ℕ) (node : NodeState) → NodeWords node
+    → (event : Event) (taken : Option Msg) → TakesWords taken → StepWords node (node_step parts parameters n node event taken)
 step_leaves parts parameters n node are event taken words =
     let all = event_leaves parts parameters n (stamp_of node.clock taken) node are event taken words in
-    record { left = record { slots = all.left.slots; copies = all.left.copies; homes = all.left.homes; packets = all.left.packets }; sends = all.sends; always = all.always }
+    record {
+      left = record { slots = all.left.slots; copies = all.left.copies; homes = all.left.homes; packets = all.left.packets };
+      sends = all.sends;
+      always = all.always;
+    }

@@ -1,5 +1,5 @@
 -- The induction over a journal: each entry keeps a machine's words, and what it lists.
-use Rattle.std.proofs.Common.{◌≡◌, ℕ, zero, suc, ◌*◌, ◌<◌, ◌==◌, true, false, cond, Option, Some, None, List, [], ◌∷◌, get_or, replicate, IsTrue, refl, sym, subst, ◌∙◌}
+use Rattle.std.proofs.Common.{◌≡◌, ℕ, zero, suc, ◌*◌, ◌<◌, ◌==◌, true, cond, Option, Some, None, List, [], ◌∷◌, get_or, replicate, IsTrue, refl, sym, subst, ◌∙◌}
 use Rattle.std.specs.Prelude.{IsSome}
 use Rattle.std.specs.List.{AllByRecursion}
 use Rattle.std.proofs.lemmas.Bool.{eqb-true, false≢true}
@@ -13,11 +13,11 @@ use Rattle.alw_msg.specs.declared.events.Entry.{Entry}
 use Rattle.alw_msg.specs.Events.{node_of}
 use Rattle.alw_msg.specs.Lists.{front, behind}
 use Rattle.alw_image.specs.declared.parts.Parts.{Parts}
-use Rattle.alw_image.specs.Images.{node_count, line_count, is_always, IsImage, zero_line}
+use Rattle.alw_image.specs.Images.{node_count, line_count, is_always, IsImage}
 use Rattle.alw_image.specs.Numbers as numbers
 use Rattle.alw_image.specs.Parameters.{Parameters, AreParameters}
-use Rattle.alw_model.specs.LimitLess.{Directory, directory_start}
-use Rattle.alw_model.specs.Contexts.{slot_at}
+use Rattle.alw_model.specs.Caches.{Cache, Transactions}
+use Rattle.alw_model.specs.Contexts.{Slot, slot_at}
 use Rattle.alw_model.specs.Lines.{entry_of}
 use Rattle.alw_model.specs.Messages.{home_node}
 use Rattle.alw_model.specs.NodeStates.{NodeState, home_at, place_of}
@@ -32,8 +32,8 @@ use Rattle.alw_coherence.proofs.ContextFacts.{SlotStands}
 use Rattle.alw_coherence.proofs.ContextRuns.{after_keeps}
 use Rattle.alw_coherence.proofs.MachineRuns.{IsKept, entry_kept, start_kept}
 use Rattle.alw_words.specs.Words.{AreWords, SlotHasWords, HasWords}
-use Rattle.alw_words.proofs.Messages.{AllSend, zero_words}
-use Rattle.alw_words.proofs.NodeEvents.{AllMessages, TakesWords, NodeWords, StepWords, slot_words, step_leaves}
+use Rattle.alw_words.proofs.Messages.{AllSend}
+use Rattle.alw_words.proofs.NodeEvents.{AllMessages, TakesWords, NodeWords, StepWords, entry_words, slot_words, step_leaves}
 use Rattle.alw_words.proofs.Starts.{start_words, start_listed}
 
 abbrev AllLinks : List (List Msg) → Type 0
@@ -68,7 +68,9 @@ module _ (parts : Parts) where
   left_words : (links : List (List Msg)) (event : Event) → AllLinks links → AllLinks (links_taken parts links event)
   left_words links (Instr at) all = all
   left_words links (Handle at) all = all
-  left_words links (Deliver from to) all = let place = link_place parts from.0 to.0 in every_set AllMessages links place _ all (behind_words (get_or links place []) (link_words links place all))
+  left_words links (Deliver from to) all =
+      let place = link_place parts from.0 to.0 in
+      every_set AllMessages links place _ all (behind_words (get_or links place []) (link_words links place all))
   left_words links (Evict at emptied) all = all
 
   sent_words : (from : ℕ) (sends : List (ℕ × Msg)) (links : List (List Msg)) → AllSend sends → AllLinks links → AllLinks (links_sent parts links from sends)
@@ -85,7 +87,8 @@ no_messages (suc count) = (tt, no_messages count)
 -- ---- one entry
 
 module _ (parts : Parts) (image : IsImage parts) (parameters : Parameters) (are : AreParameters parameters) where
-  module _ (s : MachineState) (event : Event) (enabled : IsTrue (is_enabled parts parameters s event)) (kept : IsKept parts parameters s) (worded : IsWorded parts s) where
+  module _ (s : MachineState) (event : Event) (enabled : IsTrue (is_enabled parts parameters s event)) (kept : IsKept parts parameters s)
+      (worded : IsWorded parts s) where
     abbrev n : ℕ
     n = node_of event
 
@@ -101,13 +104,22 @@ module _ (parts : Parts) (image : IsImage parts) (parameters : Parameters) (are 
     leaves : StepWords (node_at s n) (stepped_by parts parameters s event)
     leaves = step_leaves parts parameters n (node_at s n) (worded.nodes n here) event (taken_by parts s event) (taken_words parts s event worded.links)
 
+    -- how a line's entry is listed, by the node with this number
+    abbrev listed : ℕ → NodeState → ℕ → Type 0
+    listed line u j = (home_at parts u line).always ≡ (home_at parts (node_at s j) line).always
+
+    still : (line : ℕ) → (entry_of parts (step parts parameters s event) line).always ≡ (entry_of parts s line).always
+    still line =
+        let home = home_node parts line in
+        let each = at_nodes (λ j u. listed line u j) (node_at s) n v (leaves.always (place_of parts line)) (λ j other. refl) home in
+        subst (λ (u : NodeState). listed line u home) (sym (next_node home)) each
+
     step_worded : IsWorded parts (step parts parameters s event)
     step_worded = record {
-      nodes = λ m exists. subst NodeWords (sym (next_node m)) (at_nodes (λ j u. j < node_count parts → NodeWords u) (node_at s) n v (λ l. leaves.left) (λ j other l. worded.nodes j l) m exists);
-      always = λ line exists. subst (λ (u : NodeState). (home_at parts u line).always ≡ (home_at parts (node_at s (home_node parts line)) line).always) (sym (next_node (home_node parts line)))
-          (at_nodes (λ j u. (home_at parts u line).always ≡ (home_at parts (node_at s j) line).always) (node_at s) n v (leaves.always (place_of parts line)) (λ j other. refl) (home_node parts line))
-          ∙ worded.always line exists;
-      links = sent_words parts n (stepped_by parts parameters s event).sends (links_taken parts s.links event) leaves.sends (left_words parts s.links event worded.links);
+      nodes = λ m exists. subst NodeWords (sym (next_node m))
+          (at_nodes (λ j u. j < node_count parts → NodeWords u) (node_at s) n v (λ l. leaves.left) (λ j other l. worded.nodes j l) m exists);
+      always = λ line exists. still line ∙ worded.always line exists;
+      links = sent_words parts n _ (links_taken parts s.links event) leaves.sends (left_words parts s.links event worded.links);
     }
 
   -- ---- a journal
@@ -123,7 +135,8 @@ module _ (parts : Parts) (image : IsImage parts) (parameters : Parameters) (are 
     start_kept parts image parameters are,
     record {
       nodes = λ m exists. subst NodeWords (sym (node_at_start parts m exists)) (start_words parts image words m exists);
-      always = λ line exists. subst (λ (u : NodeState). (home_at parts u line).always ≡ is_always parts line) (sym (node_at_start parts (home_node parts line) (home_below parts line exists))) (start_listed parts image words line exists);
+      always = λ line exists. subst (λ (u : NodeState). (home_at parts u line).always ≡ is_always parts line)
+          (sym (node_at_start parts (home_node parts line) (home_below parts line exists))) (start_listed parts image words line exists);
       links = no_messages (node_count parts * node_count parts);
     },
   )
@@ -138,6 +151,11 @@ trapped_at : (at : ℕ) (status : Status) → trapped_rightly at status ≡ true
 trapped_at at status right pc type e = eqb-true pc at (subst (λ (st : Status). trapped_rightly at st ≡ true) e right)
 
 module _ (parts : Parts) (parameters : Parameters) (s : MachineState) (kept : IsKept parts parameters s) (worded : IsWorded parts s) where
+  held_ready : (slot : Slot) (cache : Cache) (open_ones : Transactions) → SlotStands parts parameters cache open_ones slot
+      → (o : Option ℕ) → slot.hold ≡ o → IsSome o → slot.status ≡ Ready
+  held_ready slot cache open_ones stands None e some = absurd (false≢true some)
+  held_ready slot cache open_ones stands (Some line) e some = (stands.holds line e).ready
+
   slot_is : (n slot : ℕ) → n < node_count parts → SlotHasWords (slot_at (node_at s n).slots slot)
   slot_is n slot here =
       let at = slot_at (node_at s n).slots slot in
@@ -146,24 +164,23 @@ module _ (parts : Parts) (parameters : Parameters) (s : MachineState) (kept : Is
       record {
         regs = words.regs;
         trapped = λ pc type e. (trapped_at at.regs.pc at.status stands.trapped pc type e, words.trap pc type e);
-        held = go at.hold stands refl;
+        held = held_ready at (node_at s n).cache (node_at s n).transactions stands at.hold refl;
       }
-    where
-      go : (o : Option ℕ) → SlotStands parts parameters (node_at s n).cache (node_at s n).transactions (slot_at (node_at s n).slots slot) → (slot_at (node_at s n).slots slot).hold ≡ o → IsSome o → (slot_at (node_at s n).slots slot).status ≡ Ready
-      go None stands e some = absurd (false≢true some)
-      go (Some line) stands e some = (stands.holds line e).ready
 
   words_are : HasWords parts s
   words_are = record {
     slots = λ n slot here there. slot_is n slot here;
     copies = λ n here. (worded.nodes n here).copies;
-    homes = λ line lines. every_at (λ (entry : Directory). AreWords entry.body) (node_at s (home_node parts line)).homes (place_of parts line) (directory_start zero_line false) (worded.nodes (home_node parts line) (home_below parts line lines)).homes zero_words;
+    homes = λ line lines.
+        let home = home_node parts line in
+        entry_words (node_at s home).homes (place_of parts line) (worded.nodes home (home_below parts line lines)).homes;
     always = worded.always;
     packets = λ n here. (worded.nodes n here).packets;
     links = λ from to here there. link_words parts s.links (link_place parts from to) worded.links;
   }
 
-pub always_words : (parts : Parts) → IsImage parts → (parameters : Parameters) → AreParameters parameters → (journal : List Entry) → IsLegal parts parameters journal → numbers.HasWords parts → HasWords parts (state parts parameters journal)
+pub always_words : (parts : Parts) → IsImage parts → (parameters : Parameters) → AreParameters parameters
+    → (journal : List Entry) → IsLegal parts parameters journal → numbers.HasWords parts → HasWords parts (state parts parameters journal)
 always_words parts image parameters are journal legal words =
     let both = always_worded parts image parameters are journal legal words in
     words_are parts parameters (state parts parameters journal) both.0 both.1

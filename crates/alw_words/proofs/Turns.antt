@@ -1,12 +1,13 @@
 -- What a turn leaves: registers with words in them, the first still 0, and a line of words; and a trap's type is one byte.
-use Rattle.std.proofs.Common.{◌≡◌, ℕ, zero, suc, ◌+◌, ◌*◌, ◌/◌, ◌%◌, ◌^◌, ◌<◌, ◌==◌, nat_le, Bool, true, false, cond, Option, Some, None, List, [], ◌∷◌, length, slice_index, slice_set, slice_get, refl, ◌∙◌, arith}
+use Rattle.std.proofs.Common.{◌≡◌, ℕ, zero, suc, ◌+◌, ◌/◌, ◌%◌, ◌^◌, ◌<◌, ◌==◌, nat_le, Bool, true, false, cond, Option, Some, None, List, [], ◌∷◌, ◌++◌, length, slice_index, slice_set, slice_get, refl, ◌∙◌, arith}
 use Rattle.std.specs.Prelude.{⊤}
+use Rattle.std.specs.Int.{w32, to_be_bytes}
 use Rattle.std.specs.List.{AllByRecursion}
 use Rattle.std.proofs.lemmas.List.{length-set}
 use Rattle.alw_num.specs.declared.addresses.Line.{Line}
 use Rattle.alw_num.specs.declared.addresses.Width.{Width}
 use Rattle.alw_num.specs.declared.addresses.Width.TheVariants.{Byte, Half, Word}
-use Rattle.alw_num.specs.Lanes.{bytes_in, bytes_of, line_from, put_half, put_lane}
+use Rattle.alw_num.specs.Lanes.{bytes_in, bytes_of, line_from, put_half, put_lane, word_at}
 use Rattle.sparc_table.specs.Registers.{with_register}
 use Rattle.sparc_table.specs.Operands.{address_of}
 use Rattle.sparc_table.specs.Arithmetic.{Computed, with_codes, multiplied, assigned, arithmetic}
@@ -23,6 +24,7 @@ use Rattle.sparc_table.specs.declared.outcomes.Need.TheVariants as needs
 use Rattle.sparc_table.specs.declared.outcomes.Outcome.{Outcome}
 use Rattle.sparc_table.specs.declared.outcomes.Outcome.TheVariants.{Done, Miss, Out, Halt, Trap}
 use Rattle.sparc_exec.proofs.RegisterWords.{HoldWords, of_turn}
+use Rattle.alw_image.specs.Numbers.{IsWord}
 use Rattle.alw_words.specs.Words.{AreWords, AreRegisters}
 use Rattle.alw_order.proofs.Aims.{every_set, every_at}
 
@@ -38,14 +40,22 @@ IsByte n = n < 256
 abbrev AreBytes : List ℕ → Type 0
 AreBytes bytes = AllByRecursion IsByte bytes
 
+four_before : (word : ℕ) (bytes : List ℕ) → AreBytes bytes → AreBytes (to_be_bytes w32 word ++ bytes)
+four_before word bytes all = (omega arith, (omega arith, (omega arith, (omega arith, all))))
+
 bytes_are : (line : Line) → AreBytes (bytes_of line)
-bytes_are line = (omega arith, (omega arith, (omega arith, (omega arith, (omega arith, (omega arith, (omega arith, (omega arith, (omega arith, (omega arith, (omega arith, (omega arith, (omega arith, (omega arith, (omega arith, (omega arith, tt))))))))))))))))
+bytes_are line =
+    let last = to_be_bytes w32 line.d in
+    let more = to_be_bytes w32 line.c ++ last in
+    four_before line.a (to_be_bytes w32 line.b ++ more) (four_before line.b more (four_before line.c last (four_before line.d [] tt)))
 
 byte_at : (bytes : List ℕ) (i : ℕ) → AreBytes bytes → IsByte (slice_index bytes i)
 byte_at bytes i all = every_at IsByte bytes i 0 all (omega arith)
 
 half_put : (bytes : List ℕ) (i value : ℕ) → AreBytes bytes → AreBytes (put_half bytes i value)
-half_put bytes i value all = every_set IsByte (slice_set bytes i (value / 256 % 256)) (i + 1) (value % 256) (every_set IsByte bytes i (value / 256 % 256) all (omega arith)) (omega arith)
+half_put bytes i value all =
+    let high = value / 256 % 256 in
+    every_set IsByte (slice_set bytes i high) (i + 1) (value % 256) (every_set IsByte bytes i high all (omega arith)) (omega arith)
 
 lane_put : (bytes : List ℕ) (i : ℕ) (width : Width) (value : ℕ) → AreBytes bytes → AreBytes (put_lane bytes i width value)
 lane_put bytes i Byte value all = every_set IsByte bytes i (value % 256) all (omega arith)
@@ -55,7 +65,7 @@ lane_put bytes i Word value all = half_put (put_half bytes i (value / 65536)) (i
 words_from : (bytes : List ℕ) → AreBytes bytes → AreWords (line_from bytes)
 words_from bytes all = (word 0, (word 4, (word 8, word 12)))
   where
-    word : (i : ℕ) → 65536 * (256 * slice_index bytes i + slice_index bytes (i + 1)) + (256 * slice_index bytes (i + 2) + slice_index bytes (i + 2 + 1)) < 2 ^ 32
+    word : (i : ℕ) → IsWord (word_at bytes i)
     word i = omega (arith, byte_at bytes i all, byte_at bytes (i + 1) all, byte_at bytes (i + 2) all, byte_at bytes (i + 2 + 1) all)
 
 stored_words : (op3 address value : ℕ) (line : Line) → AreWords (stored op3 address value line)

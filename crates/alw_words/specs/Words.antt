@@ -40,4 +40,5 @@ pub record HasWords (parts : Parts) (machine : MachineState) : Type 0 where
   pub homes : (line : ℕ) → line < line_count parts → AreWords (entry_of parts machine line).body
   pub always : (line : ℕ) → line < line_count parts → (entry_of parts machine line).always ≡ is_always parts line
   pub packets : (n : ℕ) → n < node_count parts → AllByRecursion (λ (packet : Msg). AreWords packet.body) (node_at machine n).packets
-  pub links : (from to : ℕ) → from < node_count parts → to < node_count parts → AllByRecursion (λ (msg : Msg). AreWords msg.body) (link_at parts machine from to)
+  pub links : (from to : ℕ) → from < node_count parts → to < node_count parts
+      → AllByRecursion (λ (msg : Msg). AreWords msg.body) (link_at parts machine from to)
