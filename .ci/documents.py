@@ -11,7 +11,7 @@ What is tested:
   and each path is there. CHANGES.md may name what is gone.
 - the manual page, the completions, the launcher's help and README.md have the command words of alw_config, and no other options.
 - each edit still fits: its old text stands once in its file.
-- each block of README.md that shows a command is a file of examples/, of which examples/check runs each.
+- each block of README.md that shows commands or C is a file of examples/, of which the checks there run each.
 - docs/ARCHITECTURE.md has each crate of crates.txt, and no other.
 
 A row's second cell is read like this: parts are parted by ';', and what stands in `code` in a part is a function, method or
@@ -426,12 +426,13 @@ def check_architecture(findings, repository):
 
 
 def check_examples(findings):
-    """Each block of README.md that shows a command is one of the examples, which examples/check runs."""
+    """Each block of README.md that shows commands is one of the examples, which examples/check runs, and each in C is a program there."""
     file = ROOT / 'README.md'
-    kept = [example.read_text() for example in (ROOT / 'examples').glob('*.shell')]
-    for block in re.split(r'^```.*\n', file.read_text(), flags=re.M)[1::2]:
-        if block.startswith('$ ') and block not in kept:
-            findings.say(file, 0, f"no file examples/*.shell is the block that begins with '{block.splitlines()[0]}'")
+    kept = {kind: [example.read_text() for example in (ROOT / 'examples').rglob(f'*.{kind}')] for kind in ('shell', 'c')}
+    for language, block in re.findall(r'^```(.*)\n(.*?)^```$', file.read_text(), flags=re.M | re.S):
+        kind = 'c' if language == 'c' else 'shell'
+        if (language == 'c' or block.startswith('$ ')) and block not in kept[kind]:
+            findings.say(file, 0, f"no file *.{kind} of examples/ is the block that begins with '{block.splitlines()[0]}'")
 
 
 def documents(repository):

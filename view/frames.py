@@ -10,6 +10,7 @@ from pathlib import Path
 MOST_FRAMES = 4000
 AT_ONCE = 2
 HEAD = struct.Struct('>4sHBBBxHIIII')
+LINE_AT = {'pending': 1, 'cache': 2, 'home': 1, 'packet': 2}
 NAMING = {'node': 2, 'context': 2, 'pending': 2, 'cache': 2, 'home': 2, 'packet': 5, 'link': 7}
 WORDS = re.compile(r'(?:hold|wait|trapped) \S+|\S+')
 

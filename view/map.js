@@ -2,7 +2,7 @@
 
 const BOX = { width: 276, row: 16, across: 176, down: 140, margin: 96 };
 const MOST_ROWS = { cache: 4, pending: 4, home: 4, packet: 3 };
-const DASHES = { RREQ: '', WREQ: '', RDATA: '', WDATA: '', INV: '8 4', ACKC: '2 3', UPDATE: '2 3', REPM: '2 3', BUSY: '9 3 2 3' };
+const DASHES = { RREQ: '1 3', WREQ: '3 2', RDATA: '', WDATA: '', INV: '', ACKC: '8 3', UPDATE: '8 3', REPM: '8 3', BUSY: '8 2 1 2' };
 const LETTERS = 35;
 const MOST_LABELLED = 16;
 

@@ -1,0 +1,252 @@
+"""A picture (SVG) of a frame: the mesh, what each node has of one line, and the messages on their way, each along its route."""
+import hashlib
+from collections import Counter
+from dataclasses import dataclass, field
+from html import escape
+
+import frames
+
+WIDE, ROW, ACROSS, DOWN, MARGIN = 182, 14, 52, 32, 14
+LETTERS = 26
+DASHES = {'RREQ': '1 3', 'WREQ': '3 2', 'ACKC': '8 3', 'UPDATE': '8 3', 'REPM': '8 3', 'BUSY': '8 2 1 2'}
+EVENTS = {'I': 'runs', 'D': 'receives', 'H': 'handler', 'E': 'evicts'}
+HEAVY = {'RDATA', 'WDATA'}
+
+
+@dataclass
+class Node:
+    """What a node's box says: the status of its contexts, its rows, and whether it has a copy of the followed line."""
+    statuses: list = field(default_factory=list)
+    rows: list = field(default_factory=list)
+    has_copy: bool = False
+
+
+@dataclass(frozen=True)
+class Message:
+    """A message on its way."""
+    sender: int
+    receiver: int
+    kind: str
+    line: int
+
+
+@dataclass(frozen=True)
+class Mesh:
+    """The mesh, with the height of a node's box."""
+    width: int
+    height: int
+    tall: int
+
+    def corner(self, node):
+        """The upper left corner of a node's box."""
+        return MARGIN + node % self.width * (WIDE + ACROSS), MARGIN + 12 + node // self.width * (self.tall + DOWN)
+
+    def size(self):
+        """The width and height of the picture, with a line of text below."""
+        left, top = self.corner(self.width * self.height - 1)
+        return left + WIDE + MARGIN, top + self.tall + MARGIN + 26
+
+    def wires(self):
+        """All wires, each from a node to a neighbour."""
+        for node in range(self.width * self.height):
+            if (node + 1) % self.width:
+                yield from ((node, node + 1), (node + 1, node))
+            if node + self.width < self.width * self.height:
+                yield from ((node, node + self.width), (node + self.width, node))
+
+    def route(self, at, receiver):
+        """The wires that a message crosses: along the row, then along the column."""
+        while at != receiver:
+            across, down = receiver % self.width - at % self.width, receiver - at
+            after = at + (1 if across > 0 else -1) if across else at + (self.width if down > 0 else -self.width)
+            yield at, after
+            at = after
+
+    def lane(self, wire, aside):
+        """Where a wire begins and ends in the gap between two boxes, so far aside. A way there and the way back lie apart."""
+        (left, top), forward = self.corner(min(wire)), wire[0] < wire[1]
+        if abs(wire[0] - wire[1]) == 1 and self.width > 1:
+            y = top + self.tall * (0.27 if forward else 0.73) + aside
+            ends = (left + WIDE, y, left + WIDE + ACROSS, y)
+        else:
+            x = left + WIDE * (0.66 if forward else 0.34) + aside
+            ends = (x, top + self.tall, x, top + self.tall + DOWN)
+        return ends if forward else (*ends[2:], *ends[:2])
+
+
+# ---- what a state says of a line
+
+
+def digest_of(image):
+    """The first 16 digits of an image's SHA-256, by which a picture names it."""
+    return hashlib.sha256(image).hexdigest()[:16]
+
+
+def home_row(words):
+    """A home's row: its state, its hardware pointers, its software set, and how many answers are due. Long sets are counted."""
+    due = f' n {words[9]}' if words[9] != '0' else ''
+    row = f'home {words[2]} H {words[5]} S {words[7]}{due}'
+    if len(row) <= LETTERS:
+        return row
+    counts = [0 if words[at] == '-' else len(words[at].split(',')) for at in (5, 7)]
+    return f'home {words[2]} {counts[0]} in H {counts[1]} in S{due}'
+
+
+def row_of(words):
+    """The row of a node's box for a line of its state."""
+    if words[0] == 'home':
+        return home_row(words)
+    if words[0] == 'packet':
+        return f'queue {words[1]} from {words[3]}'
+    return f'asks {words[2]}' if words[0] == 'pending' else f'cache {words[3]}'
+
+
+def read_state(lines, line):
+    """The nodes of a state, and its messages."""
+    nodes, messages = [], []
+    for words in map(frames.WORDS.findall, lines):
+        if words[0] == 'node':
+            nodes.append(Node())
+        elif words[0] == 'link':
+            messages.append(Message(int(words[1]), int(words[2]), words[3], int(words[4])))
+        elif words[0] == 'context':
+            nodes[-1].statuses.append(words[2])
+        elif int(words[frames.LINE_AT[words[0]]]) == line:
+            nodes[-1].rows.append(row_of(words))
+            nodes[-1].has_copy |= words[0] == 'cache'
+    return nodes, messages
+
+
+def busiest_line(lines):
+    """The line of most messages on their way, of two the first; 0 where there is no message."""
+    counts = Counter(int(each.split()[4]) for each in lines if each.startswith('link '))
+    return max(sorted(counts), key=counts.get, default=0)
+
+
+# ---- drawing
+
+
+def text(x, y, what, extra=''):
+    """A text."""
+    fill = '' if 'fill=' in extra else ' fill="#000"'
+    return f'<text x="{x:g}" y="{y:g}"{fill}{extra}>{escape(what)}</text>'
+
+
+def box(mesh, number, node, event):
+    """A node's box: its number and statuses, in white on black with its event where it has one, and its rows. A box with a copy has a thick edge."""
+    left, top = mesh.corner(number)
+    ink = ' fill="#fff"' if event else ''
+    parts = [f'<rect x="{left}" y="{top}" width="{WIDE}" height="{mesh.tall}" fill="#fff" stroke="#000" stroke-width="{2.5 if node.has_copy else 1}"/>',
+             f'<rect x="{left}" y="{top}" width="{WIDE}" height="{ROW + 4}" fill="#000"/>' if event else '',
+             text(left + 6, top + ROW - 1, f'node {number}', f' font-weight="bold"{ink}'),
+             text(left + 66, top + ROW - 1, event, ink) if event else '',
+             text(left + WIDE - 6, top + ROW - 1, ' '.join(node.statuses)[:LETTERS - 9], f' text-anchor="end"{ink}')]
+    rows = [row if len(row) <= LETTERS else row[:LETTERS - 1] + '…' for row in node.rows]
+    return ''.join(parts) + ''.join(text(left + 6, top + (at + 2) * ROW + 3, row) for at, row in enumerate(rows))
+
+
+def wire(mesh, ends, totals):
+    """A wire, the thicker the more messages cross it in the whole run, and how many these are, where that is known."""
+    x1, y1, x2, y2 = mesh.lane(ends, 0)
+    load, most, forward = totals.get(ends, 0), max(totals.values(), default=1), ends[0] < ends[1]
+    drawn = f'<path d="M{x1:g} {y1:g}L{x2:g} {y2:g}" stroke="#bbb" stroke-width="{1 + 9 * load / most:.3g}"/>'
+    if not totals:
+        return drawn
+    if y1 == y2:
+        _, top = mesh.corner(ends[0])
+        return drawn + text((x1 + x2) / 2, top - 3 if forward else top + mesh.tall + 11, str(load), ' text-anchor="middle"')
+    return drawn + text(x1 + (24 if forward else -24), (y1 + y2) / 2 + 4, str(load), '' if forward else ' text-anchor="end"')
+
+
+def style(message, line):
+    """How the arrow of a message is drawn: dashes by its kind, thick with data, grey of another line."""
+    dash = DASHES.get(message.kind)
+    dashes = f' stroke-dasharray="{dash}"' if dash else ''
+    colour = '#000' if message.line == line else '#888'
+    return colour, f'stroke="{colour}" stroke-width="{2.4 if message.kind in HEAVY else 1.2}"{dashes}'
+
+
+def head(x, y, right, down, colour):
+    """The head of an arrow that ends at a place in a direction."""
+    back, aside = (x - 8 * right, y - 8 * down), (3.2 * down, 3.2 * right)
+    points = f'{x:g} {y:g} {back[0] + aside[0]:g} {back[1] + aside[1]:g} {back[0] - aside[0]:g} {back[1] - aside[1]:g}'
+    return f'<path d="M{points}z" fill="{colour}"/>'
+
+
+def arrow(x1, y1, x2, y2, message, arrives, line):
+    """The arrow of a message over one wire, with a head where it arrives."""
+    colour, drawn = style(message, line)
+    right, down, short = (x2 > x1) - (x2 < x1), (y2 > y1) - (y2 < y1), 7 if arrives else 0
+    shaft = f'<path d="M{x1:g} {y1:g}L{x2 - short * right:g} {y2 - short * down:g}" {drawn}/>'
+    return shaft + (head(x2, y2, right, down, colour) if arrives else '')
+
+
+def arrows(mesh, ends, messages, line):
+    """The messages that cross a wire, side by side, those that arrive first."""
+    _, y1, _, y2 = mesh.lane(ends, 0)
+    apart = min(6, (mesh.tall * 0.46 if y1 == y2 else 36) / len(messages))
+    for at, message in enumerate(sorted(messages, key=lambda each: (each.receiver != ends[1], each.receiver))):
+        place = mesh.lane(ends, (at - (len(messages) - 1) / 2) * apart)
+        yield arrow(*place, message, message.receiver == ends[1], line)
+
+
+def loop(mesh, message, line, place):
+    """A message of a node to itself, as a bow over its box."""
+    left, top = mesh.corner(message.sender)
+    x, (colour, drawn) = left + 20 + 26 * place, style(message, line)
+    return f'<path d="M{x} {top}C{x} {top - 16} {x + 16} {top - 16} {x + 16} {top - 7}" {drawn}/>' + head(x + 16, top, 0, 1, colour)
+
+
+def legend(mesh, stamp, messages, line):
+    """What is on its way, with the stroke of each kind."""
+    _, bottom = mesh.size()
+    said = f'line {line} at stamp {stamp}; ' + ('on their way:' if messages else 'nothing is on its way')
+    parts, x = [text(MARGIN, bottom - 12, said)], MARGIN + 7 * len(said) + 8
+    counts = Counter((each.kind, each.line == line) for each in messages)
+    for (kind, followed), count in sorted(counts.items(), key=lambda pair: (not pair[0][1], pair[0][0])):
+        name = f'{count} {kind}' + ('' if followed else ' of other lines')
+        _, drawn = style(Message(0, 0, kind, line if followed else -1), line)
+        parts += [f'<path d="M{x} {bottom - 16}h34" {drawn}/>', text(x + 40, bottom - 12, name)]
+        x += 40 + 7 * len(name) + 14
+    return ''.join(parts)
+
+
+def crossings(mesh, messages):
+    """The messages that cross each wire."""
+    found = {}
+    for message in messages:
+        for ends in mesh.route(message.sender, message.receiver):
+            found.setdefault(ends, []).append(message)
+    return found
+
+
+def loops(mesh, messages, line):
+    """The messages that nodes have sent to themselves."""
+    counts = Counter()
+    for message in (each for each in messages if each.sender == each.receiver):
+        yield loop(mesh, message, line, counts[message.sender])
+        counts[message.sender] += 1
+
+
+def events_at(run, stamp):
+    """What each node does at a stamp."""
+    events = map(str.split, run.events.get(stamp, []))
+    return {int(words[2] if words[0] == 'D' else words[1]): EVENTS[words[0]] for words in events}
+
+
+def picture(run, state, stamp, loads, line):
+    """The picture of a state at a stamp. The loads of the wires are those of the whole run, or None."""
+    (nodes, messages), events = read_state(state, line), events_at(run, stamp)
+    rows = max(len(node.rows) for node in nodes)
+    mesh = Mesh(*frames.start_of(run.image)['mesh'], ROW * (max(rows, 2) + 1) + 10)
+    totals = {(sender, receiver): load for sender, receiver, load in loads or ()}
+    width, height = mesh.size()
+    parts = [f'<svg xmlns="http://www.w3.org/2000/svg" width="{width}" height="{height}" viewBox="0 0 {width} {height}" '
+             'font-family="monospace" font-size="11" fill="none">',
+             f'<desc>image {digest_of(run.image)}, stamp {stamp}, line {line}</desc>',
+             f'<rect width="{width}" height="{height}" fill="#fff"/>']
+    parts += [wire(mesh, ends, totals) for ends in mesh.wires()]
+    parts += [arrow for ends, each in crossings(mesh, messages).items() for arrow in arrows(mesh, ends, each, line)]
+    parts += [box(mesh, number, node, events.get(number)) for number, node in enumerate(nodes)]
+    parts += [*loops(mesh, messages, line), legend(mesh, stamp, messages, line), '</svg>\n']
+    return '\n'.join(parts)
