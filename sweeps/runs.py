@@ -86,7 +86,7 @@ def row_of(binary, image, options):
     try:
         ran = subprocess.run([binary, *words], input=image.data, stdout=subprocess.PIPE, stderr=subprocess.PIPE)
     except OSError as fault:
-        raise SweepError(f"{binary} can't be run: {fault.strerror}. Name the program, or build it: ./alewife --help") from fault
+        raise SweepError(f"{binary} can't be run: {fault.strerror}. Name the program, or build it: ./alewife gen > image") from fault
     match = SUMMARY.fullmatch(ran.stdout.decode(errors='replace'))
     if ran.returncode not in (0, 4, 5) or not match:
         why = ran.stderr.decode(errors='replace').strip() or 'what it wrote is no summary'
@@ -192,8 +192,15 @@ class Sheet:
             raise SweepError(f"can't write {self.path}: {fault.strerror}") from fault
 
 
+def refuse_device(path):
+    """Refuses to write what is there and is no file, as a device, for the file would take its place."""
+    if os.path.exists(path) and not os.path.isfile(path):
+        raise SweepError(f"can't write {path}: it is there and is no file")
+
+
 def sweep(path, binary, image, runs):
     """Runs what isn't in the file yet: how many runs that were, and how many there are."""
+    refuse_device(path)
     wanted = {(image.digest, *(run[name] for name in OPTIONS)): run for run in runs}
     if Path(path).exists():
         if len(keys_in(path, read(path).decode(errors='replace'), image, wanted)) < len(wanted):
@@ -213,10 +220,12 @@ def sweep(path, binary, image, runs):
 
 def write_whole(path, text):
     """Writes a file whole, or not at all."""
-    scratch = Path(f'{path}.{os.getpid()}')
+    refuse_device(path)
+    real = os.path.realpath(path)
+    scratch = Path(f'{real}.{os.getpid()}')
     try:
         scratch.write_text(text)
-        os.replace(scratch, path)
+        os.replace(scratch, real)
     except OSError as fault:
         scratch.unlink(missing_ok=True)
         raise SweepError(f"can't write {path}: {fault.strerror}") from fault

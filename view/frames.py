@@ -33,7 +33,7 @@ class Program:
         try:
             ran = subprocess.run([self.binary, *words], input=self.trace, stdout=subprocess.PIPE, stderr=subprocess.PIPE)
         except OSError as fault:
-            raise ViewError(f"{self.binary} can't be run: {fault.strerror}. Name the program, or build it: ./alewife --help") from fault
+            raise ViewError(f"{self.binary} can't be run: {fault.strerror}. Name the program, or build it: ./alewife gen > image") from fault
         return ran.returncode, ran.stdout.decode(errors='replace'), ran.stderr.decode(errors='replace').strip()
 
     def save(self, *words):

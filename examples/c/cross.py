@@ -199,16 +199,19 @@ def build(files, sizes, keep=None):
 
 
 def write_whole(path, data):
-    """Writes a file whole, or not at all."""
+    """Writes a file whole, or not at all. A device isn't written, for the file would take its place."""
+    if path.exists() and not path.is_file():
+        raise BuildError(f"can't write {path}: it is there and is no file")
+    real = Path(os.path.realpath(path))
     try:
-        handle, name = tempfile.mkstemp(prefix=f'.{path.name}.', dir=path.parent)
+        handle, name = tempfile.mkstemp(prefix=f'.{real.name}.', dir=real.parent)
     except OSError as error:
         raise BuildError(f"can't write to {path.parent}: {error.strerror}") from error
     try:
         with os.fdopen(handle, 'wb') as file:
             file.write(data)
         os.chmod(name, 0o644)
-        os.replace(name, path)
+        os.replace(name, real)
     except OSError as error:
         os.unlink(name)
         raise BuildError(f"can't write {path}: {error.strerror}") from error
