@@ -8,7 +8,7 @@ What is tested:
 - each crate's README: its headings, its table (the same without the crates), that each edit of the crate has a row, and
   that 'Left open' speaks of want of memory where a public function may answer nothing but that.
 - README.md, docs/ and each crate's README: each name in `code` that looks like one of the repository's is declared in it,
-  and each path is there. CHANGES.md may name what is gone.
+  and each path is there, as is what links lead to. CHANGES.md may name what is gone.
 - the manual page, the completions, the launcher's help and README.md have the command words of alw_config, and no other options.
 - each edit still fits: its old text stands once in its file.
 - each block of README.md that shows commands or C is a file of examples/, of which the checks there run each.
@@ -334,6 +334,7 @@ def check_crate(findings, crate, repository):
 
 
 PATH = re.compile(r'^[\w.*-]+(/[\w.*-]*)+$|^[\w-]+\.(?:rt|antt|md|s|sh|py|txt)$')
+LINK = re.compile(r'\]\(([^):#\s]+)\)')
 WORD = re.compile(r'[A-Za-z_◌][\w-]*')
 
 
@@ -350,6 +351,13 @@ def check_names(findings, file, repository, folder):
                 for word in WORD.findall(span):
                     if word not in known:
                         findings.say(file, number, f'nothing is named {word} (in `{span}`)')
+
+
+def check_links(findings, file):
+    """What a link or a picture leads to is there."""
+    for path in LINK.findall(without_fences(file.read_text())):
+        if not (file.parent / path).exists():
+            findings.say(file, 0, f'there is no {path}')
 
 
 def is_there(path, folder):
@@ -429,7 +437,7 @@ def check_examples(findings):
     """Each block of README.md that shows commands is one of the examples, which examples/check runs, and each in C is a program there."""
     file = ROOT / 'README.md'
     kept = {kind: [example.read_text() for example in (ROOT / 'examples').rglob(f'*.{kind}')] for kind in ('shell', 'c')}
-    for language, block in re.findall(r'^```(.*)\n(.*?)^```$', file.read_text(), flags=re.M | re.S):
+    for language, block in re.findall(r'^```(\w*)\n(.*?)^```$', file.read_text(), flags=re.M | re.S):
         kind = 'c' if language == 'c' else 'shell'
         if (language == 'c' or block.startswith('$ ')) and block not in kept[kind]:
             findings.say(file, 0, f"no file *.{kind} of examples/ is the block that begins with '{block.splitlines()[0]}'")
@@ -455,6 +463,7 @@ def main():
             check_fit(findings, edit, crate)
     for file, folder in documents(repository):
         check_names(findings, file, repository, folder)
+        check_links(findings, file)
     check_architecture(findings, repository)
     check_words(findings)
     check_examples(findings)

@@ -1,4 +1,4 @@
-/* Each context adds its number to a total behind a lock. Behind a barrier the first one prints it. */
+/* Each context adds its number to a total behind a lock. After a barrier the first prints it. */
 #include "alewife.h"
 
 LINE static struct lock lock;
