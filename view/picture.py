@@ -7,7 +7,7 @@ from html import escape
 import frames
 
 WIDE, ROW, ACROSS, DOWN, MARGIN = 182, 14, 52, 32, 14
-LETTERS = 26
+LETTERS, LETTER = 26, 6.6
 DASHES = {'RREQ': '1 3', 'WREQ': '3 2', 'ACKC': '8 3', 'UPDATE': '8 3', 'REPM': '8 3', 'BUSY': '8 2 1 2'}
 EVENTS = {'I': 'runs', 'D': 'receives', 'H': 'handler', 'E': 'evicts'}
 HEAVY = {'RDATA', 'WDATA'}
@@ -132,17 +132,22 @@ def text(x, y, what, extra=''):
     return f'<text x="{x:g}" y="{y:g}"{fill}{extra}>{escape(what)}</text>'
 
 
+def cut(what, most):
+    """A text of at most so many letters."""
+    return what if len(what) <= most else what[:most - 1] + '…'
+
+
 def box(mesh, number, node, event):
     """A node's box: its number and statuses, in white on black with its event where it has one, and its rows. A box with a copy has a thick edge."""
     left, top = mesh.corner(number)
-    ink = ' fill="#fff"' if event else ''
+    ink, name = ' fill="#fff"' if event else '', f'node {number}'
+    room = LETTERS - len(name) - 1 - (len(event) + 1 if event else 0)
     parts = [f'<rect x="{left}" y="{top}" width="{WIDE}" height="{mesh.tall}" fill="#fff" stroke="#000" stroke-width="{2.5 if node.has_copy else 1}"/>',
              f'<rect x="{left}" y="{top}" width="{WIDE}" height="{ROW + 4}" fill="#000"/>' if event else '',
-             text(left + 6, top + ROW - 1, f'node {number}', f' font-weight="bold"{ink}'),
-             text(left + 66, top + ROW - 1, event, ink) if event else '',
-             text(left + WIDE - 6, top + ROW - 1, ' '.join(node.statuses)[:LETTERS - 9], f' text-anchor="end"{ink}')]
-    rows = [row if len(row) <= LETTERS else row[:LETTERS - 1] + '…' for row in node.rows]
-    return ''.join(parts) + ''.join(text(left + 6, top + (at + 2) * ROW + 3, row) for at, row in enumerate(rows))
+             text(left + 6, top + ROW - 1, name, f' font-weight="bold"{ink}'),
+             text(left + 6 + LETTER * (len(name) + 1), top + ROW - 1, event, ink) if event else '',
+             text(left + WIDE - 6, top + ROW - 1, cut(' '.join(node.statuses), room), f' text-anchor="end"{ink}')]
+    return ''.join(parts) + ''.join(text(left + 6, top + (at + 2) * ROW + 3, cut(row, LETTERS)) for at, row in enumerate(node.rows))
 
 
 def wire(mesh, ends, totals):
@@ -158,12 +163,11 @@ def wire(mesh, ends, totals):
     return drawn + text(x1 + (24 if forward else -24), (y1 + y2) / 2 + 4, str(load), '' if forward else ' text-anchor="end"')
 
 
-def style(message, line):
-    """How the arrow of a message is drawn: dashes by its kind, thick with data, grey of another line."""
-    dash = DASHES.get(message.kind)
+def style(kind, is_other):
+    """The colour and the stroke of a message's arrow: dashes by its kind, thick with data, grey where it is of another line than the followed."""
+    dash, colour = DASHES.get(kind), '#888' if is_other else '#000'
     dashes = f' stroke-dasharray="{dash}"' if dash else ''
-    colour = '#000' if message.line == line else '#888'
-    return colour, f'stroke="{colour}" stroke-width="{2.4 if message.kind in HEAVY else 1.2}"{dashes}'
+    return colour, f'stroke="{colour}" stroke-width="{2.4 if kind in HEAVY else 1.2}"{dashes}'
 
 
 def head(x, y, right, down, colour):
@@ -175,7 +179,7 @@ def head(x, y, right, down, colour):
 
 def arrow(x1, y1, x2, y2, message, arrives, line):
     """The arrow of a message over one wire, with a head where it arrives."""
-    colour, drawn = style(message, line)
+    colour, drawn = style(message.kind, message.line != line)
     right, down, short = (x2 > x1) - (x2 < x1), (y2 > y1) - (y2 < y1), 7 if arrives else 0
     shaft = f'<path d="M{x1:g} {y1:g}L{x2 - short * right:g} {y2 - short * down:g}" {drawn}/>'
     return shaft + (head(x2, y2, right, down, colour) if arrives else '')
@@ -193,22 +197,21 @@ def arrows(mesh, ends, messages, line):
 def loop(mesh, message, line, place):
     """A message of a node to itself, as a bow over its box."""
     left, top = mesh.corner(message.sender)
-    x, (colour, drawn) = left + 20 + 26 * place, style(message, line)
+    x, (colour, drawn) = left + 82 + 7 * place, style(message.kind, message.line != line)
     return f'<path d="M{x} {top}C{x} {top - 16} {x + 16} {top - 16} {x + 16} {top - 7}" {drawn}/>' + head(x + 16, top, 0, 1, colour)
 
 
-def legend(mesh, stamp, messages, line):
-    """What is on its way, with the stroke of each kind."""
-    _, bottom = mesh.size()
+def legend(y, stamp, messages, line):
+    """What is on its way, with the stroke of each kind, and how wide that is."""
     said = f'line {line} at stamp {stamp}; ' + ('on their way:' if messages else 'nothing is on its way')
-    parts, x = [text(MARGIN, bottom - 12, said)], MARGIN + 7 * len(said) + 8
-    counts = Counter((each.kind, each.line == line) for each in messages)
-    for (kind, followed), count in sorted(counts.items(), key=lambda pair: (not pair[0][1], pair[0][0])):
-        name = f'{count} {kind}' + ('' if followed else ' of other lines')
-        _, drawn = style(Message(0, 0, kind, line if followed else -1), line)
-        parts += [f'<path d="M{x} {bottom - 16}h34" {drawn}/>', text(x + 40, bottom - 12, name)]
-        x += 40 + 7 * len(name) + 14
-    return ''.join(parts)
+    parts, x = [text(MARGIN, y, said)], MARGIN + LETTER * (len(said) + 2)
+    counts = Counter((each.line != line, each.kind) for each in messages)
+    for (is_other, kind), count in sorted(counts.items()):
+        name = f'{count} {kind}' + (' of other lines' if is_other else '')
+        _, drawn = style(kind, is_other)
+        parts += [f'<path d="M{x:g} {y - 4}h34" {drawn}/>', text(x + 40, y, name)]
+        x += 40 + LETTER * (len(name) + 2)
+    return ''.join(parts), round(x)
 
 
 def crossings(mesh, messages):
@@ -241,12 +244,14 @@ def picture(run, state, stamp, loads, line):
     mesh = Mesh(*frames.start_of(run.image)['mesh'], ROW * (max(rows, 2) + 1) + 10)
     totals = {(sender, receiver): load for sender, receiver, load in loads or ()}
     width, height = mesh.size()
+    told, needed = legend(height - 12, stamp, messages, line)
+    width = max(width, needed)
     parts = [f'<svg xmlns="http://www.w3.org/2000/svg" width="{width}" height="{height}" viewBox="0 0 {width} {height}" '
              'font-family="monospace" font-size="11" fill="none">',
              f'<desc>image {digest_of(run.image)}, stamp {stamp}, line {line}</desc>',
              f'<rect width="{width}" height="{height}" fill="#fff"/>']
     parts += [wire(mesh, ends, totals) for ends in mesh.wires()]
-    parts += [arrow for ends, each in crossings(mesh, messages).items() for arrow in arrows(mesh, ends, each, line)]
+    parts += [drawn for ends, each in crossings(mesh, messages).items() for drawn in arrows(mesh, ends, each, line)]
     parts += [box(mesh, number, node, events.get(number)) for number, node in enumerate(nodes)]
-    parts += [*loops(mesh, messages, line), legend(mesh, stamp, messages, line), '</svg>\n']
+    parts += [*loops(mesh, messages, line), told, '</svg>\n']
     return '\n'.join(parts)
