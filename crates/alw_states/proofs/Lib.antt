@@ -1,0 +1,13 @@
+mod Readings
+mod Words
+mod Choices
+mod Doings
+mod Runs
+mod NodeLines
+mod HomeLines
+mod MessageLines
+mod Homes
+mod NodeTexts
+mod States
+mod Told
+mod Laws
