@@ -13,6 +13,8 @@ What is tested:
 - each edit still fits: its old text stands once in its file.
 - each block of README.md that shows commands or C is a file of examples/, of which the checks there run each.
 - docs/ARCHITECTURE.md has each crate of crates.txt, and no other.
+- docs/REFUSALS.md: each row has calls of its crate, a clause of one of them or a word of it, and tests; and each call of these crates that
+  answers a Result or an Option has a row.
 
 A row's second cell is read like this: parts are parted by ';', and what stands in `code` in a part is a function, method or
 type of the row's crates, or a clause of one named before it in that part. In brackets stand definitions, or an edit's crate.
@@ -26,6 +28,7 @@ ROOT = Path(__file__).resolve().parent.parent
 HEADINGS = ['What it does', 'What a contract sees', 'What is proved', 'What is only tested', 'Left open', 'A caller']
 CRATE_TABLE = ['promise', 'function, clause', 'edit that is refused']
 MAP_TABLE = ['promise', 'function, clause', 'crate', 'edit that is refused']
+REFUSAL_TABLE = ['call', 'refuses', 'clause', 'what stands', 'succeeds in']
 
 # Words in `code` that the repository doesn't declare: of Rust and its library, of the toolchain, and of the shell.
 OUTSIDE = set('''
@@ -433,6 +436,45 @@ def check_architecture(findings, repository):
         findings.say(file, 0, f'{name} stands in its table or in crates.txt, and not in both')
 
 
+def tests_of(crate):
+    """The tests of a crate."""
+    return {name for file in crate.folder.glob('src/**/*.rt') for name in re.findall(r'#\[test\]\s+fn (\w+)', file.read_text())}
+
+
+def check_refusal(findings, file, row, crate, repository):
+    """A row of docs/REFUSALS.md: calls of the crate, with a clause of one of them, and tests. Answers the paths of the calls."""
+    calls = [f for f in crate.functions if f.is_public and f.path in SPAN.findall(row.cells[0])]
+    for path in sorted(set(SPAN.findall(row.cells[0])) - {f.path for f in calls}):
+        findings.say(file, row.line, f'`{path}` is no call of {crate.name}')
+    ensured = [clause for f in calls for clause in f.clauses if clause.kind == 'ensures']
+    words = {clause.name for clause in ensured} | {word for clause in ensured for word in WORD.findall(clause.text)}
+    cited = set(SPAN.findall(row.cells[2]))
+    if cited and not cited & words:
+        findings.say(file, row.line, f'no clause of {row.cells[0]} is named {", ".join(sorted(cited))} or speaks of it')
+    for test, other in re.findall(r'`(\w+)`(?: \(`(\w+)`\))?', row.cells[4]):
+        if test not in tests_of(repository.get(other, crate)) | (set() if other else tests_of(repository['alw_trials'])):
+            findings.say(file, row.line, f'there is no test {test} in {other or crate.name}')
+    return {f.path for f in calls}
+
+
+def check_refusals(findings, repository):
+    """docs/REFUSALS.md: under a heading with a crate's name a row for each of its calls that answers a Result or an Option."""
+    file = ROOT / 'docs' / 'REFUSALS.md'
+    text = file.read_text()
+    headings = [(number, line[3:]) for number, line in enumerate(text.splitlines(), 1) if line.startswith('## ')]
+    named = {}
+    for row in (row for head, rows in tables_of(text) if head == REFUSAL_TABLE for row in rows):
+        name = [heading for number, heading in headings if number < row.line][-1]
+        if name in repository and len(row.cells) == len(REFUSAL_TABLE):
+            named.setdefault(name, set()).update(check_refusal(findings, file, row, repository[name], repository))
+        else:
+            findings.say(file, row.line, f'a row of {len(row.cells)} cells under the heading {name}')
+    for name, paths in named.items():
+        refusing = {f.path for f in repository[name].calls() if re.search('->.*(Result|Option)', f.signature, re.S)}
+        if missing := refusing - paths:
+            findings.say(file, 0, f'has no row of {", ".join(sorted(missing))} of {name}')
+
+
 def check_examples(findings):
     """Each block of README.md that shows commands is one of the examples, which examples/check runs, and each in C is a program there."""
     file = ROOT / 'README.md'
@@ -466,6 +508,7 @@ def main():
         check_links(findings, file)
     check_architecture(findings, repository)
     check_words(findings)
+    check_refusals(findings, repository)
     check_examples(findings)
     if findings.count:
         print(f'documents: {findings.count} findings')
