@@ -4,8 +4,9 @@ use Rattle.std.specs.Fmt.{decimal}
 use Rattle.alw_text.specs.Numbers.{hex_byte}
 use Rattle.alw_msg.specs.declared.contexts.Status.{Status}
 use Rattle.alw_msg.specs.declared.contexts.Status.TheVariants.{Ready, Waiting, Halted, Trapped}
+use Rattle.alw_trace.specs.Lines.{IsNumber}
 use Rattle.alw_save.specs.Lines.{status_text}
-use Rattle.alw_states.proofs.Readings.{Tells, both, said_as, chosen, byte_at, number, IsNumber, Stops}
+use Rattle.alw_states.proofs.Readings.{Tells, both, said_as, chosen, byte_at, number, Stops}
 use Rattle.alw_states.proofs.Words.{one_byte}
 
 data Stem : Type 0 where

@@ -10,9 +10,10 @@ use Rattle.alw_num.specs.Weights.{digit, times}
 use Rattle.alw_num.proofs.Sets.{same_nodes, member}
 use Rattle.alw_report.specs.Reports.{nodes_text}
 use Rattle.alw_model.specs.LimitLess.{Directory}
+use Rattle.alw_trace.specs.Lines.{IsNumber}
 use Rattle.alw_words.specs.Words.{AreWords}
 use Rattle.alw_save.specs.Lines.{body_text, home_states, home_pointers, home_line}
-use Rattle.alw_states.proofs.Readings.{Tells, fixed, both, behind, written, number, IsNumber}
+use Rattle.alw_states.proofs.Readings.{Tells, fixed, both, behind, written, number}
 use Rattle.alw_states.proofs.Runs.{rank}
 use Rattle.alw_states.proofs.Choices.{one_state, one_meta}
 use Rattle.alw_states.proofs.Words.{one_body, body-stops, one_nodes}

@@ -8,7 +8,7 @@ use Rattle.alw_num.specs.declared.states.State.{State}
 use Rattle.alw_num.specs.declared.states.State.TheVariants.{RO, RW, RT, WT}
 use Rattle.alw_num.specs.declared.states.Meta.{Meta}
 use Rattle.alw_num.specs.declared.states.Meta.TheVariants.{Normal, Progress, TrapWrite, TrapAlways}
-use Rattle.alw_num.specs.NodeSets.{Nodes, no_nodes, count_nodes}
+use Rattle.alw_num.specs.NodeSets.{count_nodes}
 use Rattle.alw_num.proofs.Sets.{none_of_count}
 use Rattle.alw_image.specs.declared.parts.Parts.{Parts}
 use Rattle.alw_image.specs.Images.{body_of, is_always}
@@ -19,10 +19,9 @@ use Rattle.alw_model.specs.Machine.{MachineState}
 use Rattle.alw_model.proofs.Journals.{and_parts}
 use Rattle.alw_save.specs.Lines.{home_line}
 use Rattle.alw_save.specs.States.{is_read_only, begins_so, is_as_begun, home_text, homes_text}
-use Rattle.alw_states.proofs.Readings.{IsNumber}
 use Rattle.alw_states.proofs.Runs.{rank, run_rank, one_run, rows, said_of, said-rows, rows_text, each_row, same_texts}
 use Rattle.alw_states.proofs.Words.{same_words}
-use Rattle.alw_states.proofs.HomeLines.{IsRow, same_entry, IsHome, one_home, home-ranks}
+use Rattle.alw_states.proofs.HomeLines.{IsRow, same_entry, one_home, home-ranks}
 
 -- ---- as at the start
 

@@ -7,9 +7,9 @@ use Rattle.alw_image.specs.Numbers.{HasWords}
 use Rattle.alw_image.specs.Parameters.{Parameters, AreParameters}
 use Rattle.alw_model.specs.Machine.{IsLegal, state}
 use Rattle.alw_coherence.proofs.MachineFacts.{always_invariant, always_small}
+use Rattle.alw_trace.specs.Lines.{IsNumber}
 use Rattle.alw_words.proofs.Runs.{always_words}
 use Rattle.alw_save.specs.States.{state_text}
-use Rattle.alw_states.proofs.Readings.{IsNumber}
 use Rattle.alw_states.proofs.States.{IsTold, states_told}
 use Rattle.alw_states.proofs.Told.{few_nodes, machine_told}
 

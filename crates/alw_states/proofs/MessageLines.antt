@@ -3,9 +3,10 @@ use Rattle.std.proofs.Common.{◌≡◌, ℕ, List, ◌++◌, codes, refl, arith
 use Rattle.alw_num.specs.declared.addresses.Line.{Line}
 use Rattle.alw_msg.specs.declared.messages.Kind.{Kind}
 use Rattle.alw_msg.specs.declared.messages.Msg.{Msg}
+use Rattle.alw_trace.specs.Lines.{IsNumber}
 use Rattle.alw_words.specs.Words.{AreWords}
 use Rattle.alw_save.specs.Lines.{message_text, packet_line, link_line}
-use Rattle.alw_states.proofs.Readings.{Tells, fixed, both, behind, said_as, number, IsNumber}
+use Rattle.alw_states.proofs.Readings.{Tells, fixed, both, behind, said_as, number}
 use Rattle.alw_states.proofs.Runs.{rank}
 use Rattle.alw_states.proofs.Choices.{one_kind}
 use Rattle.alw_states.proofs.Words.{one_body, body-stops}

@@ -9,9 +9,10 @@ use Rattle.alw_msg.specs.declared.contexts.Status.{Status}
 use Rattle.alw_image.specs.Numbers.{IsWord}
 use Rattle.alw_model.specs.Caches.{Copy, Transaction}
 use Rattle.alw_model.specs.Contexts.{Slot}
+use Rattle.alw_trace.specs.Lines.{IsNumber}
 use Rattle.alw_words.specs.Words.{AreWords, AreRegisters}
 use Rattle.alw_save.specs.Lines.{spaced_word, flag_digit, codes_text, counters_text, registers_text, context_line, node_line, pending_line, cache_line}
-use Rattle.alw_states.proofs.Readings.{Tells, fixed, both, behind, said_as, number, IsNumber, Stops}
+use Rattle.alw_states.proofs.Readings.{Tells, fixed, both, behind, said_as, number, Stops}
 use Rattle.alw_states.proofs.Runs.{rank}
 use Rattle.alw_states.proofs.Choices.{one_flag, one_mode}
 use Rattle.alw_states.proofs.Words.{one_spaced, one_body}

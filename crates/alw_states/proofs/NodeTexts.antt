@@ -15,9 +15,9 @@ use Rattle.alw_model.specs.Lines.{entry_of}
 use Rattle.alw_model.specs.NodeStates.{NodeState}
 use Rattle.alw_model.specs.Sides.{entry_at}
 use Rattle.alw_model.specs.Machine.{MachineState, node_at}
+use Rattle.alw_trace.specs.Lines.{IsNumber}
 use Rattle.alw_save.specs.Lines.{node_line, pending_line, cache_line, packet_line}
 use Rattle.alw_save.specs.States.{slot_in, context_text, contexts_text, homes_text, maps_text, memory_text, node_text}
-use Rattle.alw_states.proofs.Readings.{IsNumber}
 use Rattle.alw_states.proofs.Runs.{rank, run_rank, one_run, IsRead, one_range}
 use Rattle.alw_states.proofs.Homes.{EachLine, IsHomeLine, homes_rank, one_homes}
 use Rattle.alw_states.proofs.NodeLines.{IsSlot, IsPending, IsCopy, one_node, one_context, one_pending, one_copy, pending-ranks, copy-ranks}

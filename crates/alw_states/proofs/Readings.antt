@@ -1,5 +1,5 @@
 -- Texts that are read in one way: where two of them stand at the front of one text, they say the same, and what follows them is the same.
-use Rattle.std.proofs.Common.{◌≡◌, ℕ, zero, suc, ◌/◌, ◌%◌, ◌^◌, ◌<◌, ◌==◌, Bool, true, false, cond, List, [], ◌∷◌, ◌++◌, drop, slice_index, refl, sym, ap, subst, ◌∙◌, arith, append_assoc}
+use Rattle.std.proofs.Common.{◌≡◌, ℕ, zero, suc, ◌/◌, ◌%◌, ◌<◌, ◌==◌, Bool, true, false, cond, List, [], ◌∷◌, ◌++◌, drop, slice_index, refl, sym, ap, subst, ◌∙◌, arith, append_assoc}
 use Rattle.std.specs.Prelude.{slice_index_or}
 use Rattle.std.specs.Fmt.{decimal, digits, digits_onto, digit_glyph}
 use Rattle.std.specs.Char.{digit_value}
@@ -7,6 +7,7 @@ use Rattle.std.specs.Str.Parse.{AllDigits}
 use Rattle.std.proofs.lemmas.Bool.Decides.{nat_tests}
 use Rattle.std.proofs.lemmas.Fmt.{decimal_injective}
 use Rattle.std.proofs.lemmas.List.{append_cancel_left}
+use Rattle.alw_trace.specs.Lines.{IsNumber}
 
 -- ---- one text in one way
 
@@ -99,9 +100,6 @@ in_digits n = onto 64 n [] tt
 -- what follows any number
 pub same_behind : (n m : ℕ) (u v : List ℕ) → Stops u → Stops v → decimal n ++ u ≡ decimal m ++ v → u ≡ v
 same_behind n m u v stops ends e = (digits_end (decimal n) (decimal m) u v (in_digits n) (in_digits m) stops ends e).1
-
-abbrev pub IsNumber : ℕ → Type 0
-IsNumber n = n < 2 ^ 64
 
 pub number : {B : Type 0} {b d : List ℕ} (n m : ℕ) → IsNumber n → IsNumber m → Stops b → Stops d → Tells B b d
     → Tells ((n ≡ m) × B) (decimal n ++ b) (decimal m ++ d)

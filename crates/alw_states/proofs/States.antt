@@ -12,9 +12,10 @@ use Rattle.alw_image.specs.Images.{node_count}
 use Rattle.alw_model.specs.NodeStates.{NodeState}
 use Rattle.alw_model.specs.Machine.{MachineState, no_node, link_at}
 use Rattle.alw_report.specs.Reports.{heading}
+use Rattle.alw_trace.specs.Lines.{IsNumber}
 use Rattle.alw_save.specs.Lines.{link_line}
 use Rattle.alw_save.specs.States.{node_text, links_from, line_count, state_lines, state_text}
-use Rattle.alw_states.proofs.Readings.{IsNumber, same_behind}
+use Rattle.alw_states.proofs.Readings.{same_behind}
 use Rattle.alw_states.proofs.Runs.{rank, run_rank, one_run, rows, said_of, said-rows, rows_text, each_row, same_texts}
 use Rattle.alw_states.proofs.NodeTexts.{IsNode, nodes_read}
 use Rattle.alw_states.proofs.MessageLines.{IsMessage, IsSent, sent_line, one_sent, sent-ranks}

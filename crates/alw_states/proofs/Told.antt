@@ -27,8 +27,8 @@ use Rattle.alw_model.specs.Machine.{MachineState, node_at, link_at}
 use Rattle.alw_model.specs.MachineInvariant.{MachineInvariant, slot_fits, waits_rightly, holds_rightly, trapped_rightly, transaction_stands, opens_rightly, caches_rightly, packed_rightly, links_rightly}
 use Rattle.alw_model.proofs.Journals.{and_parts}
 use Rattle.alw_coherence.proofs.Ended.{all_at}
+use Rattle.alw_trace.specs.Lines.{IsNumber}
 use Rattle.alw_words.specs.Words.{HasWords, AreWords}
-use Rattle.alw_states.proofs.Readings.{IsNumber}
 use Rattle.alw_states.proofs.Homes.{IsHomeLine}
 use Rattle.alw_states.proofs.NodeTexts.{IsNode}
 use Rattle.alw_states.proofs.States.{IsTold}

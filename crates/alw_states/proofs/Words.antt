@@ -14,9 +14,10 @@ use Rattle.alw_image.specs.Numbers.{IsWord}
 use Rattle.alw_report.specs.Reports.{nodes_text, next_node}
 use Rattle.alw_trace.proofs.OneLine.{one_digit}
 use Rattle.alw_trace.proofs.OneClaim.{one_print}
+use Rattle.alw_trace.specs.Lines.{IsNumber}
 use Rattle.alw_words.specs.Words.{AreWords}
 use Rattle.alw_save.specs.Lines.{spaced_word, body_text}
-use Rattle.alw_states.proofs.Readings.{Tells, both, behind, said_as, IsNumber, Stops, digits_end, in_digits}
+use Rattle.alw_states.proofs.Readings.{Tells, both, behind, said_as, Stops, digits_end, in_digits}
 
 -- ten bytes
 length-word : (n : ℕ) → length (hex_word n) ≡ 10
