@@ -9,6 +9,7 @@ use Rattle.alw_save.specs.Lines.{status_text}
 use Rattle.alw_states.proofs.Readings.{Tells, both, said_as, chosen, byte_at, number, Stops}
 use Rattle.alw_states.proofs.Words.{one_byte}
 
+-- how the text of what a context does begins
 data Stem : Type 0 where
   Holds : Stem
   Runs : Stem
@@ -61,6 +62,7 @@ tail Waits n m l k stops ends rest = number n m l k stops ends rest
 tail Rests n m l k stops ends rest = said_as (λ b. (l ∙ sym k, b)) rest
 tail Traps n m l k stops ends rest = both (one_byte n m l k) rest
 
+-- what stands for a slot's hold and status
 abbrev stem_in : Option ℕ → Status → Stem
 stem_in (Some line) status = Holds
 stem_in None Ready = Runs
@@ -97,6 +99,7 @@ fits pc None (Waiting line) is = is
 fits pc None Halted is = refl
 fits pc None (Trapped at tt) is = is.1
 
+-- and back, where the slot's PC is known
 abbrev pub held_doing : Option ℕ → Status → Option ℕ × Status
 held_doing hold status = (hold, status)
 
