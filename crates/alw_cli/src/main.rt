@@ -37,6 +37,8 @@ fn words_of(rt: &(impl Env + AllocGlobal)) -> Option<Vec<String>> {
 #[cfg(test)]
 mod checkpoint_tests;
 #[cfg(test)]
+mod outside_tests;
+#[cfg(test)]
 mod tests;
 #[cfg(test)]
 mod work_tests;

@@ -16,7 +16,7 @@ use std::test::Fail;
 use std::thread::Threads;
 
 // One node, one context, one word: `ta 0`.
-const SMALLEST: [u8; 40] = [
+pub(crate) const SMALLEST: [u8; 40] = [
     0x41, 0x4c, 0x45, 0x57, 0, 1, 1, 1, 1, 0, 0, 1, 0, 0, 0, 1, 0, 0, 0, 0, 0, 0, 0, 1, 0, 0, 0, 0,
     0x91, 0xd0, 0x20, 0, 0, 0, 0, 0, 0, 0, 0, 0,
 ];
@@ -64,11 +64,32 @@ pub(crate) struct Answered {
     pub(crate) err: MemSink,
 }
 
-// A call by these words, parted by blanks, on these bytes.
-pub(crate) fn call(
+// How the ends of a call behave: how much a read or a write moves, which reads and writes fail, from 1, and
+// how many bytes the output has room for.
+#[derive(Clone, Copy, Debug)]
+pub(crate) struct Ends<'a> {
+    pub(crate) most: usize,
+    pub(crate) failing_reads: &'a [u32],
+    pub(crate) room: usize,
+    pub(crate) failing_writes: &'a [u32],
+    pub(crate) failing_lines: &'a [u32],
+}
+
+// Ends that take and give all.
+pub(crate) const AMPLE: Ends<'static> = Ends {
+    most: 4096,
+    failing_reads: &[],
+    room: 1_000_000,
+    failing_writes: &[],
+    failing_lines: &[],
+};
+
+// A call by these words, parted by blanks, on these bytes, between these ends.
+pub(crate) fn call_between(
     rt: &(impl Threads + Wait + Sync + AllocGlobal),
     words: &str,
     bytes: &[u8],
+    ends: &Ends<'_>,
 ) -> Result<Answered, Fail> {
     let alloc = rt.alloc();
     let mut list = Vec::new(alloc);
@@ -77,11 +98,21 @@ pub(crate) fn call(
             list.push(String::from_str(alloc, word)?)?;
         }
     }
-    let mut input = MemSource::new(alloc, bytes, 4096, &[])?;
-    let mut out = MemSink::new(alloc, 1_000_000, 4096, &[])?;
-    let mut err = MemSink::new(alloc, 4096, 4096, &[])?;
+    let most = ends.most.max(1);
+    let mut input = MemSource::new(alloc, bytes, most, ends.failing_reads)?;
+    let mut out = MemSink::new(alloc, ends.room, most, ends.failing_writes)?;
+    let mut err = MemSink::new(alloc, 4096, 4096, ends.failing_lines)?;
     let done = alewife(rt, alloc, &list, &mut input, &mut out, &mut err, &OpenGate);
     Ok(Answered { done, out, err })
+}
+
+// The same between ample ends.
+pub(crate) fn call(
+    rt: &(impl Threads + Wait + Sync + AllocGlobal),
+    words: &str,
+    bytes: &[u8],
+) -> Result<Answered, Fail> {
+    call_between(rt, words, bytes, &AMPLE)
 }
 
 // The answer, or want of memory.
@@ -270,30 +301,6 @@ fn assembles(rt: HostRuntime) -> Result<(), Fail> {
         )
     );
     assert!(rt; tells(&wrong, "alewife: input refused: source line 2: range\n"));
-    Ok(())
-}
-
-#[test]
-fn faults_outside(rt: HostRuntime) -> Result<(), Fail> {
-    let alloc = rt.alloc();
-    let words = [String::from_str(alloc, "run")?];
-    let mut err = MemSink::new(alloc, 100, 100, &[])?;
-    let mut input = MemSource::new(alloc, &SMALLEST, 1000, &[1])?;
-    let mut out = MemSink::new(alloc, 1000, 1000, &[])?;
-    let read = alewife(
-        &rt, alloc, &words, &mut input, &mut out, &mut err, &OpenGate,
-    );
-    assert_eq!(rt; read.cause, Cause::ReadFault);
-    assert_eq!(rt; err.bytes(), b"alewife: read fault\n".as_slice());
-    let mut input = MemSource::new(alloc, &SMALLEST, 1, &[])?;
-    let mut out = MemSink::new(alloc, 1000, 16, &[2])?;
-    let written = alewife(
-        &rt, alloc, &words, &mut input, &mut out, &mut err, &OpenGate,
-    );
-    if written.cause != Cause::NoMemory {
-        assert_eq!(rt; written.status, 7);
-        assert_eq!(rt; out.bytes(), b"ALEWIFE REPORT 1".as_slice());
-    }
     Ok(())
 }
 

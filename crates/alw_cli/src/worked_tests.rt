@@ -182,7 +182,7 @@ fn worked_runs_that_are_cut_or_illegal(rt: HostRuntime) -> Result<(), Fail> {
 }
 
 // The claim of a node that stores 5, loads it and prints it, up to its lists.
-const STORED: &str = "ALEWIFE CLAIM 1
+pub(crate) const STORED: &str = "ALEWIFE CLAIM 1
 image 64
 414c455700010101010000010000000700000000000000010000000003100000
 90102005d020400090100000d000400091d0200191d020000000000000000000

@@ -4,7 +4,8 @@ use alw_mesh::{FitErr, MOST_STEPS, Machine, MachineParts, StepErr};
 use alw_model::{Counts, Ended};
 use alw_msg::{Entry, Event, Msg, Status};
 use alw_node::HomeView;
-use alw_num::{Line, LineNo, Meta, Mode, NodeNo, SHARED_BASE, State};
+use alw_num::{Draws, Line, LineNo, Meta, Mode, NoMemory, NodeNo, SHARED_BASE, State};
+use alw_sched::finish;
 use sparc_table::Regs;
 use std::alloc::Global;
 use std::test::Fail;
@@ -140,20 +141,6 @@ const FOUR_LINES: Play = Play {
         count RDATA 12, count hops 24, count handlers 4, count spills 4",
 };
 
-// Takes events until an end holds, each by this stride further in the list of those that may be next.
-fn runs(machine: &mut Machine, stride: u32) -> Result<(), Fail> {
-    let mut pick = 0;
-    for _ in 0..100 {
-        let events = machine.events();
-        if machine.ended().is_some() || events == 0 {
-            break;
-        }
-        machine.step(machine.event(pick % events))?;
-        pick = stride.wrapping_add(pick);
-    }
-    Ok(())
-}
-
 // A line has one pointer in hardware and two in software.
 fn is_spilled(machine: &Machine, line: u32) -> bool {
     if line >= machine.lines() {
@@ -174,19 +161,43 @@ fn are_spilled(machine: &Machine) -> bool {
     true
 }
 
-// The lines fill the software table of their home, and no step is refused for it.
-fn fills(machine: &mut Machine, stride: u32) -> Result<bool, Fail> {
-    runs(machine, stride)?;
-    goes(machine, FOUR_LINES.rows)?;
-    Ok(are_spilled(machine))
-}
-
-// In whatever order the events come.
+// The lines fill the software table of their home, by the schedule of whatever seed.
 #[test]
 fn full_tables(rt: HostRuntime) -> Result<(), Fail> {
-    for stride in [0, 1, 5, 7] {
-        assert!(rt; fills(&mut started(rt.alloc(), &FOUR_LINES)?, stride)?);
+    for seed in 1..17u64 {
+        let mut machine = started(rt.alloc(), &FOUR_LINES)?;
+        finish(&mut machine, seed)?;
+        goes(&mut machine, FOUR_LINES.rows)?;
+        assert!(rt; are_spilled(&machine));
     }
+    Ok(())
+}
+
+// The state of the draws after so many of a seed.
+fn state_after(seed: u64, count: u32) -> u64 {
+    let mut draws = Draws { state: seed };
+    for _ in 0..count {
+        draws.draw();
+    }
+    draws.state
+}
+
+// Where memory is refused on the way, the machine stands after some of the seed's events, each of which took one
+// draw: the draws behind them bring it to the same end.
+#[test]
+fn a_refused_run_goes_on(rt: HostRuntime) -> Result<(), Fail> {
+    let mut whole = started(rt.alloc(), &FOUR_LINES)?;
+    let ended = finish(&mut whole, 7)?;
+    let mut machine = started(rt.alloc(), &FOUR_LINES)?;
+    let again = match finish(&mut machine, 7) {
+        Ok(ended) => ended,
+        Err(NoMemory) => {
+            let state = state_after(7, machine.journal().len());
+            finish(&mut machine, state)?
+        }
+    };
+    assert!(rt; again == ended);
+    assert!(rt; machine.journal().members() == whole.journal().members());
     Ok(())
 }
 
