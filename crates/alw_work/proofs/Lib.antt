@@ -1,3 +1,4 @@
 pub mod Trapping
 pub mod Finishing
 pub mod Leaving
+pub mod Fairness

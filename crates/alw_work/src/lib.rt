@@ -4,6 +4,7 @@
 
 mod cells;
 mod gates;
+mod ready;
 mod rings;
 mod runs;
 mod seats;
@@ -11,4 +12,5 @@ mod signs;
 mod workers;
 
 pub use gates::{Gate, OpenGate};
+pub use ready::{Counting, Ready, ReadyPass};
 pub use runs::run_workers;
