@@ -367,4 +367,5 @@ BY_WORD = [other_number, other_number, lying_count, other_blank, other_case, exc
 OF_TEXTS = [*ANYWHERE, *BY_LINE, *BY_WORD]
 OF_SOURCES = [*OF_TEXTS, *[other_of_its_kind] * 20, *[one_line_more] * 10]
 OF_IMAGES = [*ANYWHERE, other_field, other_field, other_members, other_members, *[other_instruction] * 4]
+OF_RUNS = [other_members, *[other_instruction] * 6]
 IN_FORM = [other_row, other_row, near_number, near_number, other_entry, other_digit, other_parameter, next_lines_exchanged]
