@@ -457,18 +457,26 @@ def check_refusal(findings, file, row, crate, repository):
     return {f.path for f in calls}
 
 
+def refusal_rows(text):
+    """The rows of docs/REFUSALS.md, each with the heading above it."""
+    headings = [(number, line[3:]) for number, line in enumerate(text.splitlines(), 1) if line.startswith('## ')]
+    for row in (row for head, rows in tables_of(text) if head == REFUSAL_TABLE for row in rows):
+        yield [heading for number, heading in headings if number < row.line][-1], row
+
+
 def check_refusals(findings, repository):
     """docs/REFUSALS.md: under a heading with a crate's name a row for each of its calls that answers a Result or an Option."""
-    file = ROOT / 'docs' / 'REFUSALS.md'
-    text = file.read_text()
-    headings = [(number, line[3:]) for number, line in enumerate(text.splitlines(), 1) if line.startswith('## ')]
-    named = {}
-    for row in (row for head, rows in tables_of(text) if head == REFUSAL_TABLE for row in rows):
-        name = [heading for number, heading in headings if number < row.line][-1]
+    file, named = ROOT / 'docs' / 'REFUSALS.md', {}
+    for name, row in refusal_rows(file.read_text()):
         if name in repository and len(row.cells) == len(REFUSAL_TABLE):
             named.setdefault(name, set()).update(check_refusal(findings, file, row, repository[name], repository))
         else:
             findings.say(file, row.line, f'a row of {len(row.cells)} cells under the heading {name}')
+    check_all_refuse(findings, file, named, repository)
+
+
+def check_all_refuse(findings, file, named, repository):
+    """Each call of these crates that answers a Result or an Option is named."""
     for name, paths in named.items():
         refusing = {f.path for f in repository[name].calls() if re.search('->.*(Result|Option)', f.signature, re.S)}
         if missing := refusing - paths:
