@@ -2,12 +2,15 @@
      REFUSE_ALLOCATION=n   the nth request for memory; REFUSE_FROM=n: that one and all behind it
      REFUSE_READ=n         the nth read fails; REFUSE_WRITE=n: the nth write to standard output; REFUSE_ERROR=n: to standard error
      INTERRUPT=n           the nth read and the nth write to standard output are ended by a signal before a byte has moved
+     REFUSE_THREAD=n       the nth start of a thread, and all behind it
      MOST=n                a read or write moves at most so many bytes
      COUNTS=file           where the three counts are written at the end, as numbers
    A number that isn't given is 0, which refuses nothing. */
 #define _GNU_SOURCE
+#include <dlfcn.h>
 #include <errno.h>
 #include <fcntl.h>
+#include <pthread.h>
 #include <stdatomic.h>
 #include <stdio.h>
 #include <stdlib.h>
@@ -19,8 +22,9 @@ extern void *__libc_calloc(size_t, size_t);
 extern void *__libc_realloc(void *, size_t);
 extern void *__libc_memalign(size_t, size_t);
 
-static long refused_allocation, refused_from, refused_read, refused_write, refused_error, interrupted, most;
-static atomic_long allocations, reads, writes, errors;
+static long refused_allocation, refused_from, refused_read, refused_write, refused_error, refused_thread, interrupted, most;
+static atomic_long allocations, reads, writes, errors, threads;
+static int (*start_thread)(pthread_t *, const pthread_attr_t *, void *(*)(void *), void *);
 static int is_ready;
 
 static long number(const char *name) {
@@ -34,8 +38,10 @@ __attribute__((constructor)) static void begin(void) {
     refused_read = number("REFUSE_READ");
     refused_write = number("REFUSE_WRITE");
     refused_error = number("REFUSE_ERROR");
+    refused_thread = number("REFUSE_THREAD");
     interrupted = number("INTERRUPT");
     most = number("MOST");
+    *(void **)&start_thread = dlsym(RTLD_NEXT, "pthread_create");
     is_ready = 1;
 }
 
@@ -72,6 +78,11 @@ int posix_memalign(void **block, size_t boundary, size_t size) {
     if (!made) return ENOMEM;
     *block = made;
     return 0;
+}
+
+int pthread_create(pthread_t *thread, const pthread_attr_t *attributes, void *(*work)(void *), void *given) {
+    long count = atomic_fetch_add(&threads, 1) + 1;
+    return refused_thread && count >= refused_thread ? EAGAIN : start_thread(thread, attributes, work, given);
 }
 
 /* Whether a call that is number `count` is ended: by its own number, or by the signal's. */
