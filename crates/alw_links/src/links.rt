@@ -72,25 +72,14 @@ impl Links {
 
     /// Room for at least so many messages more, or all as it was. NoMemory also comes where there
     /// would be more than 2^62 places. No call behind it takes memory.
-    #[inline(always)]
     pub fn reserve(&mut self, count: u32) -> Result<(), NoMemory>
         ensures ok { OnOk result (self.new ≡ record self.old { room = max self.old.room count }) }
         ensures err { OnErr result (self.new ≡ self.old) }
     {
-        if self.spare.len() >= count as usize {
+        let had = self.spare.len();
+        if had >= count as usize {
             return Ok(());
         }
-        self.grow(count)
-    }
-
-    // The same, where there is room for fewer.
-    #[cold]
-    fn grow(&mut self, count: u32) -> Result<(), NoMemory>
-        requires { self.old.room < count }
-        ensures ok { OnOk result (self.new ≡ record self.old { room = max self.old.room count }) }
-        ensures err { OnErr result (self.new ≡ self.old) }
-    {
-        let had = self.spare.len();
         if self.count > MOST - count as usize {
             return Err(NoMemory);
         }
@@ -126,7 +115,6 @@ impl Links {
     }
 
     /// What an event of a node sends goes to the ends of the node's links, in order.
-    #[inline(always)]
     pub fn send_all(&mut self, from: NodeNo, sends: &Sends)
         requires from { from.0 < self.old.nodes }
         requires to { All (λ send. send.0 < self.old.nodes) sends.now.messages }

@@ -166,7 +166,6 @@ impl Mesh {
     }
 
     /// The stamp that an event has.
-    #[inline(always)]
     pub fn stamp(&self, event: Event) -> u32
         requires { IsTrue (is_enabled self.now.image self.now.parameters self.now.machine event) }
         ensures { result ≡ stamp_at self.now.image self.now.machine event }
@@ -179,7 +178,6 @@ impl Mesh {
     }
 
     /// Room for a message to each node.
-    #[inline(always)]
     pub fn reserve(&mut self) -> Result<(), NoMemory>
         ensures ok { OnOk result (self.new ≡ record self.old { room = max self.old.room (node_count self.old.image) }) }
         ensures err { OnErr result (self.new ≡ self.old) }
@@ -189,7 +187,6 @@ impl Mesh {
     }
 
     /// An event happens. What it sends is in `sent`, and on its way.
-    #[inline(always)]
     pub fn happen(&mut self, event: Event, sent: &mut Sends) -> Happening
         requires enabled { IsTrue (is_enabled self.old.image self.old.parameters self.old.machine event) }
         requires links { node_count self.old.image ≤ self.old.room }

@@ -48,7 +48,6 @@ pub fn nodes_start(
 }
 
 /// The message that an event takes, off its link: the head for a delivery, and none else.
-#[inline(always)]
 pub fn take(links: &mut Links, event: Event) -> Option<Msg>
     requires { IsWithin links.old.nodes event }
     ensures message { result ≡ taken_from links.old event }
@@ -103,7 +102,6 @@ pub struct Acted {
 }
 
 /// One event of a node, with the message that it takes.
-#[inline(always)]
 pub fn act(
     nodes: &mut Vec<Node>,
     at: usize,

@@ -34,7 +34,6 @@ impl Ready {
     /// event's own node, at the link that it took from, and at the links of its sends; where the event is
     /// wide also at the heads of all links to its node that hold something; and where with it every
     /// context has halted at all nodes.
-    #[inline(always)]
     pub fn renew<V: View>(&mut self, view: &V, happened: &Happened, sends: &Sends)
         requires counted { length self.old ≡ node_count (V.image view.now) }
         requires few { node_count (V.image view.now) ≤ 256 }
@@ -54,7 +53,6 @@ impl Ready {
     }
 
     // Looks again at the row of an event's own node.
-    #[inline(always)]
     fn renew_own<V: View>(&mut self, view: &V, happened: &Happened)
         requires counted { length self.old ≡ node_count (V.image view.now) }
         requires few { node_count (V.image view.now) ≤ 256 }
@@ -71,7 +69,6 @@ impl Ready {
     }
 
     // Looks again at the heads of the links that a node sent to.
-    #[inline(always)]
     fn renew_sent<V: View>(&mut self, view: &V, from: NodeNo, sends: &Sends)
         requires counted { length self.old ≡ node_count (V.image view.now) }
         requires few { node_count (V.image view.now) ≤ 256 }

@@ -12,7 +12,6 @@ use alw_msg::{Kind, Msg, Sends};
 use alw_num::{MOST_NODES, NodeNo, State};
 
 /// One event more is counted. Of each number it is at most 2^25.
-#[inline(always)]
 pub fn count_event(counts: &mut Counts, image: &Image, happened: &Happened, sends: &Sends)
     requires sends { length sends.now.messages ≤ MOST_NODES }
     requires few { AreAtMost (2 ^ 62) counts.old }
@@ -44,7 +43,6 @@ fn count_did(counts: &mut Counts, did: Did)
 }
 
 // What a node sends is counted: of each number it is at most 131,072 a message.
-#[inline(always)]
 fn count_sends(counts: &mut Counts, image: &Image, from: NodeNo, sends: &Sends)
     requires sends { length sends.now.messages ≤ MOST_NODES }
     requires few { AreAtMost (2 ^ 62 + 1) counts.old }

@@ -68,7 +68,6 @@ impl Tally {
     }
 
     /// One event more of a run of this image, with what the event sent.
-    #[inline(always)]
     pub fn add(&mut self, image: &Image, happened: &Happened, sends: &Sends)
         requires room { 1 ≤ self.old.room }
         requires few { length sends.now.messages ≤ MOST_NODES }
