@@ -87,21 +87,6 @@ impl Machine {
         requires { IsTrue (may_be_next self.old event) }
         ensures { Takes self.old event self.new result }
     {
-        match event {
-            Event::Instr { node } => self.happen(Event::Instr { node }),
-            Event::Handle { .. } | Event::Deliver { .. } | Event::Evict { .. } => {
-                self.happen(event)
-            }
-        }
-    }
-
-    // An event that may be next happens. `take` has it twice, so that the compiler leaves out of an
-    // instruction, which is most of all events, what is done for others.
-    #[inline(always)]
-    fn happen(&mut self, event: Event) -> Result<Did, NoMemory>
-        requires { IsTrue (may_be_next self.old event) }
-        ensures { Takes self.old event self.new result }
-    {
         let stamp = self.mesh.stamp(event);
         self.tally.reserve()?;
         self.mesh.reserve()?;

@@ -1,10 +1,9 @@
-ghost use Rattle.std.specs.Prelude.{◌≡◌, ◌<◌, ◌≤◌, ◌==◌, ◌&&◌, not, true, length, nat_le, map, option_copied, IfOk};
+ghost use Rattle.std.specs.Prelude.{◌≡◌, ◌<◌, ◌≤◌, ◌&&◌, true, length, nat_le, map, option_copied, IfOk};
 ghost use Rattle.std.specs.List.{range_with_len};
 ghost use Rattle.std.specs.Arc.{arc_value};
 ghost use Rattle.alw_image.specs.Images.{IsImage, node_count};
 ghost use Rattle.alw_model.specs.NodeStates.{stamp_of};
 ghost use Rattle.alw_model.specs.Counts.{is_turn};
-ghost use Rattle.alw_ready.specs.Changes.{hold_count};
 ghost use Rattle.alw_node.specs.Nodes.{whole_start, IsGiven};
 ghost use Rattle.alw_mesh.specs.Keeping.{taken_from, after_taking, IsWithin, HasTrapPc, whole_in, may_act, Acts};
 
@@ -121,17 +120,9 @@ pub fn act(
     let _fits = sent.free();
     Acted {
         did,
-        changes_holds: changes_holds(node, did, holds),
+        changes_holds: node.holds() != holds,
         pc: trap_pc(node, did),
     }
-}
-
-// A node has another number of holds than before, when it had this many. A turn gives none.
-fn changes_holds(node: &Node, did: Did, before: u32) -> bool
-    ensures { result ≡ (not (before == 0 && is_turn did) && not (hold_count node.now.state.slots == before)) }
-{
-    let ends_none = before == 0 && matches!(did, Did::Turn { .. });
-    !ends_none && node.holds() != before
 }
 
 /// What happened at an event, and whether its node has another number of holds than before.

@@ -4,7 +4,7 @@ use Rattle.alw_model.specs.Machine.{has_halted}
 use Rattle.alw_tally.specs.Told.{told_with}
 use Rattle.alw_mesh.specs.Grids.{Grid}
 use Rattle.alw_mesh.proofs.Journals.{journal_fits, next_may, few_remain, sends_below_rows, step_answers, machine_grows}
-use Rattle.alw_mesh.proofs.machines.Machine.happen.Goals as goal
+use Rattle.alw_mesh.proofs.machines.Machine.take.Goals as goal
 
 pub push-requires : goal.push-requires
 push-requires c = journal_fits _ c.self.invariant.run
