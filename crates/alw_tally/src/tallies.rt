@@ -5,7 +5,7 @@ ghost use Rattle.alw_tally.specs.Told.{contexts_of, words_printed, told_of, told
 ghost use Rattle.alw_tally.specs.Happenings.{IsOf};
 
 use crate::counting::count_event;
-use crate::happenings::{Happened, note_trap, turn_of};
+use crate::happenings::{Happened, trap_of, turn_of};
 use alw_image::Image;
 use alw_model::{Counts, TrapAt};
 use alw_msg::{Prints, Sends, Turns};
@@ -74,7 +74,8 @@ impl Tally {
         ensures told { (moment : Moment) → IsOf happened.now sends.now.messages moment → self.new.told ≡ told_with image.now self.old.told moment }
         ensures room { self.old.room ≤ self.new.room + 1 }
     {
-        note_trap(&mut self.trap, self.counts.entries as u32, happened);
+        let trap = trap_of(self.counts.entries as u32, happened);
+        self.trap = self.trap.or(trap);
         count_event(&mut self.counts, image, happened, sends);
         add_turn(&mut self.turns, &mut self.prints, turn_of(image, happened));
     }
