@@ -1,4 +1,3 @@
 pub mod Trapping
 pub mod Finishing
 pub mod Leaving
-pub mod Fairness

@@ -4,7 +4,6 @@
 
 mod cells;
 mod gates;
-mod ready;
 mod rings;
 mod runs;
 mod seats;
@@ -12,5 +11,4 @@ mod signs;
 mod workers;
 
 pub use gates::{Gate, OpenGate};
-pub use ready::{Counting, Ready, ReadyPass};
 pub use runs::run_workers;
