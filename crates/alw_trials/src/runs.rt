@@ -4,7 +4,7 @@ use alw_mesh::{FitErr, MOST_STEPS, Machine, MachineParts, StepErr};
 use alw_model::{Counts, Ended};
 use alw_msg::{Entry, Event, Msg, Status};
 use alw_node::HomeView;
-use alw_num::{Draws, Line, LineNo, Meta, Mode, NoMemory, NodeNo, SHARED_BASE, State};
+use alw_num::{Line, LineNo, Meta, Mode, NodeNo, SHARED_BASE, State};
 use alw_sched::finish;
 use sparc_table::Regs;
 use std::alloc::Global;
@@ -170,34 +170,6 @@ fn full_tables(rt: HostRuntime) -> Result<(), Fail> {
         goes(&mut machine, FOUR_LINES.rows)?;
         assert!(rt; are_spilled(&machine));
     }
-    Ok(())
-}
-
-// The state of the draws after so many of a seed.
-fn state_after(seed: u64, count: u32) -> u64 {
-    let mut draws = Draws { state: seed };
-    for _ in 0..count {
-        draws.draw();
-    }
-    draws.state
-}
-
-// Where memory is refused on the way, the machine stands after some of the seed's events, each of which took one
-// draw: the draws behind them bring it to the same end.
-#[test]
-fn a_refused_run_goes_on(rt: HostRuntime) -> Result<(), Fail> {
-    let mut whole = started(rt.alloc(), &FOUR_LINES)?;
-    let ended = finish(&mut whole, 7)?;
-    let mut machine = started(rt.alloc(), &FOUR_LINES)?;
-    let again = match finish(&mut machine, 7) {
-        Ok(ended) => ended,
-        Err(NoMemory) => {
-            let state = state_after(7, machine.journal().len());
-            finish(&mut machine, state)?
-        }
-    };
-    assert!(rt; again == ended);
-    assert!(rt; machine.journal().members() == whole.journal().members());
     Ok(())
 }
 
