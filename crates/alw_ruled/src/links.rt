@@ -131,8 +131,8 @@ impl Link {
         }
     }
 
-    /// Pops the message that was pushed first of those on the way. None comes only where none was on the
-    /// way at some moment of the call.
+    /// Pops the message that was pushed first of those on the way, or none. No clause says when none
+    /// comes: the library's queue gives none where it was empty at some moment of the call.
     pub fn receive<R: Wait>(&self, rt: &R, pass: &mut RecvPass) -> Option<Msg>
         requires { pass.old.link ≡ self.now }
         ensures { pass.new ≡ record pass.old { popped = pass.old.popped ++ option_to_list result } }
