@@ -1,9 +1,8 @@
 -- The event that a number picks: its row of events, that it may happen, and that a cell without one is spent.
-use Rattle.std.proofs.Common.{◌≡◌, ℕ, zero, suc, ◌+◌, ◌≤◌, ◌<◌, ◌==◌, ◌&&◌, ◌||◌, ◌%◌, ◌^◌, ◌-◌, nat_lt, nat_le, Bool, true, false, cond, not, Option, Some, None, Result, Ok, Err, List, [], ◌∷◌, length, map, filter, slice_get, get_or, IsTrue, refl, sym, subst, ap, ◌∙◌, inl, inr, arith}
-use Rattle.std.specs.Prelude.{is_some}
+use Rattle.std.proofs.Common.{◌≡◌, ℕ, zero, suc, ◌+◌, ◌≤◌, ◌<◌, ◌==◌, ◌||◌, ◌%◌, ◌^◌, ◌-◌, nat_lt, nat_le, Bool, true, false, cond, not, Option, Some, None, Result, Ok, Err, List, [], ◌∷◌, length, filter, slice_get, get_or, IsTrue, refl, sym, subst, ap, ◌∙◌, inl, inr, arith}
 use Rattle.std.specs.Option.{option_map}
 use Rattle.std.specs.List.{list_any, range_with_len}
-use Rattle.std.proofs.lemmas.Bool.{true≢false, false≢true, eq-eqb, lt-ltb, ltb-true, false_from_ne_true, le-leb}
+use Rattle.std.proofs.lemmas.Bool.{true≢false, eq-eqb, lt-ltb, ltb-true, false_from_ne_true, le-leb}
 use Rattle.std.proofs.lemmas.Nat.{mod_below}
 use Rattle.std.proofs.lemmas.Option.{same_Some, slice_get-get_or, slice_get-map}
 use Rattle.alw_num.specs.declared.memory.NoMemory.{NoMemory}
@@ -14,20 +13,17 @@ use Rattle.alw_num.proofs.Sets.{has-none}
 use Rattle.alw_num.proofs.Weigh.{cases_lt_then}
 use Rattle.alw_msg.specs.declared.messages.Msg.{Msg}
 use Rattle.alw_msg.specs.declared.events.Event.{Event}
-use Rattle.alw_msg.specs.declared.events.Event.TheVariants.{Instr, Handle, Deliver, Evict}
 use Rattle.alw_msg.specs.declared.events.Entry.{Entry}
 use Rattle.alw_msg.specs.Events.{node_of, is_evict}
 use Rattle.alw_msg.specs.Lists.{is_nonempty, front}
 use Rattle.alw_msg.specs.Statuses.{is_ready, has_trapped}
 use Rattle.alw_image.specs.Images.{node_count}
-use Rattle.alw_model.specs.Contexts.{Slot, slot_at, no_slot, running, all_halted}
+use Rattle.alw_model.specs.Contexts.{Slot, slot_at, all_halted}
 use Rattle.alw_model.specs.NodeStates.{NodeState, stamp_of, is_enabled_at, may, may_deliver}
-use Rattle.alw_model.specs.Threads.{Logged}
 use Rattle.alw_model.proofs.Journals.{and_parts, and_is}
 use Rattle.alw_coherence.proofs.MainEvents.{ready_runs}
 use Rattle.alw_ready.specs.declared.rows.Row.{Row}
 use Rattle.alw_ready.specs.Rows.{instr_at, handle_at, delivery, row_events, row_count}
-use Rattle.alw_ready.specs.Fits.{nobody}
 use Rattle.alw_ready.proofs.MainEvents.{row_is}
 use Rattle.alw_ready.proofs.Renewing.{AreFound}
 use Rattle.alw_ready.proofs.RowEvents.{row_length}

@@ -1,13 +1,9 @@
 -- Links that agree: what was taken is a front of what was sent, message by message and link by link.
-use Rattle.std.proofs.Common.{◌≡◌, ◌≢◌, ◌↔◌, ℕ, zero, suc, ◌+◌, ◌≤◌, ◌<◌, ◌==◌, Bool, true, false, cond, Option, Some, None, List, [], ◌∷◌, ◌++◌, length, map, filter, flat_map, take, drop, get_or, slice_get, IsTrue, refl, sym, subst, ap, ◌∙◌, arith}
-use Rattle.std.specs.Prelude.{option_to_list}
-use Rattle.std.proofs.lemmas.Bool.{eq-eqb, ne_eqb}
-use Rattle.std.proofs.lemmas.List.{take-append-drop, length-drop, length-map, get_or-map}
-use Rattle.std.proofs.lemmas.Option.{same_Some, get_or_from_slice_get}
-use Rattle.alw_num.proofs.Weigh.{is_node}
+use Rattle.std.proofs.Common.{◌≡◌, ◌↔◌, ℕ, zero, suc, ◌+◌, ◌<◌, Some, List, [], ◌∷◌, ◌++◌, length, take, drop, get_or, slice_get, refl, sym, subst, ap, ◌∙◌, arith}
+use Rattle.std.proofs.lemmas.List.{take-append-drop, length-drop}
+use Rattle.std.proofs.lemmas.Option.{same_Some}
 use Rattle.alw_msg.specs.declared.messages.Msg.{Msg}
-use Rattle.alw_msg.specs.Lists.{front, behind}
-use Rattle.alw_model.specs.Threads.{Logged, Logs, is_from, took_from, sent_to, log_at, IsFront, LinksAgree}
+use Rattle.alw_model.specs.Threads.{took_from, sent_to, log_at, IsFront}
 use Rattle.alw_cells.specs.declared.logs.Record.{Record}
 use Rattle.alw_cells.specs.Logs.{Written, logged, Agrees}
 use Rattle.alw_cells.specs.Cells.{picked}

@@ -1,8 +1,7 @@
 -- A log that is kept in two lists, one event more, and read off them.
-use Rattle.std.proofs.Common.{◌≡◌, ◌↔◌, ℕ, zero, suc, slice_get, ◌+◌, ◌≤◌, Option, Some, List, [], ◌∷◌, ◌++◌, length, take, drop, refl, sym, ap, ◌∙◌, append_assoc, arith}
+use Rattle.std.proofs.Common.{◌≡◌, ◌↔◌, ℕ, zero, suc, slice_get, ◌+◌, ◌≤◌, Some, List, [], ◌∷◌, ◌++◌, length, take, drop, refl, sym, ap, ◌∙◌, append_assoc, arith}
 use Rattle.std.proofs.lemmas.List.{take_all, take-append-le, drop-append-le, length-drop}
 use Rattle.std.proofs.lemmas.Option.{same_Some}
-use Rattle.alw_num.specs.Weights.{weigh}
 use Rattle.alw_num.proofs.Weigh.{weigh_push}
 use Rattle.alw_msg.specs.declared.messages.Msg.{Msg}
 use Rattle.alw_model.specs.Threads.{Logged}

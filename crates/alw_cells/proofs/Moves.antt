@@ -1,16 +1,14 @@
 -- What each call leaves of what a cell keeps.
-use Rattle.std.proofs.Common.{◌≡◌, ◌≢◌, ℕ, zero, suc, ◌+◌, ◌≤◌, ◌<◌, ◌==◌, Bool, true, false, cond, not, Option, Some, None, Ok, List, [], ◌∷◌, ◌++◌, length, replicate, get_or, set, refl, sym, subst, ap, ◌∙◌, append-nil, arith}
+use Rattle.std.proofs.Common.{◌≡◌, ℕ, zero, suc, ◌≤◌, ◌<◌, ◌==◌, Bool, true, false, cond, not, Option, Ok, List, [], ◌∷◌, ◌++◌, length, replicate, get_or, set, refl, sym, subst, ap, ◌∙◌, arith}
 use Rattle.std.proofs.lemmas.Bool.{eq-eqb, ne_eqb}
 use Rattle.std.proofs.lemmas.List.{get_or_read, get_or-set_same, get_or-set_other, length-set, length-replicate}
 use Rattle.alw_num.specs.declared.node_sets.NodeSet.{NodeSet}
-use Rattle.alw_num.specs.declared.node_sets.TheConstants.{MOST_NODES}
 use Rattle.alw_num.specs.NodeSets.{Nodes, no_nodes, has_node, add_node, drop_node, nodes_of}
 use Rattle.alw_num.proofs.Sets.{has-none, has-add, has-drop}
 use Rattle.alw_num.proofs.Weigh.{is_node}
 use Rattle.alw_msg.specs.declared.messages.Msg.{Msg}
 use Rattle.alw_msg.specs.declared.events.Event.{Event}
 use Rattle.alw_msg.specs.declared.events.Event.TheVariants.{Instr, Handle, Deliver, Evict}
-use Rattle.alw_msg.specs.declared.events.Entry.{Entry}
 use Rattle.alw_msg.specs.Events.{is_evict}
 use Rattle.alw_msg.specs.Lists.{is_nonempty, behind}
 use Rattle.alw_msg.specs.Sending.{Sending}
@@ -23,7 +21,7 @@ use Rattle.alw_model.specs.Threads.{Logged, sent_to}
 use Rattle.alw_node.specs.Nodes.{Whole, Steps, whole_start}
 use Rattle.alw_node.proofs.KeptMembers.{start_same}
 use Rattle.alw_cells.specs.Logs.{Written}
-use Rattle.alw_cells.specs.Cells.{Cell, IsReplayed, IsBack, in_from, picked, without_first}
+use Rattle.alw_cells.specs.Cells.{Cell, IsBack, in_from, picked, without_first}
 use Rattle.alw_cells.specs.Choice.{taken_by, come_taken, may_happen, stepped_by, entry_by, logged_by, after_event, Happens}
 use Rattle.alw_cells.specs.declared.cells.Stepped.TheVariants as result
 use Rattle.alw_cells.specs.Keeping.{AreSenders, IsKept}
@@ -68,27 +66,27 @@ senders_popped come senders after from list rest are here read is set_is empty =
 
 -- ---- the whole
 
-pub keeps_coming : (node : Whole) (log : List Logged) (come : List (List Msg)) (senders after : NodeSet) (pending : List (ℕ × Msg)) (sent : Sending) (from : ℕ) (msg : Msg)
-    → IsKept node log come senders pending sent → from < length come → nodes_of after ≡ add_node (nodes_of senders) from
-    → IsKept node log (set come from (in_from come from ++ msg ∷ [])) after pending sent
-keeps_coming node log come senders after pending sent from msg is here set_is = record {
-  replayed = record { run = is.replayed.run; state = is.replayed.state; outs = is.replayed.outs; ins = length-set come from (in_from come from ++ msg ∷ []) ∙ is.replayed.ins };
+pub keeps_coming : (node : Whole) (log : List Logged) (come : List (List Msg)) (senders after : NodeSet) (pending : List (ℕ × Msg)) (sent : Sending) (dids : List Did) (from : ℕ) (msg : Msg)
+    → IsKept node log come senders pending sent dids → from < length come → nodes_of after ≡ add_node (nodes_of senders) from
+    → IsKept node log (set come from (in_from come from ++ msg ∷ [])) after pending sent dids
+keeps_coming node log come senders after pending sent dids from msg is here set_is = record {
+  replayed = record { run = is.replayed.run; state = is.replayed.state; outs = is.replayed.outs; ins = length-set come from (in_from come from ++ msg ∷ []) ∙ is.replayed.ins; answers = is.replayed.answers };
   sent_by = senders_more come senders after from msg is.sent_by here set_is;
   room = is.room;
   few = omega (arith, is.few, length-set come from (in_from come from ++ msg ∷ []));
 }
 
 -- the same, where the list was read and pushed to
-pub keeps_pushing : (node : Whole) (log : List Logged) (come : List (List Msg)) (senders after : NodeSet) (pending : List (ℕ × Msg)) (sent : Sending) (from : ℕ) (msg : Msg) (list more : List Msg)
-    → IsKept node log come senders pending sent → from < length come → list ≡ get_or come from list → more ≡ list ++ msg ∷ [] → nodes_of after ≡ add_node (nodes_of senders) from
-    → IsKept node log (set come from more) after pending sent
-keeps_pushing node log come senders after pending sent from msg list more is here read more_is set_is =
+pub keeps_pushing : (node : Whole) (log : List Logged) (come : List (List Msg)) (senders after : NodeSet) (pending : List (ℕ × Msg)) (sent : Sending) (dids : List Did) (from : ℕ) (msg : Msg) (list more : List Msg)
+    → IsKept node log come senders pending sent dids → from < length come → list ≡ get_or come from list → more ≡ list ++ msg ∷ [] → nodes_of after ≡ add_node (nodes_of senders) from
+    → IsKept node log (set come from more) after pending sent dids
+keeps_pushing node log come senders after pending sent dids from msg list more is here read more_is set_is =
     let whole : more ≡ in_from come from ++ msg ∷ [] = more_is ∙ ap (λ (xs : List Msg). xs ++ msg ∷ []) (get_or_read come from list here read []) in
-    subst (λ (xs : List Msg). IsKept node log (set come from xs) after pending sent) (sym whole) (keeps_coming node log come senders after pending sent from msg is here set_is)
+    subst (λ (xs : List Msg). IsKept node log (set come from xs) after pending sent dids) (sym whole) (keeps_coming node log come senders after pending sent dids from msg is here set_is)
 
-pub keeps_giving : (node : Whole) (log : List Logged) (come : List (List Msg)) (senders : NodeSet) (pending : List (ℕ × Msg)) (sent : Sending) (to : ℕ)
-    → IsKept node log come senders pending sent → IsKept node log come senders (without_first to pending) sent
-keeps_giving node log come senders pending sent to is = record {
+pub keeps_giving : (node : Whole) (log : List Logged) (come : List (List Msg)) (senders : NodeSet) (pending : List (ℕ × Msg)) (sent : Sending) (dids : List Did) (to : ℕ)
+    → IsKept node log come senders pending sent dids → IsKept node log come senders (without_first to pending) sent dids
+keeps_giving node log come senders pending sent dids to is = record {
   replayed = record {
     run = is.replayed.run;
     state = is.replayed.state;
@@ -97,6 +95,7 @@ keeps_giving node log come senders pending sent to is = record {
         (subst (λ (xs : List Msg). IsBack xs (sent_to to log)) (sym (picked_behind to pending)) (back_shrinks (picked to pending) (sent_to to log) (is.replayed.outs to))))
         (λ differ. subst (λ (xs : List Msg). IsBack xs (sent_to other log)) (sym (picked_other to other pending differ)) (is.replayed.outs other));
     ins = is.replayed.ins;
+    answers = is.replayed.answers;
   };
   sent_by = is.sent_by;
   room = is.room;
@@ -109,24 +108,25 @@ none_at (suc count) zero = refl
 none_at (suc count) (suc from) = none_at count from
 
 pub keeps_start : (parts : Parts) (parameters : Parameters) (number count : ℕ) (senders : NodeSet) (sent : Sending) → count ≡ node_count parts → count ≤ 256 → nodes_of senders ≡ no_nodes → sent.room ≡ count
-    → IsKept (whole_start parts parameters number) [] (replicate count []) senders [] sent
+    → IsKept (whole_start parts parameters number) [] (replicate count []) senders [] sent []
 keeps_start parts parameters number count senders sent count_is few none room = record {
-  replayed = record { run = tt; state = sym (start_same parts number); outs = λ to. ([], refl); ins = length-replicate count [] ∙ count_is };
+  replayed = record { run = tt; state = sym (start_same parts number); outs = λ to. ([], refl); ins = length-replicate count [] ∙ count_is; answers = refl };
   sent_by = λ from. ap (λ S. has_node S from) none ∙ (has-none from ∙ none_at count from);
   room = room ∙ count_is;
   few = omega (arith, length-replicate {A = List Msg} count []);
 }
 
 -- a node at its start, as the calls that make it say
-pub kept_start : (parts : Parts) (parameters : Parameters) (number count : ℕ) (node : Whole) (log : Written) (come : List (List Msg)) (senders : NodeSet) (pending : List (ℕ × Msg)) (sent : Sending)
+pub kept_start : (parts : Parts) (parameters : Parameters) (number count : ℕ) (node : Whole) (log : Written) (come : List (List Msg)) (senders : NodeSet) (pending : List (ℕ × Msg)) (sent : Sending) (dids : List Did)
     → node ≡ whole_start parts parameters number → log ≡ record { entries = []; room = 0 } → come ≡ replicate count [] → nodes_of senders ≡ no_nodes → pending ≡ [] → sent.room ≡ count → count ≡ node_count parts → count ≤ 256
-    → IsKept node log.entries come senders pending sent
-kept_start parts parameters number count node log come senders pending sent node_is log_is come_is none pending_is room count_is few =
-    subst (λ (w : Whole). IsKept w log.entries come senders pending sent) (sym node_is)
-    (subst (λ (l : Written). IsKept (whole_start parts parameters number) l.entries come senders pending sent) (sym log_is)
-    (subst (λ (lists : List (List Msg)). IsKept (whole_start parts parameters number) [] lists senders pending sent) (sym come_is)
-    (subst (λ (p : List (ℕ × Msg)). IsKept (whole_start parts parameters number) [] (replicate count []) senders p sent) (sym pending_is)
-    (keeps_start parts parameters number count senders sent count_is few none room))))
+    → dids ≡ [] → IsKept node log.entries come senders pending sent dids
+kept_start parts parameters number count node log come senders pending sent dids node_is log_is come_is none pending_is room count_is few dids_is =
+    subst (λ (w : Whole). IsKept w log.entries come senders pending sent dids) (sym node_is)
+    (subst (λ (l : Written). IsKept (whole_start parts parameters number) l.entries come senders pending sent dids) (sym log_is)
+    (subst (λ (lists : List (List Msg)). IsKept (whole_start parts parameters number) [] lists senders pending sent dids) (sym come_is)
+    (subst (λ (p : List (ℕ × Msg)). IsKept (whole_start parts parameters number) [] (replicate count []) senders p sent dids) (sym pending_is)
+    (subst (λ (done : List Did). IsKept (whole_start parts parameters number) [] (replicate count []) senders [] sent done) (sym dids_is)
+    (keeps_start parts parameters number count senders sent count_is few none room)))))
 
 -- ---- an event
 
@@ -141,31 +141,32 @@ module _ (cell : Cell) (event : Event) (sent sent' : Sending) (after : Whole) (d
   abbrev pub put_in : Logged
   put_in = record { entry = record { stamp = after.state.clock; event = event }; taken = taken_by cell.come event; sent = sent'.messages }
 
-  pub keeps_event : (senders senders' : NodeSet) → may_happen cell event ≡ true → (cell.node.parameters.evict ≡ 0 → is_evict event ≡ false) → IsKept cell.node cell.log cell.come senders cell.pending sent
+  pub keeps_event : (senders senders' : NodeSet) → may_happen cell event ≡ true → (cell.node.parameters.evict ≡ 0 → is_evict event ≡ false) → IsKept cell.node cell.log cell.come senders cell.pending sent cell.dids
       → AreSenders (come_taken cell.come event) senders'
-      → IsKept after (cell.log ++ put_in ∷ []) (come_taken cell.come event) senders' (cell.pending ++ sent'.messages) sent'
+      → IsKept after (cell.log ++ put_in ∷ []) (come_taken cell.come event) senders' (cell.pending ++ sent'.messages) sent' (cell.dids ++ did ∷ [])
   keeps_event senders senders' may evicts is are =
       let P : Whole → Sending → Type 0 = λ w s. IsKept w (cell.log ++ record { entry = record { stamp = w.state.clock; event = event }; taken = taken_by cell.come event; sent = s.messages } ∷ [])
-      (come_taken cell.come event) senders' (cell.pending ++ s.messages) s in
+      (come_taken cell.come event) senders' (cell.pending ++ s.messages) s (cell.dids ++ did ∷ []) in
       let step = stepped_by cell event in
-      let replayed = grows cell.node cell.log cell.come (come_taken cell.come event) cell.pending (logged_by cell event) step.node is.replayed (is_next cell event may evicts) refl (length_taken cell.come event) in
+      let replayed = grows cell.node cell.log cell.come (come_taken cell.come event) cell.pending cell.dids (logged_by cell event) step.node did is.replayed (is_next cell event may evicts) refl steps.outcome (length_taken cell.come event) in
       let base : P (record cell.node { state = step.node }) (record { room = sent.room; src = cell.node.number; stamp = step.node.clock; messages = step.sends }) =
       record { replayed = replayed; sent_by = are; room = is.room; few = omega (arith, is.few, length_taken cell.come event) } in
       subst (λ (w : Whole). P w sent') (sym steps.node) (subst (λ (s : Sending). P (record cell.node { state = step.node }) s) (sym steps.sends) base)
 
-  pub happened : (record { node = after; log = cell.log ++ put_in ∷ []; come = come_taken cell.come event; pending = cell.pending ++ sent'.messages }) ≡ after_event cell event
-  happened = λ x. record { node = steps.node x; log = cell.log ++ record { entry = record { stamp = (steps.node x).state.clock; event = event }; taken = taken_by cell.come event; sent = (steps.sends x).messages } ∷ []; come = come_taken cell.come event; pending = cell.pending ++ (steps.sends x).messages }
+  pub happened : (record { node = after; log = cell.log ++ put_in ∷ []; come = come_taken cell.come event; pending = cell.pending ++ sent'.messages; dids = cell.dids ++ did ∷ [] }) ≡ after_event cell event
+  happened = λ x. record { node = steps.node x; log = cell.log ++ record { entry = record { stamp = (steps.node x).state.clock; event = event }; taken = taken_by cell.come event; sent = (steps.sends x).messages } ∷ []; come = come_taken cell.come event; pending = cell.pending ++ (steps.sends x).messages; dids = cell.dids ++ steps.outcome x ∷ [] }
 
   pub stamped : (record { stamp = after.state.clock; event = event }) ≡ entry_by cell event
   stamped = λ x. record { stamp = (steps.node x).state.clock; event = event }
 
 -- what an event leaves, as the calls in it say
-module _ (cell : Cell) (event : Event) (taken : Option Msg) (sent sent' : Sending) (after : Whole) (did : Did) (stamp : ℕ) (log log' : List Logged) (come' : List (List Msg)) (pending pending' : List (ℕ × Msg))
+module _ (cell : Cell) (event : Event) (taken : Option Msg) (sent sent' : Sending) (after : Whole) (did : Did) (stamp : ℕ) (log log' : List Logged) (come' : List (List Msg)) (pending pending' : List (ℕ × Msg)) (dids dids' : List Did)
     (taken_is : taken ≡ taken_by cell.come event)
     (raw : Steps cell.node after sent sent' did (node_step cell.node.parts cell.node.parameters cell.node.number cell.node.state event taken))
     (stamp_is : stamp ≡ after.state.clock) (log_is : log ≡ cell.log)
     (put : log' ≡ log ++ record { entry = record { stamp = stamp; event = event }; taken = taken; sent = sent'.messages } ∷ [])
-    (come_is : come' ≡ come_taken cell.come event) (pending_is : pending ≡ cell.pending) (more : pending' ≡ pending ++ sent'.messages) where
+    (come_is : come' ≡ come_taken cell.come event) (pending_is : pending ≡ cell.pending) (more : pending' ≡ pending ++ sent'.messages)
+    (dids_is : dids ≡ cell.dids) (answered : dids' ≡ dids ++ did ∷ []) where
   steps : Steps cell.node after sent sent' did (stepped_by cell event)
   steps = subst (λ (o : Option Msg). Steps cell.node after sent sent' did (node_step cell.node.parts cell.node.parameters cell.node.number cell.node.state event o)) taken_is raw
 
@@ -178,17 +179,21 @@ module _ (cell : Cell) (event : Event) (taken : Option Msg) (sent sent' : Sendin
   pending_whole : pending' ≡ cell.pending ++ sent'.messages
   pending_whole = more ∙ ap (λ (xs : List (ℕ × Msg)). xs ++ sent'.messages) pending_is
 
-  pub kept : (senders senders' : NodeSet) → IsKept cell.node cell.log cell.come senders cell.pending sent → may_happen cell event ≡ true → (cell.node.parameters.evict ≡ 0 → is_evict event ≡ false)
-      → AreSenders come' senders' → IsKept after log' come' senders' pending' sent'
-  kept senders senders' is may evicts are =
-      subst (λ (l : List Logged). IsKept after l come' senders' pending' sent') (sym log_whole)
-      (subst (λ (come : List (List Msg)). IsKept after its_log come senders' pending' sent') (sym come_is)
-      (subst (λ (p : List (ℕ × Msg)). IsKept after its_log (come_taken cell.come event) senders' p sent') (sym pending_whole)
-      (keeps_event cell event sent sent' after did steps senders senders' may evicts is (subst (λ (come : List (List Msg)). AreSenders come senders') come_is are))))
+  dids_whole : dids' ≡ cell.dids ++ did ∷ []
+  dids_whole = answered ∙ ap (λ (done : List Did). done ++ did ∷ []) dids_is
 
-  pub happens : Happens cell event (record { node = after; log = log'; come = come'; pending = pending' }) (Ok (result.Did (record { stamp = stamp; event = event }) did))
+  pub kept : (senders senders' : NodeSet) → IsKept cell.node cell.log cell.come senders cell.pending sent cell.dids → may_happen cell event ≡ true → (cell.node.parameters.evict ≡ 0 → is_evict event ≡ false)
+      → AreSenders come' senders' → IsKept after log' come' senders' pending' sent' dids'
+  kept senders senders' is may evicts are =
+      subst (λ (l : List Logged). IsKept after l come' senders' pending' sent' dids') (sym log_whole)
+      (subst (λ (come : List (List Msg)). IsKept after its_log come senders' pending' sent' dids') (sym come_is)
+      (subst (λ (p : List (ℕ × Msg)). IsKept after its_log (come_taken cell.come event) senders' p sent' dids') (sym pending_whole)
+      (subst (λ (done : List Did). IsKept after its_log (come_taken cell.come event) senders' (cell.pending ++ sent'.messages) sent' done) (sym dids_whole)
+      (keeps_event cell event sent sent' after did steps senders senders' may evicts is (subst (λ (come : List (List Msg)). AreSenders come senders') come_is are)))))
+
+  pub happens : Happens cell event (record { node = after; log = log'; come = come'; pending = pending'; dids = dids' }) (Ok (result.Did (record { stamp = stamp; event = event }) did))
   happens = (
     (λ x. record { stamp = stamp_is x; event = event }) ∙ stamped cell event sent sent' after did steps,
     steps.outcome,
-    (λ x. record { node = after; log = log_whole x; come = come_is x; pending = pending_whole x }) ∙ happened cell event sent sent' after did steps,
+    (λ x. record { node = after; log = log_whole x; come = come_is x; pending = pending_whole x; dids = dids_whole x }) ∙ happened cell event sent sent' after did steps,
   )

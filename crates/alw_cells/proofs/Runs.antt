@@ -1,5 +1,5 @@
 -- A local run with one event more, what it leaves of a cell, and runs by a node's share of an image.
-use Rattle.std.proofs.Common.{◌≡◌, ℕ, ◌+◌, ◌-◌, ◌^◌, ◌≤◌, ◌<◌, ◌==◌, ◌&&◌, nat_lt, nat_le, Bool, true, false, cond, not, Option, Some, None, List, [], ◌∷◌, ◌++◌, length, flat_map, IsTrue, refl, sym, subst, ap, ◌∙◌, append_assoc, append-nil, arith}
+use Rattle.std.proofs.Common.{◌≡◌, ℕ, suc, ◌-◌, ◌^◌, ◌≤◌, ◌==◌, nat_lt, Bool, true, false, Option, Some, None, List, [], ◌∷◌, ◌++◌, length, IsTrue, refl, sym, subst, ap, ◌∙◌, append_assoc, append-nil, arith}
 use Rattle.std.specs.Prelude.{is_some}
 use Rattle.std.proofs.lemmas.Bool.{true≢false, leb-true}
 use Rattle.std.proofs.lemmas.List.Concat.{flat_map-append}
@@ -7,21 +7,21 @@ use Rattle.alw_num.specs.Maps.{passes}
 use Rattle.alw_msg.specs.declared.messages.Msg.{Msg}
 use Rattle.alw_msg.specs.declared.events.Event.{Event}
 use Rattle.alw_msg.specs.declared.events.Event.TheVariants.{Instr, Handle, Deliver, Evict}
-use Rattle.alw_msg.specs.declared.events.Entry.{Entry}
 use Rattle.alw_msg.specs.Events.{node_of, is_evict}
 use Rattle.alw_msg.specs.Lists.{front, behind}
 use Rattle.alw_image.specs.declared.parts.Parts.{Parts}
 use Rattle.alw_image.specs.Images.{node_count}
 use Rattle.alw_image.specs.Parameters.{Parameters}
-use Rattle.alw_model.specs.NodeStates.{NodeState, node_start, stamp_of, is_enabled_at, may, may_deliver}
+use Rattle.alw_model.specs.declared.steps.Did.{Did}
+use Rattle.alw_model.specs.NodeStates.{NodeState, node_start, is_enabled_at, may, may_deliver}
 use Rattle.alw_model.specs.NodeSteps.{node_step}
 use Rattle.alw_model.specs.Threads.{Logged, IsNextLogged, IsRunFrom, IsLocalRun, node_after, sent_to, takes_rightly}
 use Rattle.alw_model.proofs.Journals.{and_parts}
-use Rattle.alw_node.specs.Nodes.{Whole, FitsStamp, IsGiven}
+use Rattle.alw_node.specs.Nodes.{Whole, IsGiven}
 use Rattle.alw_node.specs.Shares.{share_of}
 use Rattle.alw_node.proofs.KeptMembers.{start_same, enabled_same, step_same}
-use Rattle.alw_cells.specs.Cells.{Cell, IsReplayed, IsBack, picked, in_from}
-use Rattle.alw_cells.specs.Choice.{taken_by, may_happen, entry_by, logged_by, stepped_by}
+use Rattle.alw_cells.specs.Cells.{Cell, IsReplayed, IsBack, picked, in_from, dids_from, dids_of}
+use Rattle.alw_cells.specs.Choice.{taken_by, may_happen, logged_by}
 use Rattle.alw_cells.proofs.Receivers.{picked-append}
 
 module _ (parts : Parts) (parameters : Parameters) (number : ℕ) where
@@ -35,6 +35,17 @@ module _ (parts : Parts) (parameters : Parameters) (number : ℕ) where
       → node_after parts parameters number node (log ++ one ∷ []) ≡ (node_step parts parameters number (node_after parts parameters number node log) one.entry.event one.taken).node
   after_push node [] one = refl
   after_push node (first ∷ rest) one = after_push (node_step parts parameters number node first.entry.event first.taken).node rest one
+
+  dids_push : (node : NodeState) (log : List Logged) (one : Logged) → dids_from parts parameters number node (log ++ one ∷ [])
+      ≡ dids_from parts parameters number node log ++ (node_step parts parameters number (node_after parts parameters number node log) one.entry.event one.taken).did ∷ []
+  dids_push node [] one = refl
+  dids_push node (first ∷ rest) one =
+      let stepped = node_step parts parameters number node first.entry.event first.taken in
+      ap (λ (dids : List Did). stepped.did ∷ dids) (dids_push stepped.node rest one)
+
+  pub dids_length : (node : NodeState) (log : List Logged) → length (dids_from parts parameters number node log) ≡ length log
+  dids_length node [] = refl
+  dids_length node (first ∷ rest) = ap suc (dids_length (node_step parts parameters number node first.entry.event first.taken).node rest)
 
   -- no clock is past the limit
   clock_within : (node : NodeState) (log : List Logged) → IsRunFrom parts parameters number node log → node.clock ≤ parameters.limit → (node_after parts parameters number node log).clock ≤ parameters.limit
@@ -58,16 +69,21 @@ back_shrinks [] all is = is
 back_shrinks (msg ∷ rest) all (first, is) = (first ++ msg ∷ [], append_assoc first (msg ∷ []) rest ∙ is)
 
 -- a cell after an event
-pub grows : (node : Whole) (log : List Logged) (come after : List (List Msg)) (pending : List (ℕ × Msg)) (one : Logged) (next : NodeState) → IsReplayed node log come pending
-    → IsNextLogged node.parts node.parameters node.number node.state one → next ≡ (node_step node.parts node.parameters node.number node.state one.entry.event one.taken).node → length after ≡ length come
-    → IsReplayed (record node { state = next }) (log ++ one ∷ []) after (pending ++ one.sent)
-grows node log come after pending one next is logged next_is same = record {
+pub grows : (node : Whole) (log : List Logged) (come after : List (List Msg)) (pending : List (ℕ × Msg)) (dids : List Did) (one : Logged) (next : NodeState) (did : Did)
+    → IsReplayed node log come pending dids
+    → IsNextLogged node.parts node.parameters node.number node.state one → next ≡ (node_step node.parts node.parameters node.number node.state one.entry.event one.taken).node
+    → did ≡ (node_step node.parts node.parameters node.number node.state one.entry.event one.taken).did → length after ≡ length come
+    → IsReplayed (record node { state = next }) (log ++ one ∷ []) after (pending ++ one.sent) (dids ++ did ∷ [])
+grows node log come after pending dids one next did is logged next_is did_is same = record {
   run = run_push node.parts node.parameters node.number (node_start node.parts node.number) log one is.run (subst (λ state. IsNextLogged node.parts node.parameters node.number state one) is.state logged);
   state = next_is ∙ (ap (λ state. (node_step node.parts node.parameters node.number state one.entry.event one.taken).node) is.state
       ∙ sym (after_push node.parts node.parameters node.number (node_start node.parts node.number) log one));
   outs = λ to. subst (λ (xs : List Msg). IsBack xs (sent_to to (log ++ one ∷ []))) (sym (picked-append to pending one.sent))
       (subst (λ (ys : List Msg). IsBack (picked to pending ++ picked to one.sent) ys) (sym (sent_push to log one)) (back_grows (picked to pending) (sent_to to log) (picked to one.sent) (is.outs to)));
   ins = same ∙ is.ins;
+  answers =
+      let did_there = did_is ∙ ap (λ state. (node_step node.parts node.parameters node.number state one.entry.event one.taken).did) is.state in
+      (λ x. is.answers x ++ did_there x ∷ []) ∙ sym (dids_push node.parts node.parameters node.number (node_start node.parts node.number) log one);
 }
 
 -- ---- an event that may happen
@@ -144,3 +160,12 @@ module _ (parts : Parts) (parameters : Parameters) (number : ℕ) where
 
   pub left_alike : (log : List Logged) → node_after (share_of parts number) parameters number (node_start (share_of parts number) number) log ≡ node_after parts parameters number (node_start parts number) log
   left_alike log = ap (λ node. node_after (share_of parts number) parameters number node log) (start_same parts number) ∙ after_same (node_start parts number) log
+
+  dids_same : (node : NodeState) (log : List Logged) → dids_from (share_of parts number) parameters number node log ≡ dids_from parts parameters number node log
+  dids_same node [] = refl
+  dids_same node (first ∷ rest) =
+      ap (λ stepped. stepped.did ∷ dids_from (share_of parts number) parameters number stepped.node rest) (step_same parts number parameters number node first.entry.event first.taken)
+      ∙ ap (λ (dids : List Did). (node_step parts parameters number node first.entry.event first.taken).did ∷ dids) (dids_same (node_step parts parameters number node first.entry.event first.taken).node rest)
+
+  pub answers_alike : (log : List Logged) → dids_of (share_of parts number) parameters number log ≡ dids_of parts parameters number log
+  answers_alike log = ap (λ node. dids_from (share_of parts number) parameters number node log) (start_same parts number) ∙ dids_same (node_start parts number) log

@@ -7,11 +7,9 @@ use Rattle.alw_msg.specs.declared.events.Event.{Event}
 use Rattle.alw_msg.specs.declared.events.Event.TheVariants.{Instr, Handle, Deliver, Evict}
 use Rattle.alw_msg.specs.declared.events.Entry.{Entry}
 use Rattle.alw_msg.specs.Lists.{is_nonempty, front, behind}
-use Rattle.alw_image.specs.declared.parts.Parts.{Parts}
 use Rattle.alw_image.specs.Images.{node_count}
-use Rattle.alw_image.specs.Parameters.{Parameters}
 use Rattle.alw_model.specs.Contexts.{all_halted}
-use Rattle.alw_model.specs.NodeStates.{NodeState, stamp_of, is_enabled_at}
+use Rattle.alw_model.specs.NodeStates.{stamp_of, is_enabled_at}
 use Rattle.alw_model.specs.NodeSteps.{node_step}
 use Rattle.alw_model.specs.NodeSteps as steps
 use Rattle.alw_model.specs.Threads.{Logged}
@@ -73,13 +71,15 @@ entry_by cell event = record { stamp = stamp_of cell.node.state.clock (taken_by 
 abbrev pub logged_by : Cell → Event → Logged
 logged_by cell event = record { entry = entry_by cell event; taken = taken_by cell.come event; sent = (stepped_by cell event).sends }
 
--- the cell after it: the node has stepped, the log has one record more, the message is off its in list, and what was sent is behind what is still to be given out
+-- the cell after it: the node has stepped, the log has one record more, the message is off its in list, what was sent is behind what is still
+-- to be given out, and what it did is behind what the others did
 abbrev pub after_event : Cell → Event → Cell
 after_event cell event = record {
   node = record cell.node { state = (stepped_by cell event).node };
   log = cell.log ++ logged_by cell event ∷ [];
   come = come_taken cell.come event;
   pending = cell.pending ++ (stepped_by cell event).sends;
+  dids = cell.dids ++ (stepped_by cell event).did ∷ [];
 }
 
 -- an event that may happen has happened; or memory was refused, and all is as it was

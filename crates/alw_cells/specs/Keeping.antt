@@ -7,6 +7,7 @@ use Rattle.alw_msg.specs.declared.messages.Msg.{Msg}
 use Rattle.alw_msg.specs.Lists.{is_nonempty}
 use Rattle.alw_msg.specs.Sending.{Sending}
 use Rattle.alw_image.specs.Images.{node_count}
+use Rattle.alw_model.specs.declared.steps.Did.{Did}
 use Rattle.alw_model.specs.Threads.{Logged}
 use Rattle.alw_node.specs.Nodes.{Whole}
 use Rattle.alw_cells.specs.Cells.{IsReplayed, in_from}
@@ -15,8 +16,8 @@ use Rattle.alw_cells.specs.Cells.{IsReplayed, in_from}
 abbrev pub AreSenders : List (List Msg) → NodeSet → Type 0
 AreSenders come senders = (from : ℕ) → has_node (nodes_of senders) from ≡ is_nonempty (in_from come from)
 
-pub record IsKept (node : Whole) (log : List Logged) (come : List (List Msg)) (senders : NodeSet) (pending : List (ℕ × Msg)) (sent : Sending) : Type 0 where
-  pub replayed : IsReplayed node log come pending
+pub record IsKept (node : Whole) (log : List Logged) (come : List (List Msg)) (senders : NodeSet) (pending : List (ℕ × Msg)) (sent : Sending) (dids : List Did) : Type 0 where
+  pub replayed : IsReplayed node log come pending dids
   pub sent_by : AreSenders come senders
   pub room : sent.room ≡ node_count node.parts
   pub few : length come ≤ MOST_NODES

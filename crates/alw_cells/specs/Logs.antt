@@ -1,5 +1,5 @@
 -- A node's log as it is written, with room for a record more, and as it is read.
-use Rattle.std.specs.Prelude.{ℕ, Option, Some, None, List, [], ◌∷◌, map}
+use Rattle.std.specs.Prelude.{ℕ, Option, Some, None, List, [], map}
 use Rattle.alw_msg.specs.declared.messages.Msg.{Msg}
 use Rattle.alw_msg.specs.declared.events.Entry.{Entry}
 use Rattle.alw_msg.specs.Lists.{front, behind}

@@ -8,7 +8,7 @@ ghost use Rattle.alw_msg.specs.Statuses as statuses;
 ghost use Rattle.alw_image.specs.Images.{node_count};
 ghost use Rattle.alw_model.specs.NodeStates.{is_enabled_at, stamp_of};
 ghost use Rattle.alw_node.specs.Nodes.{IsNode};
-ghost use Rattle.alw_cells.specs.Cells.{IsCell, IsSpent, cell_start, in_from, out_to, after_coming, after_giving};
+ghost use Rattle.alw_cells.specs.Cells.{IsCell, IsSpent, cell_start, in_from, out_to, after_coming, after_giving, IsSplit};
 ghost use Rattle.alw_cells.specs.Choice.{taken_by, come_taken, may_happen, next_events, asked_eviction, is_evicted, picked_event, Happens, StepsCell};
 ghost use Rattle.alw_cells.specs.Keeping.{AreSenders};
 ghost use Rattle.alw_cells.specs.declared.cells.Stepped.TheVariants as Stepped;
@@ -17,11 +17,12 @@ ghost use Rattle.alw_msg.specs.Events.{is_evict};
 
 use crate::lists::{InList, append, take_first};
 use crate::logs::Log;
+use crate::parts::CellParts;
 use alw_image::{Code, Image, Params};
 use alw_model::Did;
 use alw_msg::{Entry, Event, Msg, Sends, Status};
 use alw_node::Node;
-use alw_num::{NoMemory, NodeNo, NodeSet};
+use alw_num::{NoMemory, NodeNo, NodeSet, Roomy};
 use alw_ready::Row;
 use std::alloc::Global;
 use std::collections::VecDeque;
@@ -36,9 +37,10 @@ pub enum Stepped {
     Idle,
 }
 
-/// A node with its log, an in list for each sender, and what it has sent and not given out. Its type
-/// keeps that the log is a local run of the node, that the node is as the log leaves it, and that what
-/// is left to give out to a node is a back part of what the log sent there (stamps after Lamport 1978).
+/// A node with its log, an in list for each sender, what it has sent and not given out, and what each
+/// event of the log did. Its type keeps that the log is a local run of the node, that the node is as the
+/// log leaves it, that what is left to give out to a node is a back part of what the log sent there, and
+/// that the events did what is kept of them (stamps after Lamport 1978).
 #[derive(Debug, Drop)]
 pub struct NodeCell {
     node: Node,
@@ -47,6 +49,7 @@ pub struct NodeCell {
     senders: NodeSet,
     pending: VecDeque<(u16, Msg)>,
     sent: Sends,
+    dids: Roomy<Did>,
 }
 
 impl Model for NodeCell {
@@ -55,9 +58,9 @@ impl Model for NodeCell {
 
     ghost Value = { Cell };
 
-    ghost view = { λ c. record { node = c.node; log = c.log.entries; come = c.come.items; pending = c.pending.items } };
+    ghost view = { λ c. record { node = c.node; log = c.log.entries; come = c.come.items; pending = c.pending.items; dids = c.dids.list } };
 
-    ghost invariant = { λ c. IsKept c.node c.log.entries c.come.items c.senders c.pending.items c.sent };
+    ghost invariant = { λ c. IsKept c.node c.log.entries c.come.items c.senders c.pending.items c.sent c.dids.list };
 }
 
 impl NodeCell {
@@ -98,6 +101,7 @@ impl NodeCell {
             senders: NodeSet::empty(),
             pending: VecDeque::new(alloc),
             sent: Sends::room(alloc, u32::from(count))?,
+            dids: Roomy::empty(alloc),
         })
     }
 
@@ -159,8 +163,30 @@ impl NodeCell {
             senders: _,
             pending: _,
             sent: _,
+            dids: _,
         } = self;
         log
+    }
+
+    /// The node, its log, and what each event of the log did.
+    pub fn split(self) -> CellParts
+        ensures parts { IsSplit self result }
+        ensures stands { IsCell self }
+    {
+        let NodeCell {
+            node,
+            log,
+            come: _,
+            senders: _,
+            pending: _,
+            sent: _,
+            dids,
+        } = self;
+        CellParts {
+            node,
+            log,
+            dids: dids.into_list(),
+        }
     }
 
     /// The node, by its readers: its number, parameters, clock, contexts and all else.
@@ -294,6 +320,7 @@ impl NodeCell {
         let nodes = self.come.len();
         self.log.reserve(nodes as u32)?;
         self.pending.reserve(nodes)?;
+        self.dids.reserve(1)?;
         let taken = take(&mut self.come, &mut self.senders, event);
         let did = self.node.local(event, taken, &mut self.sent);
         let _fits = self.sent.free();
@@ -303,6 +330,7 @@ impl NodeCell {
         };
         self.log.push(entry, taken, &self.sent);
         append(&mut self.pending, &self.sent);
+        self.dids.push(did);
         Ok(Stepped::Did { entry, did })
     }
 }

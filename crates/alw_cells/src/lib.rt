@@ -6,9 +6,11 @@ mod cells;
 mod laws;
 mod lists;
 mod logs;
+mod parts;
 
 pub use agreement::links_agree;
 pub use alw_model::Did;
 pub use cells::{NodeCell, Stepped};
 pub use laws::cells_are_runs;
 pub use logs::{Cursor, Log, Logs};
+pub use parts::{CellParts, DidLists, Worked};

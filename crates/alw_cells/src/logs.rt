@@ -107,6 +107,7 @@ impl Log {
     pub fn reserve(&mut self, sends: u32) -> Result<(), NoMemory>
         requires { sends < 4294967295 }
         ensures ok { OnOk result (self.new ≡ record self.old { room = sends + 1 }) }
+        ensures few { OnOk result (length self.old.entries < 4294967295) }
         ensures err { OnErr result (self.new ≡ self.old) }
     {
         if self.events.len() >= u32::MAX as usize {
@@ -178,6 +179,17 @@ impl<'a> Cursor<'a> {
         ensures { result ≡ taken_of self.now.given }
     {
         self.given?.taken
+    }
+
+    /// The messages that the event given last sent, each with its receiver. None where the last `next`
+    /// gave no event or none was asked for yet.
+    pub fn all_sent(&self) -> &'a [(u16, Msg)]
+        ensures { result.now ≡ sent_of self.now.given }
+    {
+        match self.given {
+            Some(_) => self.its_sent,
+            None => &[],
+        }
     }
 
     /// Message i of those that the event given last sent, with its receiver. None exactly where i is at

@@ -2,10 +2,12 @@
 #![tactic(auto)]
 
 mod laws;
+mod lists;
 mod nodes;
 mod shares;
 
 pub use alw_memory::HomeView;
 pub use laws::shares_are_enough;
+pub use lists::{Dids, Nodes};
 pub use nodes::Node;
 pub use shares::Share;

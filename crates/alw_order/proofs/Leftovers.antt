@@ -55,7 +55,7 @@ module _ (parts : Parts) (parameters : Parameters) where
     abbrev n : ℕ
     n = node_of logged.entry.event
 
-    run : IsNextLogged parts parameters n (node_at s n) logged × IsRunFrom parts parameters n (node_step parts parameters n (node_at s n) event logged.taken).node (mine n rest)
+    pub run : IsNextLogged parts parameters n (node_at s n) logged × IsRunFrom parts parameters n (node_step parts parameters n (node_at s n) event logged.taken).node (mine n rest)
     run = subst (IsRunFrom parts parameters n (node_at s n)) (ap (λ b. cond b (logged ∷ mine n rest) (mine n rest)) (eq-eqb n n refl)) (left.runs n)
 
     bounds : (from to : NodeNo) → event ≡ Deliver from to → (from.0 < node_count parts) × (to.0 < node_count parts)
@@ -101,7 +101,7 @@ module _ (parts : Parts) (parameters : Parameters) where
         go (Evict at emptied) is = none_taken logged.taken (takes (Evict at emptied) is)
         go (Deliver from to) is = let t = taken_some from to is in delivered from to t.0 is t.1 ∙ sym t.1
 
-    stepped_is : stepped_by parts parameters s event ≡ node_step parts parameters n (node_at s n) event logged.taken
+    pub stepped_is : stepped_by parts parameters s event ≡ node_step parts parameters n (node_at s n) event logged.taken
     stepped_is = ap (node_step parts parameters n (node_at s n) event) taken_right
 
     -- it is legal

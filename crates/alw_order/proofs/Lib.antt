@@ -22,3 +22,4 @@ pub mod Leftovers
 pub mod Merging
 pub mod JournalLogs
 pub mod LogCounts
+pub mod MergedLogs

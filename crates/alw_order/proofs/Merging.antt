@@ -79,7 +79,7 @@ link_at_start parts a b = cases_lt_then (node_count parts * node_count parts) (l
     (λ l. get_or_past _ (link_place parts a b) [] (rw (length-replicate {A = List Msg} (node_count parts * node_count parts) []) l))
 
 module _ (parts : Parts) (parameters : Parameters) (logs : Logs) (are : AreLocalRuns parts parameters logs) where
-  abbrev whole : List Logged
+  abbrev pub whole : List Logged
   whole = in_log_order (all_logs logs)
 
   -- past the last node there is no log
@@ -96,12 +96,12 @@ module _ (parts : Parts) (parameters : Parameters) (logs : Logs) (are : AreLocal
       (λ l. stamps_rise parts parameters n (log_at logs n) (are.runs n l))
       (λ l. subst (StampsRise 0) (sym (no_log n l)) tt)
 
-  mine_is : (n : ℕ) → mine n whole ≡ log_at logs n
+  pub mine_is : (n : ℕ) → mine n whole ≡ log_at logs n
   mine_is n =
       let among = mine_among n 0 n logs (omega arith) logs_from in
       mine_in_order n 0 (all_logs logs) (subst (StampsRise 0) (sym among) (log_rises n)) ∙ among
 
-  left_at_start : IsLeft parts parameters (machine_start parts) whole
+  pub left_at_start : IsLeft parts parameters (machine_start parts) whole
   left_at_start = record {
     runs = λ n. subst (IsRunFrom parts parameters n (node_at (machine_start parts) n)) (sym (mine_is n)) (cases_lt_then (node_count parts) n
         (λ l. subst (λ (node : NodeState). IsRunFrom parts parameters n node (log_at logs n)) (sym (node_at_start parts parameters n l)) (are.runs n l))
@@ -114,7 +114,7 @@ module _ (parts : Parts) (parameters : Parameters) (logs : Logs) (are : AreLocal
   out : RunsOut parts parameters (machine_start parts) whole
   out = runs_out parts parameters (machine_start parts) whole (start_aimed parts parameters) left_at_start
 
-  merged_is : merged logs ≡ entries whole
+  pub merged_is : merged logs ≡ entries whole
   unfolding merged
   merged_is = ap in_order (entries_all logs) ∙ sym (entries_in_order (all_logs logs))
 

@@ -13,7 +13,7 @@ ghost use Rattle.alw_order.specs.Merges.{AreLocalRuns, IsWithin, EveryLogs, entr
 /// The logs of all nodes, each a run of its node alone, merge to a legal journal where their links
 /// agree: its entries are those of the logs, each as often, by stamp and then by node number. Each
 /// node ends as its log leaves it, and each link holds what the one log sent beyond what the other
-/// took.
+/// took. The logs of that journal are these logs.
 pub fn agreeing_logs_merge()
     ensures legal { EveryLogs (λ parts parameters logs. IsLegal parts parameters (merged logs)) }
     ensures entries { EveryLogs (λ parts parameters logs. IsPermutation (entries_of logs) (merged logs)) }
@@ -22,6 +22,7 @@ pub fn agreeing_logs_merge()
         node_at (state parts parameters (merged logs)) n ≡ node_after parts parameters n (node_start parts n) (log_at logs n)) }
     ensures links { EveryLogs (λ parts parameters logs. (from to : ℕ) → to < node_count parts →
         took_from from (log_at logs to) ++ link_at parts (state parts parameters (merged logs)) from to ≡ sent_to to (log_at logs from)) }
+    ensures logs { EveryLogs (λ parts parameters logs. (n : ℕ) → n < node_count parts → log_at (logs_of parts parameters (merged logs)) n ≡ log_at logs n) }
 {}
 
 /// The other way round: the logs of a legal journal, whose stamps are within the limit, are local runs

@@ -1,12 +1,11 @@
 -- What a tally is told of an event is what the event tells.
-use Rattle.std.proofs.Common.{◌≡◌, ℕ, ◌+◌, Option, Some, None, List, [], ◌∷◌, ◌++◌, option_to_list, refl, ap, ◌∙◌}
+use Rattle.std.proofs.Common.{◌≡◌, ℕ, Option, Some, None, List, [], ◌∷◌, ◌++◌, option_to_list, refl, ap, ◌∙◌}
 use Rattle.std.specs.Option.{option_or}
 use Rattle.std.proofs.Math.Nat.{add-zero}
 use Rattle.sparc_table.specs.declared.outcomes.Outcome.{Outcome}
 use Rattle.sparc_table.specs.declared.outcomes.Outcome.TheVariants.{Done, Miss, Out, Halt, Trap}
 use Rattle.alw_msg.specs.declared.messages.Msg.{Msg}
 use Rattle.alw_image.specs.declared.parts.Parts.{Parts}
-use Rattle.alw_model.specs.declared.steps.Counts.{Counts}
 use Rattle.alw_model.specs.declared.steps.Did.{Did}
 use Rattle.alw_model.specs.declared.steps.Did.TheVariants.{Turn, Missed, Took, Packet, Handled, Evicted}
 use Rattle.alw_model.specs.Runs.{Moment, number_of, turn_in}

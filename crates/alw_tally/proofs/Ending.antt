@@ -1,13 +1,12 @@
 -- What remains at all nodes tells whether a context has trapped, whether all have halted, and whether a packet waits.
-use Rattle.std.proofs.Common.{◌≡◌, ℕ, zero, suc, ◌+◌, ◌==◌, Bool, true, false, cond, not, ◌&&◌, ◌||◌, List, [], ◌∷◌, length, map, refl, sym, ap, ◌∙◌, arith}
-use Rattle.std.specs.List.{list_any, list_all, count_by}
+use Rattle.std.proofs.Common.{◌≡◌, ℕ, zero, suc, ◌+◌, ◌==◌, Bool, true, false, not, ◌&&◌, ◌||◌, List, [], ◌∷◌, length, refl, sym, ap, ◌∙◌, arith}
+use Rattle.std.specs.List.{list_any, list_all}
 use Rattle.std.proofs.lemmas.Bool.{ne_eqb}
 use Rattle.alw_num.specs.Weights.{digit, weigh}
 use Rattle.alw_msg.specs.declared.messages.Msg.{Msg}
-use Rattle.alw_msg.specs.declared.contexts.Status.{Status}
 use Rattle.alw_msg.specs.Statuses.{is_halted, has_trapped}
 use Rattle.alw_msg.specs.Lists.{is_nonempty}
-use Rattle.alw_model.specs.Contexts.{Slot, all_halted}
+use Rattle.alw_model.specs.Contexts.{Slot}
 use Rattle.alw_model.specs.NodeStates.{NodeState}
 use Rattle.alw_model.specs.Machine.{MachineState, any_trapped, has_halted}
 use Rattle.alw_tally.specs.declared.remains.Remains.{Remains}

@@ -5,3 +5,4 @@ pub mod Sums
 pub mod Following
 pub mod Ending
 pub mod Starting
+pub mod Within

@@ -1,5 +1,5 @@
 -- The messages of an event are counted one by one.
-use Rattle.std.proofs.Common.{◌≡◌, ℕ, ◌+◌, ◌*◌, ◌<◌, ◌≤◌, ◌==◌, Some, List, [], ◌∷◌, ◌++◌, take, length, slice_get, refl, sym, ap, subst, ◌∙◌, arith}
+use Rattle.std.proofs.Common.{◌≡◌, ℕ, ◌+◌, ◌*◌, ◌<◌, ◌≤◌, ◌==◌, Some, List, [], ◌∷◌, ◌++◌, take, length, slice_get, sym, ap, subst, ◌∙◌, arith}
 use Rattle.std.proofs.Math.Nat.{add-zero, add_assoc}
 use Rattle.std.proofs.lemmas.List.{take_more}
 use Rattle.std.proofs.lemmas.Option.{get_or_from_slice_get}
@@ -12,11 +12,7 @@ use Rattle.alw_msg.specs.Kinds.{kind_number}
 use Rattle.alw_image.specs.declared.parts.Parts.{Parts}
 use Rattle.alw_model.specs.Counts.{hops_between}
 use Rattle.alw_model.specs.declared.steps.Counts.{Counts}
-use Rattle.alw_tally.specs.Counted.{Sent, by_kinds, of_kind, sent_of, with_sent, with_kind, AreFew}
-
--- counts with more hops
-abbrev pub with_hops : ℕ → Counts → Counts
-with_hops hops c = record c { hops = c.hops + hops }
+use Rattle.alw_tally.specs.Counted.{Sent, by_kinds, of_kind, sent_of, with_sent, with_hops, with_kind, AreFew}
 
 -- one message of a kind more
 abbrev one_more : (Kind → ℕ) → Kind → Kind → ℕ

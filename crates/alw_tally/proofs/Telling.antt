@@ -1,5 +1,5 @@
 -- What a run and one more event tell.
-use Rattle.std.proofs.Common.{◌≡◌, ℕ, ◌+◌, Option, Some, None, List, [], ◌∷◌, ◌++◌, length, map, refl, sym, ap, ◌∙◌, arith}
+use Rattle.std.proofs.Common.{◌≡◌, ℕ, ◌+◌, Option, Some, None, List, [], ◌∷◌, ◌++◌, length, refl, sym, ap, ◌∙◌, arith}
 use Rattle.std.proofs.lemmas.List.{length-append, map-append, flat_map_more}
 use Rattle.std.proofs.lemmas.List.Concat.{flat_map-append}
 use Rattle.std.specs.List.{flat_map}
@@ -8,16 +8,14 @@ use Rattle.alw_model.specs.Flat.{print_of}
 use Rattle.alw_msg.specs.declared.events.Entry.{Entry}
 use Rattle.alw_image.specs.declared.parts.Parts.{Parts}
 use Rattle.alw_image.specs.Parameters.{Parameters}
-use Rattle.alw_num.specs.Weights.{weigh}
 use Rattle.alw_num.proofs.Weigh.{weigh-append}
-use Rattle.alw_model.specs.declared.steps.Counts.{Counts}
 use Rattle.alw_model.specs.Machine.{state}
 use Rattle.alw_model.specs.Runs.{Moment, moment_of, moments}
 use Rattle.alw_model.specs.Counts.{counts_of}
 use Rattle.alw_model.proofs.Journals.{moments_push}
 use Rattle.alw_model.specs.declared.ends.TrapAt.{TrapAt}
 use Rattle.alw_model.specs.Ends.{trap_in, first_trap, or_else}
-use Rattle.alw_tally.specs.Told.{Told, turn_at, contexts_of, words_printed, told_of, told_with, sum_of}
+use Rattle.alw_tally.specs.Told.{turn_at, contexts_of, words_printed, told_of, told_with, sum_of}
 
 or_else-assoc : (a b c : Option TrapAt) → or_else (or_else a b) c ≡ or_else a (or_else b c)
 or_else-assoc None b c = refl
@@ -28,7 +26,7 @@ or_none None = refl
 or_none (Some at) = refl
 
 -- the first trapping turn of two runs, one behind the other
-first_trap-append : (n : ℕ) (run more : List Moment) → first_trap n (run ++ more) ≡ or_else (first_trap n run) (first_trap (n + length run) more)
+pub first_trap-append : (n : ℕ) (run more : List Moment) → first_trap n (run ++ more) ≡ or_else (first_trap n run) (first_trap (n + length run) more)
 first_trap-append n [] more = ap (λ (k : ℕ). first_trap k more) (let e : n ≡ n + 0 = omega arith in e)
 first_trap-append n (moment ∷ rest) more =
     let here = trap_in n moment moment.stepped.did in

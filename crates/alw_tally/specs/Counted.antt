@@ -92,6 +92,27 @@ with_kind c kinds.WDATA = record c { wdata = c.wdata + 1 }
 with_kind c kinds.INV = record c { inv = c.inv + 1 }
 with_kind c kinds.BUSY = record c { busy = c.busy + 1 }
 
+-- counts with more hops
+abbrev pub with_hops : ℕ → Counts → Counts
+with_hops hops c = record c { hops = c.hops + hops }
+
+-- counts with a message more, by its kind and its way
+abbrev pub with_send : Parts → ℕ → ℕ → Kind → Counts → Counts
+with_send parts from to kind c = with_kind (with_hops (hops_between parts from to) c) kind
+
+-- counts with an event more, but for what it sent
+abbrev pub with_event : Happened → Counts → Counts
+with_event happened c = record c {
+  entries = c.entries + 1;
+  turns = c.turns + digit (is_turn happened.did);
+  misses = c.misses + digit (is_miss happened.did);
+  evicts = c.evicts + digit (is_eviction happened.did);
+  handlers = c.handlers + digit (is_handling happened.did);
+  spills = c.spills + digit (is_spill happened.did);
+  replies = c.replies + digit (brings_line happened.taken);
+  used = c.used + digit happened.used;
+}
+
 -- the counts of an event, by what it did and what it sent
 abbrev pub counts_by : Happened → Sent → Counts
 counts_by happened sent = record {

@@ -1,5 +1,5 @@
 -- What remains to be done at a machine: contexts that haven't halted, those of them that have trapped, and packets that wait for their handler.
-use Rattle.std.specs.Prelude.{◌≡◌, ℕ, ◌+◌, ◌-◌, ◌<◌, ◌≤◌, ◌^◌, not, List, length}
+use Rattle.std.specs.Prelude.{ℕ, ◌+◌, ◌-◌, ◌<◌, ◌≤◌, ◌^◌, not, List, length}
 use Rattle.alw_num.specs.Weights.{digit, weigh}
 use Rattle.sparc_table.specs.declared.outcomes.Outcome.TheVariants.{Halt, Trap}
 use Rattle.alw_msg.specs.declared.events.Event.{Event}

@@ -1,7 +1,11 @@
 -- A tally: what it tells, and room for events to come.
-use Rattle.std.specs.Prelude.{ℕ, ◌*◌, ◌<◌, ◌≤◌, ◌^◌, length}
-use Rattle.alw_tally.specs.Told.{Told}
-use Rattle.alw_tally.specs.Counted.{AreAtMost}
+use Rattle.std.specs.Prelude.{ℕ, ◌*◌, ◌<◌, ◌≤◌, ◌^◌, List, ◌++◌, length}
+use Rattle.alw_msg.specs.declared.messages.Msg.{Msg}
+use Rattle.alw_image.specs.declared.parts.Parts.{Parts}
+use Rattle.alw_model.specs.Runs.{turn_in}
+use Rattle.alw_tally.specs.declared.happenings.Happened.{Happened}
+use Rattle.alw_tally.specs.Told.{Told, contexts_of, words_printed, sum_of}
+use Rattle.alw_tally.specs.Counted.{counts_of_event, AreAtMost}
 
 -- what a tally tells, and the number of events that it can be told of without memory
 pub record Tallied : Type 0 where
@@ -14,3 +18,11 @@ pub record IsWithin (told : Told) : Type 0 where
   pub turns : length told.turns ≤ told.counts.entries
   pub prints : length told.prints ≤ told.counts.entries
   pub counts : AreAtMost (2 ^ 25 * told.counts.entries) told.counts
+
+-- what is told with one event more, by what it did, took and sent; where it trapped isn't
+abbrev pub told_logged : Parts → Told → Happened → List (ℕ × Msg) → Told
+told_logged parts told happened sends = record told {
+  turns = told.turns ++ contexts_of (turn_in parts happened.node.0 happened.did);
+  prints = told.prints ++ words_printed (turn_in parts happened.node.0 happened.did);
+  counts = sum_of told.counts (counts_of_event parts happened sends);
+}

@@ -2,7 +2,7 @@ ghost use Rattle.std.specs.Prelude.{◌≡◌, ◌≤◌, ◌<◌, ◌-◌, ◌+
 ghost use Rattle.alw_num.specs.Weights.{digit};
 ghost use Rattle.alw_model.specs.Counts as counts;
 ghost use Rattle.alw_model.specs.Counts.{hops_between};
-ghost use Rattle.alw_tally.specs.Counted.{brings_line, sent_of, with_sent, with_kind, counts_of_event, AreFew, AreAtMost};
+ghost use Rattle.alw_tally.specs.Counted.{brings_line, sent_of, with_sent, with_send, with_event, with_kind, counts_of_event, AreFew, AreAtMost};
 ghost use Rattle.alw_tally.specs.Told.{sum_of};
 
 use crate::happenings::Happened;
@@ -18,6 +18,26 @@ pub fn count_event(counts: &mut Counts, image: &Image, happened: &Happened, send
     ensures counts { counts.new ≡ sum_of counts.old (counts_of_event image.now happened.now sends.now.messages) }
     ensures few { AreAtMost (2 ^ 25) (counts_of_event image.now happened.now sends.now.messages) }
 {
+    count_act(counts, happened);
+    count_sends(counts, image, happened.node, sends);
+}
+
+/// One event more is counted, whose messages are read off a log.
+pub fn count_logged(counts: &mut Counts, image: &Image, happened: &Happened, sends: &[(u16, Msg)])
+    requires sends { length sends.now ≤ MOST_NODES }
+    requires few { AreAtMost (2 ^ 62) counts.old }
+    ensures counts { counts.new ≡ sum_of counts.old (counts_of_event image.now happened.now sends.now) }
+    ensures few { AreAtMost (2 ^ 25) (counts_of_event image.now happened.now sends.now) }
+{
+    count_act(counts, happened);
+    count_messages(counts, image, happened.node, sends);
+}
+
+// An event is counted, but for what it sent.
+fn count_act(counts: &mut Counts, happened: &Happened)
+    requires { AreAtMost (2 ^ 62) counts.old }
+    ensures { counts.new ≡ with_event happened.now counts.old }
+{
     let did = happened.did;
     counts.entries += 1;
     counts.turns += one_if(is_turn(did));
@@ -27,7 +47,6 @@ pub fn count_event(counts: &mut Counts, image: &Image, happened: &Happened, send
     counts.spills += one_if(is_spill(did));
     counts.replies += one_if(brings_line(&happened.taken));
     counts.used += one_if(happened.used);
-    count_sends(counts, image, happened.node, sends);
 }
 
 // What a node sends is counted: of each number it is at most 131,072 a message.
@@ -39,9 +58,31 @@ fn count_sends(counts: &mut Counts, image: &Image, from: NodeNo, sends: &Sends)
 {
     for i in 0..sends.len() {
         let (to, msg) = sends.at(i);
-        counts.hops += hops_between(image, from, to);
-        add_kind(counts, msg.kind);
+        count_send(counts, image, from, to, msg.kind);
     }
+}
+
+// The same of messages that are read off a log.
+fn count_messages(counts: &mut Counts, image: &Image, from: NodeNo, sends: &[(u16, Msg)])
+    requires sends { length sends.now ≤ MOST_NODES }
+    requires few { AreAtMost (2 ^ 62 + 1) counts.old }
+    ensures counts { counts.new ≡ with_sent (sent_of image.now from.0 sends.now) counts.old }
+    ensures few { AreFew (2 ^ 25) (sent_of image.now from.0 sends.now) }
+{
+    for i in 0..sends.len() {
+        let (to, msg) = sends[i];
+        count_send(counts, image, from, NodeNo(to), msg.kind);
+    }
+}
+
+// A message is counted, by its kind and its way.
+fn count_send(counts: &mut Counts, image: &Image, from: NodeNo, to: NodeNo, kind: Kind)
+    requires { AreAtMost (2 ^ 63 - 2 ^ 17) counts.old }
+    ensures counts { counts.new ≡ with_send image.now from.0 to.0 kind counts.old }
+    ensures few { hops_between image.now from.0 to.0 < 2 ^ 17 }
+{
+    counts.hops += hops_between(image, from, to);
+    add_kind(counts, kind);
 }
 
 // One message of a kind more.

@@ -1,14 +1,15 @@
-ghost use Rattle.std.specs.Prelude.{◌≡◌, ◌+◌, ◌<◌, ◌≤◌, ◌^◌, ◌++◌, [], length, option_to_list, OnOk};
+ghost use Rattle.std.specs.Prelude.{◌≡◌, ◌+◌, ◌<◌, ◌≤◌, ◌^◌, ◌++◌, [], length, option_to_list, IfOk, OnOk};
 ghost use Rattle.alw_image.specs.declared.parts.Parts.{Parts};
 ghost use Rattle.alw_model.specs.Runs.{Moment};
 ghost use Rattle.alw_tally.specs.Told.{contexts_of, words_printed, told_of, told_with};
+ghost use Rattle.alw_tally.specs.Tallies.{IsWithin, told_logged};
 ghost use Rattle.alw_tally.specs.Happenings.{IsOf};
 
-use crate::counting::count_event;
+use crate::counting::{count_event, count_logged};
 use crate::happenings::{Happened, trap_of, turn_of};
 use alw_image::Image;
 use alw_model::{Counts, TrapAt};
-use alw_msg::{Prints, Sends, Turns};
+use alw_msg::{Msg, Prints, Sends, Turns};
 use alw_num::{MOST_NODES, NoMemory, Roomy};
 use sparc_table::Outcome;
 use std::alloc::Global;
@@ -53,6 +54,25 @@ impl Tally {
         }
     }
 
+    /// The tally that tells this, with turns and prints in memory of its own, and without room.
+    pub fn of(
+        alloc: Global,
+        turns: &[u32],
+        prints: &[(u32, u32)],
+        counts: Counts,
+        trap: Option<TrapAt>,
+    ) -> Result<Tally, NoMemory>
+        requires { IsWithin (record { turns = turns.now; prints = prints.now; counts = counts; trap = trap }) }
+        ensures { IfOk result (λ tally. tally.told ≡ record { turns = turns.now; prints = prints.now; counts = counts; trap = trap }) }
+    {
+        Ok(Tally {
+            turns: roomy_of(alloc, turns)?,
+            prints: roomy_of(alloc, prints)?,
+            counts,
+            trap,
+        })
+    }
+
     /// Makes room for one event more.
     pub fn reserve(&mut self) -> Result<(), NoMemory>
         ensures told { self.new.told ≡ self.old.told }
@@ -77,6 +97,18 @@ impl Tally {
         let trap = trap_of(self.counts.entries as u32, happened);
         self.trap = self.trap.or(trap);
         count_event(&mut self.counts, image, happened, sends);
+        add_turn(&mut self.turns, &mut self.prints, turn_of(image, happened));
+    }
+
+    /// One event more whose messages are read off a log: its turn, its print and its counts. Where it
+    /// trapped isn't told of it.
+    pub fn add_logged(&mut self, image: &Image, happened: &Happened, sends: &[(u16, Msg)])
+        requires room { 1 ≤ self.old.room }
+        requires few { length sends.now ≤ MOST_NODES }
+        ensures told { self.new.told ≡ told_logged image.now self.old.told happened.now sends.now }
+        ensures room { self.old.room ≤ self.new.room + 1 }
+    {
+        count_logged(&mut self.counts, image, happened, sends);
         add_turn(&mut self.turns, &mut self.prints, turn_of(image, happened));
     }
 
@@ -140,4 +172,17 @@ fn add_turn(turns: &mut Roomy<u32>, prints: &mut Roomy<(u32, u32)>, turn: Option
             prints.push((context, word));
         }
     }
+}
+
+// These members, without room for more.
+fn roomy_of<T: Copy + Drop>(alloc: Global, members: &[T]) -> Result<Roomy<T>, NoMemory>
+    requires { length members.now < 2 ^ 32 }
+    ensures { IfOk result (λ list. list.list ≡ members.now) }
+{
+    let mut list = Roomy::empty(alloc);
+    list.reserve(members.len() as u32)?;
+    for member in members {
+        list.push(*member);
+    }
+    Ok(list)
 }

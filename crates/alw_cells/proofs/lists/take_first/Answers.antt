@@ -1,4 +1,4 @@
-use Rattle.std.proofs.Common.{◌≡◌, ℕ, ◌<◌, length, sym, ap, ◌∙◌, arith}
+use Rattle.std.proofs.Common.{sym, ap, ◌∙◌, arith}
 use Rattle.alw_msg.specs.Lists.{front}
 use Rattle.alw_cells.proofs.Receivers.{taken_out, none_found}
 use Rattle.alw_cells.proofs.lists.take_first.Goals as goal

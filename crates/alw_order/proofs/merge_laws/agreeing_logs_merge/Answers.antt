@@ -1,5 +1,6 @@
 -- By induction over what is left of the merged logs.
 use Rattle.alw_order.proofs.Merging.{merged_legal, merged_entries, merged_ascends, merged_nodes, merged_links}
+use Rattle.alw_order.proofs.MergedLogs.{logs_again}
 use Rattle.alw_order.proofs.merge_laws.agreeing_logs_merge.Goals as goal
 
 pub returns-clause-legal : goal.returns-clause-legal
@@ -16,3 +17,6 @@ returns-clause-nodes c = merged_nodes
 
 pub returns-clause-links : goal.returns-clause-links
 returns-clause-links c = merged_links
+
+pub returns-clause-logs : goal.returns-clause-logs
+returns-clause-logs c = logs_again

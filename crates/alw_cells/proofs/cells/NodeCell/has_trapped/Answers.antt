@@ -1,4 +1,4 @@
-use Rattle.std.proofs.Common.{length, sym, ap, ◌∙◌, arith}
+use Rattle.std.proofs.Common.{length, sym, ap, arith}
 use Rattle.alw_cells.specs.Cells.{Cell}
 use Rattle.alw_cells.proofs.Choosing.{none_trapped}
 use Rattle.alw_cells.proofs.cells.NodeCell.has_trapped.Goals as goal

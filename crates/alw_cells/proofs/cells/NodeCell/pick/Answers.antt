@@ -1,4 +1,4 @@
-use Rattle.std.proofs.Common.{◌≡◌, ◌<◌, ℕ, sym, ap, ◌∙◌, arith}
+use Rattle.std.proofs.Common.{◌<◌, sym, ap, ◌∙◌, arith}
 use Rattle.alw_ready.specs.Rows.{row_count}
 use Rattle.alw_cells.specs.Cells.{Cell}
 use Rattle.alw_cells.proofs.Choosing.{IsRow, row_counts, picks_none, picks_evicted, picks_nth}

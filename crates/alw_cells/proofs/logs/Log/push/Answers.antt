@@ -1,4 +1,4 @@
-use Rattle.std.proofs.Common.{◌≡◌, ℕ, ◌+◌, ◌++◌, ◌∷◌, [], List, length, sym, ap, ◌∙◌, length-append, arith}
+use Rattle.std.proofs.Common.{◌≡◌, ◌+◌, ◌++◌, ◌∷◌, [], length, ap, ◌∙◌, length-append, arith}
 use Rattle.alw_cells.specs.Logs.{Written}
 use Rattle.alw_cells.specs.Records.{gathered, sends_of, with_sent}
 use Rattle.alw_cells.specs.declared.logs.Record.{Record}
