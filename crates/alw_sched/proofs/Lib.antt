@@ -1,2 +1,3 @@
 pub mod Seeded
 pub mod Picking
+pub mod GoingOn

@@ -1,4 +1,5 @@
-ghost use Rattle.std.specs.Prelude.{◌≡◌, ◌≢◌, ℕ, None, List};
+ghost use Rattle.std.specs.Prelude.{◌≡◌, ◌≢◌, ◌-◌, ℕ, None, List, length};
+ghost use Rattle.alw_num.specs.Draws.{drawn_times};
 ghost use Rattle.alw_msg.specs.declared.events.Entry.{Entry};
 ghost use Rattle.alw_image.specs.declared.parts.Parts.{Parts};
 ghost use Rattle.alw_image.specs.Parameters.{Parameters};
@@ -19,4 +20,12 @@ pub fn one_run_a_seed()
 #[tactic(auto, using(crate::proofs::Seeded::seeded_scheduled))]
 pub fn seeded_runs_are_scheduled()
     ensures { (image : Parts) → (parameters : Parameters) → (seed : ℕ) → (journal : List Entry) → IsSeededRun image parameters seed journal → IsScheduled image parameters journal }
+{}
+
+/// A run that was refused memory goes on: with the state that its draws left as the seed, of which each
+/// event took one, it comes to what the seed makes of the first place undisturbed.
+#[tactic(auto, using(crate::proofs::GoingOn::goes_on))]
+pub fn refused_runs_go_on()
+    ensures { (before : History) → (seed : ℕ) → (refused : History) → (after : History) → IsSeeded before seed refused →
+        IsSeeded refused (drawn_times (length refused.journal - length before.journal) seed) after → IsSeeded before seed after }
 {}
