@@ -3,7 +3,7 @@ use Rattle.std.proofs.Common.{◌≡◌, ◌<◌, ◌+◌, ◌^◌, ℕ, Some, L
 use Rattle.std.proofs.lemmas.List.{append-nil}
 use Rattle.alw_msg.specs.declared.messages.Msg.{Msg}
 use Rattle.alw_ruled.specs.declared.rule.View.{View}
-use Rattle.alw_ruled.specs.Order.{view_of, known, TakesOfPushed, Left}
+use Rattle.alw_ruled.specs.Order.{view_of, known, Boxed, messages, TakesOfPushed, Left}
 use Rattle.alw_ruled.proofs.Moves.{MayPush, MayPop, may_both}
 
 -- so many were popped since the passes were joined
@@ -25,16 +25,18 @@ pub closing_may : (pushed popped : List Msg) (v : View) (n : ℕ) → IsClosing 
 closing_may pushed popped v n h = may_both v pushed (popped ++ h.more) h.view_is
 
 -- one more
-pub closing_takes : (pushed popped : List Msg) (v after : View) (msg : Msg) (n : ℕ) → IsClosing pushed popped v n → TakesOfPushed v msg after → IsClosing pushed popped after (n + 1) × (n + 1 < 2 ^ 32)
-closing_takes pushed popped v after msg n h took =
+pub closing_takes : (pushed popped : List Msg) (v after : View) (boxed : Boxed) (n : ℕ) → IsClosing pushed popped v n → TakesOfPushed v boxed after → IsClosing pushed popped after (n + 1) × (n + 1 < 2 ^ 32)
+closing_takes pushed popped v after boxed n h took =
+    let msg = boxed.value in
+    let rest = messages took.1.0 in
     let more = h.more ++ msg ∷ [] in
     let view_is : after ≡ view_of (Some pushed) (Some (popped ++ more)) = took.0
     ∙ ap (λ (w : View). view_of w.pushed (Some (known w.popped ++ msg ∷ []))) h.view_is
     ∙ ap (λ (l : List Msg). view_of (Some pushed) (Some l)) (append_assoc popped h.more (msg ∷ [])) in
     let counted : length more ≡ n + 1 = length-append h.more (msg ∷ []) ∙ ap (λ k. k + 1) h.counted in
-    let left : pushed ≡ (popped ++ more) ++ took.1.0 = subst (λ (w : View). known w.pushed ≡ known w.popped ++ took.1.0) view_is took.1.1 in
-    let bound : length pushed ≡ length popped + length more + length took.1.0 =
-    ap length left ∙ (length-append (popped ++ more) took.1.0 ∙ ap (λ k. k + length took.1.0) (length-append popped more)) in
+    let left : pushed ≡ (popped ++ more) ++ rest = subst (λ (w : View). known w.pushed ≡ known w.popped ++ rest) view_is took.1.1 in
+    let bound : length pushed ≡ length popped + length more + length rest =
+    ap length left ∙ (length-append (popped ++ more) rest ∙ ap (λ k. k + length rest) (length-append popped more)) in
     (record { more = more; view_is = view_is; counted = counted; small = h.small }, omega (arith, bound, counted, h.small))
 
 -- none is left

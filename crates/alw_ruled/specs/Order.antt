@@ -1,5 +1,6 @@
 -- The rule of a link: the list popped, followed by what the queue holds, is the list pushed.
-use Rattle.std.specs.Prelude.{◌≡◌, ℕ, Option, Some, None, List, [], ◌∷◌, ◌++◌}
+use Rattle.std.specs.Prelude.{◌≡◌, ℕ, Option, Some, None, Box, List, [], ◌∷◌, ◌++◌, map}
+use Rattle.std.specs.declared.alloc.Global.{Global}
 use mathlib.Core.Option.{some}
 use lib.ListN.{get_elem?}
 use Rattle.alw_msg.specs.declared.messages.Msg.{Msg}
@@ -19,7 +20,14 @@ pub record Fits (sender receiver : ℕ) (pushed popped : List Msg) (pass : ℕ) 
   pub pushes : (list : List Msg) → view.pushed ≡ Some list → (pass ≡ sender) × (list ≡ pushed)
   pub pops : (list : List Msg) → view.popped ≡ Some list → (pass ≡ receiver) × (list ≡ popped)
 
--- the rule, over what the queue holds and the view of each pass, by its number
+-- a message as the queue holds it, and the messages of those that it holds
+abbrev pub Boxed : Type 0
+Boxed = Box Msg Global
+
+abbrev pub messages : List Boxed → List Msg
+messages held = map (λ (boxed : Boxed). boxed.value) held
+
+-- the rule, over the messages on the way and the view of each pass, by its number
 pub record InOrder (held : List Msg) (views : List View) : Type 0 where
   pub sender : ℕ
   pub receiver : ℕ
@@ -28,18 +36,22 @@ pub record InOrder (held : List Msg) (views : List View) : Type 0 where
   pub in_order : pushed ≡ popped ++ held
   pub each : (pass : ℕ) → (view : View) → get_elem? views pass ≡ some view → Fits sender receiver pushed popped pass view
 
+-- the same, over what the queue holds
+abbrev pub HoldsInOrder : List Boxed → List View → Type 0
+HoldsInOrder held views = InOrder (messages held) views
+
 -- a push adds the message to the list pushed
-abbrev pub Adds : View → Msg → View → Type 0
-Adds before msg after = after ≡ view_of (Some (known before.pushed ++ msg ∷ [])) before.popped
+abbrev pub Adds : View → Boxed → View → Type 0
+Adds before boxed after = after ≡ view_of (Some (known before.pushed ++ boxed.value ∷ [])) before.popped
 
 -- a pop adds the message to the list popped
-abbrev pub Takes : View → Msg → View → Type 0
-Takes before msg after = after ≡ view_of before.pushed (Some (known before.popped ++ msg ∷ []))
+abbrev pub Takes : View → Boxed → View → Type 0
+Takes before boxed after = after ≡ view_of before.pushed (Some (known before.popped ++ boxed.value ∷ []))
 
 -- the list pushed is the list popped and what is left
-abbrev pub Left : View → List Msg → Type 0
-Left view held = known view.pushed ≡ known view.popped ++ held
+abbrev pub Left : View → List Boxed → Type 0
+Left view held = known view.pushed ≡ known view.popped ++ messages held
 
 -- a pop by the pass that has both lists: so many messages more were pushed than popped
-abbrev pub TakesOfPushed : View → Msg → View → Type 0
-TakesOfPushed before msg after = Takes before msg after × ((rest : List Msg) × Left after rest)
+abbrev pub TakesOfPushed : View → Boxed → View → Type 0
+TakesOfPushed before boxed after = Takes before boxed after × ((rest : List Boxed) × Left after rest)

@@ -11,12 +11,13 @@ use std::marker::Model;
 use std::sync::Wait;
 use thiserror::Error;
 
-type Queue = RuledSegQueue<Msg, View, FirstInFirstOut>;
+type Queue = RuledSegQueue<Box<Msg>, View, FirstInFirstOut>;
 
 /// A link from one node to another: messages on their way between two threads, first in, first out. A
 /// contract sees its name, which no other link has.
 pub struct Link {
     queue: Queue,
+    alloc: Global,
 }
 
 impl Model for Link {
@@ -29,7 +30,7 @@ impl Model for Link {
 
 impl Drop for Link {
     fn drop(self) {
-        let Link { queue } = self;
+        let Link { queue, alloc: _ } = self;
         queue.destroy();
     }
 }
@@ -37,7 +38,7 @@ impl Drop for Link {
 /// The right to push to a link, with the list of what was pushed, of which the count alone takes memory.
 #[derive(Drop)]
 pub struct SendPass {
-    pass: SegPass<Msg, View>,
+    pass: SegPass<Box<Msg>, View>,
     count: u32,
 }
 
@@ -58,7 +59,7 @@ impl Model for SendPass {
 /// The right to pop from a link, with the list of what was popped, which takes no memory.
 #[derive(Drop)]
 pub struct RecvPass {
-    pass: SegPass<Msg, View>,
+    pass: SegPass<Box<Msg>, View>,
 }
 
 impl Model for RecvPass {
@@ -107,7 +108,7 @@ impl Link {
         let (queue, mut sender) = Queue::with_rule(alloc)?;
         let receiver = queue.another::<Halves>(&mut sender);
         Ok(Ends {
-            link: Link { queue },
+            link: Link { queue, alloc },
             sender: SendPass {
                 pass: sender,
                 count: 0,
@@ -122,12 +123,15 @@ impl Link {
         requires short { length pass.old.pushed < 4294967295 }
         ensures { MatchResult result (λ _. pass.new ≡ record pass.old { pushed = pass.old.pushed ++ msg ∷ [] }) (λ err. (err.msg ≡ msg) × (pass.new ≡ pass.old)) }
     {
-        match self.queue.push_as::<Added, R>(rt, &mut pass.pass, msg) {
+        let Ok(boxed) = Box::new(self.alloc, msg) else {
+            return Err(SendErr { msg });
+        };
+        match self.queue.push_as::<Added, R>(rt, &mut pass.pass, boxed) {
             Ok(()) => {
                 pass.count += 1;
                 Ok(())
             }
-            Err(msg) => Err(SendErr { msg }),
+            Err(boxed) => Err(SendErr { msg: *boxed }),
         }
     }
 
@@ -137,7 +141,8 @@ impl Link {
         requires { pass.old.link ≡ self.now }
         ensures { pass.new ≡ record pass.old { popped = pass.old.popped ++ option_to_list result } }
     {
-        self.queue.pop_as::<Taken, R>(rt, &mut pass.pass)
+        let boxed = self.queue.pop_as::<Taken, R>(rt, &mut pass.pass)?;
+        Some(*boxed)
     }
 
     /// Ends a link: the number of messages that were pushed and not popped.

@@ -12,11 +12,11 @@ pub struct View {
 // The list popped, followed by what the queue holds, is the list pushed.
 pub struct FirstInFirstOut;
 
-impl Protocol<Msg, View> for FirstInFirstOut {
+impl Protocol<Box<Msg>, View> for FirstInFirstOut {
     ghost use Rattle.std.specs.Prelude.{Some, []};
-    ghost use Rattle.alw_ruled.specs.Order.{view_of, InOrder};
+    ghost use Rattle.alw_ruled.specs.Order.{view_of, HoldsInOrder};
 
-    ghost holds = { InOrder };
+    ghost holds = { HoldsInOrder };
 
     ghost first = { view_of (Some []) (Some []) };
 }
@@ -45,7 +45,7 @@ impl Join<View> for Halves {
 // A push.
 pub struct Added;
 
-impl Outcome<Msg, View> for Added {
+impl Outcome<Box<Msg>, View> for Added {
     ghost use Rattle.alw_ruled.specs.Order.{Adds};
 
     ghost then = { Adds };
@@ -54,13 +54,13 @@ impl Outcome<Msg, View> for Added {
 // A pop, by a pass that may pop alone.
 pub struct Taken;
 
-impl Outcome<Msg, View> for Taken {
+impl Outcome<Box<Msg>, View> for Taken {
     ghost use Rattle.alw_ruled.specs.Order.{Takes};
 
     ghost then = { Takes };
 }
 
-impl Lesson<Msg, View> for Taken {
+impl Lesson<Box<Msg>, View> for Taken {
     ghost use Rattle.std.specs.Prelude.{⊤};
 
     ghost fact = { λ v held. ⊤ };
@@ -69,13 +69,13 @@ impl Lesson<Msg, View> for Taken {
 // A pop, by the pass that may push too: it knows what the queue holds.
 pub struct Emptied;
 
-impl Outcome<Msg, View> for Emptied {
+impl Outcome<Box<Msg>, View> for Emptied {
     ghost use Rattle.alw_ruled.specs.Order.{TakesOfPushed};
 
     ghost then = { TakesOfPushed };
 }
 
-impl Lesson<Msg, View> for Emptied {
+impl Lesson<Box<Msg>, View> for Emptied {
     ghost use Rattle.alw_ruled.specs.Order.{Left};
 
     ghost fact = { Left };
