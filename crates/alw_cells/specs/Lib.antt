@@ -3,3 +3,4 @@ pub mod Cells
 pub mod Choice
 pub mod Records
 pub mod Keeping
+pub mod Leaving

@@ -97,8 +97,8 @@ fn merged<R: Threads + Wait + Sync, G: Gate>(
     requires fits { stamps_of image.now params.now ≤ MOST_STEPS }
     ensures { IfOk result (λ entries. IsMergeOf image.now params.now entries) }
 {
-    let logs = run_workers::<R, G>(rt, alloc, image, params, workers, gate)?;
-    merge(alloc, &logs)
+    let worked = run_workers::<R, G>(rt, alloc, image, params, workers, gate)?;
+    merge(alloc, &worked.logs)
 }
 
 // Writes a run that workers began.

@@ -77,9 +77,9 @@ fn two_workers_run_at_once(rt: HostRuntime) -> Result<(), Fail> {
         has_passed: AtomicBool::new(false),
         was_passed: AtomicBool::new(false),
     };
-    let logs = run_workers(&rt, rt.alloc(), &image, &params, 2, &gate)?;
+    let worked = run_workers(&rt, rt.alloc(), &image, &params, 2, &gate)?;
     assert!(rt; gate.was_passed.load(Ordering::SeqCst));
-    assert!(rt; links_agree(&logs));
+    assert!(rt; links_agree(&worked.logs));
     Ok(())
 }
 
@@ -87,9 +87,9 @@ fn two_workers_run_at_once(rt: HostRuntime) -> Result<(), Fail> {
 fn four_workers_step_four_nodes(rt: HostRuntime) -> Result<(), Fail> {
     let image = writers(rt.alloc(), 2, 2)?;
     let params = Params::new(4, 64, 1000, 16).ok_or("no parameters")?;
-    let logs = run_workers(&rt, rt.alloc(), &image, &params, 4, &OpenGate)?;
-    assert_eq!(rt; logs.len(), 4);
-    assert!(rt; links_agree(&logs));
-    assert!(rt; count_events(&logs) > 20);
+    let worked = run_workers(&rt, rt.alloc(), &image, &params, 4, &OpenGate)?;
+    assert_eq!(rt; worked.logs.len(), 4);
+    assert!(rt; links_agree(&worked.logs));
+    assert!(rt; count_events(&worked.logs) > 20);
     Ok(())
 }

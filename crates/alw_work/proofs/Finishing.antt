@@ -1,5 +1,5 @@
 -- Cells that are stepped one after the other, each until it is spent, and cells that stand in their places.
-use Rattle.std.proofs.Common.{◌≡◌, ◌≢◌, ℕ, zero, suc, ◌+◌, ◌-◌, ◌<◌, ◌≤◌, Bool, true, false, cond, ◌||◌, Option, Some, None, List, [], ◌∷◌, ◌++◌, length, slice_get, slice_set, replicate, flat_map, refl, sym, ap, subst, ◌∙◌, arith}
+use Rattle.std.proofs.Common.{◌≡◌, ◌≢◌, ◌⊎◌, inl, inr, ⊎_elim, ℕ, zero, suc, ◌+◌, ◌-◌, ◌<◌, ◌≤◌, Bool, true, false, cond, ◌||◌, Option, Some, None, List, [], ◌∷◌, ◌++◌, length, slice_get, slice_set, replicate, flat_map, refl, sym, ap, subst, ◌∙◌, arith}
 use Rattle.std.specs.Prelude.{option_to_list}
 use Rattle.std.proofs.lemmas.List.Concat.{flat_map-append}
 use Rattle.std.proofs.lemmas.Option.{same_Some}
@@ -16,7 +16,8 @@ use Rattle.alw_model.specs.Threads.{Logged, is_from, took_from}
 use Rattle.alw_cells.specs.Cells.{Cell, IsCell, cell_start, in_from}
 use Rattle.alw_cells.specs.Choice.{taken_by, come_taken, logged_by, after_event}
 use Rattle.alw_cells.proofs.Runs.{clock_most}
-use Rattle.alw_work.specs.Seats.{EachAt, IsCellOf, StandsAt, HasTrapped, IsMarked, IsOfNode, TakesNothing, Finishes, AreFinished, AreAlone}
+use Rattle.alw_work.specs.Seats.{EachAt, IsCellOf, StandsAt, HasTrapped, IsMarked, IsOfNode, TakesNothing, Works, Finishes, AreFinished, AreAlone}
+use Rattle.alw_work.proofs.Working.{works_none, works_trans, works_step}
 
 -- ---- one step
 
@@ -74,7 +75,7 @@ alone_step cell event alone = record {
 }
 
 -- nothing has come at the start
-none_come : (n from : ℕ) → in_from (replicate n []) from ≡ []
+pub none_come : (n from : ℕ) → in_from (replicate n []) from ≡ []
 none_come zero from = refl
 none_come (suc n) zero = refl
 none_come (suc n) (suc from) = none_come n from
@@ -85,23 +86,23 @@ alone_start parts parameters number = record { come = none_come (node_count part
 -- ---- lists by place
 
 module _ {X : Type 0} where
-  get_last : (xs : List X) (x : X) → slice_get (xs ++ x ∷ []) (length xs) ≡ Some x
+  pub get_last : (xs : List X) (x : X) → slice_get (xs ++ x ∷ []) (length xs) ≡ Some x
   get_last [] x = refl
   get_last (first ∷ rest) x = get_last rest x
 
-  get_left : (xs : List X) (x y : X) (k : ℕ) → slice_get xs k ≡ Some y → slice_get (xs ++ x ∷ []) k ≡ Some y
+  pub get_left : (xs : List X) (x y : X) (k : ℕ) → slice_get xs k ≡ Some y → slice_get (xs ++ x ∷ []) k ≡ Some y
   get_left [] x y k is = absurd (cc)
   get_left (first ∷ rest) x y zero is = is
   get_left (first ∷ rest) x y (suc k) is = get_left rest x y k is
 
-  get_other : (xs : List X) (n : ℕ) (x : X) (k : ℕ) → k ≢ n → slice_get (slice_set xs n x) k ≡ slice_get xs k
+  pub get_other : (xs : List X) (n : ℕ) (x : X) (k : ℕ) → k ≢ n → slice_get (slice_set xs n x) k ≡ slice_get xs k
   get_other [] n x k other = refl
   get_other (first ∷ rest) zero x zero other = absurd (other refl)
   get_other (first ∷ rest) zero x (suc k) other = refl
   get_other (first ∷ rest) (suc n) x zero other = refl
   get_other (first ∷ rest) (suc n) x (suc k) other = get_other rest n x k (λ same. other (ap suc same))
 
-  get_same : (xs : List X) (n : ℕ) (x y z : X) → slice_get xs n ≡ Some z → slice_get (slice_set xs n x) n ≡ Some y → x ≡ y
+  pub get_same : (xs : List X) (n : ℕ) (x y z : X) → slice_get xs n ≡ Some z → slice_get (slice_set xs n x) n ≡ Some y → x ≡ y
   get_same [] n x y z was is = absurd (cc)
   get_same (first ∷ rest) zero x y z was is = same_Some x y is
   get_same (first ∷ rest) (suc n) x y z was is = get_same rest n x y z was is
@@ -111,10 +112,29 @@ module _ {X : Type 0} where
   get_within (first ∷ rest) zero x is = omega arith
   get_within (first ∷ rest) (suc k) x is = omega (arith, get_within rest k x is)
 
-  set_length : (xs : List X) (n : ℕ) (x : X) → length (slice_set xs n x) ≡ length xs
+  pub set_length : (xs : List X) (n : ℕ) (x : X) → length (slice_set xs n x) ≡ length xs
   set_length [] n x = refl
   set_length (first ∷ rest) zero x = refl
   set_length (first ∷ rest) (suc n) x = omega (arith, set_length rest n x)
+
+  -- a place of a list in which one place was written
+  pub at_place : (xs : List X) (n : ℕ) (x : X) (k : ℕ) (y : X) → slice_get (slice_set xs n x) k ≡ Some y → ((k ≡ n) × (x ≡ y)) ⊎ ((k ≢ n) × (slice_get xs k ≡ Some y))
+  at_place [] n x k y is = absurd (cc)
+  at_place (first ∷ rest) zero x zero y is = inl (refl, same_Some x y is)
+  at_place (first ∷ rest) zero x (suc k) y is = inr ((λ same. omega (arith, same)), is)
+  at_place (first ∷ rest) (suc n) x zero y is = inr ((λ same. omega (arith, same)), is)
+  at_place (first ∷ rest) (suc n) x (suc k) y is =
+      ⊎_elim (λ (h : (k ≡ n) × (x ≡ y)). inl (ap suc h.0, h.1)) (λ (h : (k ≢ n) × (slice_get rest k ≡ Some y)). inr ((λ same. h.0 (omega (arith, same))), h.1)) (at_place rest n x k y is)
+
+  -- no member
+  pub each_none : (P : ℕ → X → Type 0) (xs : List X) → xs ≡ [] → EachAt P xs
+  each_none P [] none k x is = absurd (cc)
+  each_none P (first ∷ rest) none k x is = absurd (cc)
+
+  -- one member is another
+  pub each_set : (P : ℕ → X → Type 0) (xs : List X) (n : ℕ) (x : X) → EachAt P xs → P n x → EachAt P (slice_set xs n x)
+  each_set P xs n x each is k y at = ⊎_elim (λ (h : (k ≡ n) × (x ≡ y)). subst (λ (z : ℕ × X). P z.0 z.1) (λ i. (sym h.0 i, h.1 i)) is)
+      (λ (h : (k ≢ n) × (slice_get xs k ≡ Some y)). each k y h.1) (at_place xs n x k y at)
 
   pub each_push : (P : ℕ → X → Type 0) (xs : List X) (x : X) → EachAt P xs → P (length xs) x → EachAt P (xs ++ x ∷ [])
   each_push P [] x each is zero y at = subst (λ (z : X). P 0 z) (same_Some x y at) is
@@ -183,14 +203,16 @@ finished_all n before after all are = record { count = are.count; each = λ k ce
 pub record Goes (before after : Cell) : Type 0 where
   pub same : IsOfNode before after
   pub alone : TakesNothing before → TakesNothing after
+  pub works : Works before after
 
 pub goes_none : (cell : Cell) → Goes cell cell
-goes_none cell = record { same = record { number = refl; parts = refl; parameters = refl }; alone = λ none. none }
+goes_none cell = record { same = record { number = refl; parts = refl; parameters = refl }; alone = λ none. none; works = works_none cell }
 
 pub goes_on : (before cell : Cell) (event : Event) → Goes before cell → Goes before (after_event cell event)
 goes_on before cell event goes = record {
   same = record { number = goes.same.number; parts = goes.same.parts; parameters = goes.same.parameters };
   alone = λ none. alone_step cell event (goes.alone none);
+  works = works_trans before cell (after_event cell event) goes.works (works_step cell event);
 }
 
 -- ---- the cells at the start

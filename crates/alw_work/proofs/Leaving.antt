@@ -1,19 +1,27 @@
--- What the logs of cells are: local runs, which leave spent nodes or hold a trapping turn, and whose links agree where no log took a message.
+-- What the parts of cells are: local runs whose links agree, nodes as the logs leave them, and what their events did; and when the nodes are spent.
 use Rattle.std.proofs.Common.{◌≡◌, ℕ, zero, suc, ◌+◌, ◌<◌, true, false, Some, List, [], ◌∷◌, ◌++◌, length, map, slice_get, refl, sym, ap, subst, ◌∙◌, arith, append_assoc, append-nil, length-append, ◌^◌}
-use Rattle.std.proofs.lemmas.List.{map-append}
+use Rattle.std.proofs.lemmas.List.{map-append, length-map}
 use Rattle.std.proofs.lemmas.Bool.{true≢false}
-use Rattle.std.proofs.lemmas.Option.{same_Some}
+use Rattle.std.proofs.lemmas.Option.{same_Some, slice_get-map}
+use Rattle.std.specs.Option.{option_map}
+use Rattle.std.specs.Prelude.{Option}
 use Rattle.alw_image.specs.declared.parts.Parts.{Parts}
 use Rattle.alw_image.specs.Images.{node_count}
 use Rattle.alw_image.specs.Parameters.{Parameters}
 use Rattle.alw_msg.specs.declared.messages.Msg.{Msg}
+use Rattle.alw_model.specs.declared.steps.Did.{Did}
 use Rattle.alw_model.specs.NodeStates.{NodeState, node_start}
 use Rattle.alw_model.specs.Threads.{Logged, Logs, log_at, IsLocalRun, node_after, took_from, sent_to, IsFront, LinksAgree}
-use Rattle.alw_cells.specs.Cells.{Cell, IsSpent}
+use Rattle.alw_order.specs.Merges.{AreLocalRuns}
+use Rattle.alw_node.specs.Nodes.{Whole}
+use Rattle.alw_cells.specs.declared.parts.Worked.{Worked}
+use Rattle.alw_cells.specs.Cells.{Cell, in_from, dids_of, IsSpent}
 use Rattle.alw_cells.specs.Logs.{Written, logged}
-use Rattle.alw_cells.proofs.Runs.{local_run, left_alike}
-use Rattle.alw_work.specs.Works.{holds_trap, AreSpent, AreLeft}
-use Rattle.alw_work.specs.Seats.{EachAt, logs_in, StandsAt, HasTrapped, AreAlone, AreFinished}
+use Rattle.alw_cells.specs.Leaving.{whole_after, IsWorked}
+use Rattle.alw_cells.proofs.Runs.{local_run, left_alike, answers_alike}
+use Rattle.alw_work.specs.Works.{holds_trap, AreSpent}
+use Rattle.alw_work.specs.Seats.{EachAt, logs_in, nodes_in, dids_in, AreParts, StandsAt, HasTrapped, AreAlone, AreFinished}
+use Rattle.alw_work.specs.Ties.{AllAgree}
 use Rattle.alw_work.proofs.Trapping.{holds_same}
 use Rattle.alw_work.proofs.Finishing.{get_within}
 
@@ -29,6 +37,12 @@ module _ (parts : Parts) (parameters : Parameters) (n : ℕ) (cell : Cell) (is :
 
   state_of : cell.node.state ≡ node_after parts parameters n (node_start parts n) cell.log
   state_of = (rw (is.0.share, is.0.parameters_are, is.0.number_is) at is.1.state) ∙ left_alike parts parameters n cell.log
+
+  whole_of : cell.node ≡ whole_after parts parameters n cell.log
+  whole_of = λ i. record { number = is.0.number_is i; parts = is.0.share i; parameters = is.0.parameters_are i; state = state_of i }
+
+  dids_are : cell.dids ≡ dids_of parts parameters n cell.log
+  dids_are = (rw (is.0.share, is.0.parameters_are, is.0.number_is) at is.1.answers) ∙ answers_alike parts parameters n cell.log
 
   trap_of : HasTrapped cell → holds_trap parts parameters n cell.log ≡ true
   trap_of traps = sym (holds_same parts parameters n cell.log) ∙ (rw (is.0.share, is.0.parameters_are, is.0.number_is) at traps)
@@ -49,24 +63,17 @@ module _ (parts : Parts) (parameters : Parameters) (cells : List Cell) (count : 
   runs_of : (n : ℕ) → n < node_count parts → IsLocalRun parts parameters n (log_at (logs_in cells) n)
   runs_of = of_logs (λ n log. IsLocalRun parts parameters n log) (λ n cell at. run_of parts parameters n cell (each n cell at))
 
-  count_of : (xs : List Cell) → length (logs_in xs) ≡ length xs
-  count_of [] = refl
-  count_of (first ∷ rest) = omega (arith, count_of rest)
-
-  left_by : AreSpent parts parameters (logs_in cells) → (logs : Logs) → logs ≡ logs_in cells → AreLeft parts parameters logs
-  left_by spent logs is =
-      subst (λ (ls : Logs). AreLeft parts parameters ls) (sym is) (record { count = count_of cells ∙ count; runs = runs_of; spent = spent })
-
   -- each cell is spent
   pub left_spent : ((n : ℕ) (cell : Cell) → slice_get cells n ≡ Some cell → IsSpent cell.node.parameters cell.node.state)
-      → (logs : Logs) → logs ≡ logs_in cells → AreLeft parts parameters logs
-  left_spent spent = left_by (λ none. of_logs (λ n log. IsSpent parameters (node_after parts parameters n (node_start parts n) log))
+      → (logs : Logs) → logs ≡ logs_in cells → AreSpent parts parameters logs
+  left_spent spent logs is = subst (λ (ls : Logs). AreSpent parts parameters ls) (sym is)
+      (λ none. of_logs (λ n log. IsSpent parameters (node_after parts parameters n (node_start parts n) log))
       (λ n cell at. spent_of parts parameters n cell (each n cell at) (spent n cell at)))
 
   -- one of them has trapped
   pub left_trapped : (k : ℕ) (cell : Cell) → slice_get cells k ≡ Some cell → HasTrapped cell
-      → (logs : Logs) → logs ≡ logs_in cells → AreLeft parts parameters logs
-  left_trapped k cell at traps = left_by (λ none.
+      → (logs : Logs) → logs ≡ logs_in cells → AreSpent parts parameters logs
+  left_trapped k cell at traps logs is = subst (λ (ls : Logs). AreSpent parts parameters ls) (sym is) (λ none.
       let below : k < node_count parts = subst (λ (m : ℕ). k < m) count (get_within cells k cell at) in
       let one = log_of cells k (get_within cells k cell at) in
       let same = same_Some one.0 cell (sym one.1.0 ∙ at) in
@@ -74,26 +81,51 @@ module _ (parts : Parts) (parameters : Parameters) (cells : List Cell) (count : 
       absurd (true≢false (sym (trap_of parts parameters k cell (each k cell at) traps)
       ∙ (ap (λ (ls : List Logged). holds_trap parts parameters k ls) (sym log) ∙ none k below))))
 
--- no log took a message
-pub apart : (cells : List Cell) → AreAlone cells → (logs : Logs) → logs ≡ logs_in cells → LinksAgree logs
-apart cells alone logs is = subst (λ (ls : Logs). LinksAgree ls) (sym is) agree
+-- what has come to each cell of another is a front of what that one sent it, and so is what its log took
+pub logs_agree : (cells : List Cell) → AllAgree cells → (logs : Logs) → logs ≡ logs_in cells → LinksAgree logs
+logs_agree cells agree logs is = subst (λ (ls : Logs). LinksAgree ls) (sym is) fronts
   where
-    front_of : (some all : List Msg) → some ≡ [] → IsFront some all
-    front_of some all none = (all, ap (λ (xs : List Msg). xs ++ all) none)
-
-    took : (from to : ℕ) → to < length cells → took_from from (log_at (logs_in cells) to) ≡ []
-    took from to below =
-        let one = log_of cells to below in
-        ap (λ (log : List Logged). took_from from log) one.1.1 ∙ (alone to one.0 one.1.0).took from
-
     count : (xs : List Cell) → length (logs_in xs) ≡ length xs
     count [] = refl
     count (first ∷ rest) = omega (arith, count rest)
 
-    agree : LinksAgree (logs_in cells)
-    agree from to from_below to_below =
-        front_of (took_from from (log_at (logs_in cells) to)) (sent_to to (log_at (logs_in cells) from))
-        (took from to (omega (arith, to_below, count cells)))
+    fronts : LinksAgree (logs_in cells)
+    fronts from to from_below to_below =
+        let one = log_of cells from (omega (arith, from_below, count cells)) in
+        let other = log_of cells to (omega (arith, to_below, count cells)) in
+        let front = agree from to one.0 other.0 one.1.0 other.1.0 in
+        let took = took_from from other.0.log in
+        let waits = in_from other.0.come from in
+        subst (λ (y : List Logged × List Logged). IsFront (took_from from y.0) (sent_to to y.1)) (λ i. (sym other.1.1 i, sym one.1.1 i))
+        (waits ++ front.0, sym (append_assoc took waits front.0) ∙ front.1)
+
+-- ---- what is handed over
+
+-- a part of the cell at a place
+part_at : {X : Type 0} (f : Cell → X) (cells : List Cell) (n : ℕ) (cell : Cell) (x : X) → slice_get cells n ≡ Some cell → f cell ≡ x → slice_get (map f cells) n ≡ Some x
+part_at f cells n cell x at is = slice_get-map f cells n ∙ (ap (λ (o : Option Cell). option_map f o) at ∙ ap (λ y. Some y) is)
+
+pub worked_by : (parts : Parts) (parameters : Parameters) (cells : List Cell) (worked : Worked) → length cells ≡ node_count parts → EachAt (StandsAt parts parameters) cells
+    → AllAgree cells → AreParts cells worked → IsWorked parts parameters worked
+worked_by parts parameters cells worked count each agree are = record {
+  runs = subst (λ (ls : Logs). AreLocalRuns parts parameters ls) (sym are.logs) (record {
+    count = length-map cells (λ (cell : Cell). cell.log) ∙ count;
+    runs = runs_of parts parameters cells count each;
+    agree = logs_agree cells agree (logs_in cells) refl;
+  });
+  node_places = ap length are.nodes ∙ (length-map cells (λ (cell : Cell). cell.node) ∙ count);
+  nodes_are = λ n below.
+      let one = log_of cells n (omega (arith, below, count)) in
+      let is : one.0.node ≡ whole_after parts parameters n (log_at (logged worked.logs) n) =
+      whole_of parts parameters n one.0 (each n one.0 one.1.0) ∙ ap (λ (log : List Logged). whole_after parts parameters n log) (sym (ap (λ (ls : Logs). log_at ls n) are.logs ∙ one.1.1)) in
+      ap (λ (nodes : List Whole). slice_get nodes n) are.nodes ∙ part_at (λ (cell : Cell). cell.node) cells n one.0 _ one.1.0 is;
+  did_places = ap length are.dids ∙ (length-map cells (λ (cell : Cell). cell.dids) ∙ count);
+  dids_are = λ n below.
+      let one = log_of cells n (omega (arith, below, count)) in
+      let is : one.0.dids ≡ dids_of parts parameters n (log_at (logged worked.logs) n) =
+      dids_are parts parameters n one.0 (each n one.0 one.1.0) ∙ ap (λ (log : List Logged). dids_of parts parameters n log) (sym (ap (λ (ls : Logs). log_at ls n) are.logs ∙ one.1.1)) in
+      ap (λ (dids : List (List Did)). slice_get dids n) are.dids ∙ part_at (λ (cell : Cell). cell.dids) cells n one.0 _ one.1.0 is;
+}
 
 -- ---- the caller's steps keep what they should
 
@@ -111,34 +143,31 @@ still_cells parts parameters before after each are k cell at =
       finishes.stands,
     )
 
-pub still_alone : (before after : List Cell) → AreAlone before → AreFinished before after → AreAlone after
-still_alone before after alone are k cell at = let one = are.each k cell at in one.1.1.alone (alone k one.0 one.1.0)
-
 pub all_spent : (before after : List Cell) → AreFinished before after → (k : ℕ) (cell : Cell) → slice_get after k ≡ Some cell
     → IsSpent cell.node.parameters cell.node.state
 all_spent before after are k cell at = (are.each k cell at).1.1.spent
 
--- ---- the logs of cells, one after the other
+-- ---- cells that are split, one after the other
 
-pub record AreLogged (logs : List Written) (rest all : List Cell) : Type 0 where
-  pub whole : logged logs ++ logs_in rest ≡ logs_in all
-  pub count : length logs + length rest ≡ length all
+module _ {X : Type 0} (f : Cell → X) where
+  -- what was made of the cells so far, with what is still to be made of the rest
+  abbrev pub IsMade : List X → List Cell → List Cell → Type 0
+  IsMade made rest all = made ++ map f rest ≡ map f all
 
-pub logged_none : (cells : List Cell) → AreLogged [] cells cells
-logged_none cells = record { whole = refl; count = omega arith }
+  pub made_next : (made : List X) (x : X) (cell : Cell) (rest all : List Cell) → IsMade made (cell ∷ rest) all → x ≡ f cell → IsMade (made ++ x ∷ []) rest all
+  made_next made x cell rest all are is = append_assoc made (x ∷ []) (map f rest) ∙ (ap (λ y. made ++ y ∷ map f rest) is ∙ are)
 
-pub logged_next : (logs : List Written) (log : Written) (cell : Cell) (rest all : List Cell) → AreLogged logs (cell ∷ rest) all → log.entries ≡ cell.log
-    → AreLogged (logs ++ log ∷ []) rest all
-logged_next logs log cell rest all are is = record {
-  whole = ap (λ (ls : Logs). ls ++ logs_in rest) (map-append (λ (one : Written). one.entries) logs (log ∷ []))
-      ∙ (append_assoc (logged logs) (log.entries ∷ []) (logs_in rest)
-      ∙ (ap (λ (entries : List Logged). logged logs ++ entries ∷ logs_in rest) is ∙ are.whole));
-  count = omega (arith, are.count, length-append logs (log ∷ []));
-}
+  pub made_few : (made : List X) (cell : Cell) (rest all : List Cell) → IsMade made (cell ∷ rest) all → length all < 2 ^ 32 → length made < 4294967295
+  made_few made cell rest all are few =
+      let whole = sym (length-append made (f cell ∷ map f rest)) ∙ (ap length are ∙ length-map all f) in
+      omega (arith, whole, few)
 
-pub logged_few : (logs : List Written) (cell : Cell) (rest all : List Cell) → AreLogged logs (cell ∷ rest) all → length all < 2 ^ 32 → length logs < 4294967295
-logged_few logs cell rest all are few = omega (arith, are.count, few)
+  pub made_all : (made : List X) (rest all : List Cell) → length rest ≡ 0 → IsMade made rest all → made ≡ map f all
+  made_all made [] all none are = sym (append-nil made) ∙ are
+  made_all made (cell ∷ rest) all none are = absurd (omega (arith, none))
 
-pub logged_all : (logs : List Written) (rest all : List Cell) → length rest ≡ 0 → AreLogged logs rest all → logged logs ≡ logs_in all
-logged_all logs [] all none are = sym (append-nil (logged logs)) ∙ are.whole
-logged_all logs (cell ∷ rest) all none are = absurd (omega (arith, none))
+pub logs_next : (logs : List Written) (log : Written) (cell : Cell) (rest all : List Cell) → IsMade (λ (c : Cell). c.log) (logged logs) (cell ∷ rest) all → log.entries ≡ cell.log
+    → IsMade (λ (c : Cell). c.log) (logged (logs ++ log ∷ [])) rest all
+logs_next logs log cell rest all are is =
+    subst (λ (ls : Logs). IsMade (λ (c : Cell). c.log) ls rest all) (sym (map-append (λ (one : Written). one.entries) logs (log ∷ [])))
+    (made_next (λ (c : Cell). c.log) (logged logs) log.entries cell rest all are is)

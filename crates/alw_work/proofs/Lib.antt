@@ -1,3 +1,8 @@
-pub mod Trapping
-pub mod Finishing
-pub mod Leaving
+mod Trapping
+mod Working
+mod Finishing
+mod Leaving
+mod Tying
+mod Turning
+mod Layings
+mod Closings

@@ -1,11 +1,16 @@
 -- What is known of a cell behind a lock, and of the cells of a machine.
-use Rattle.std.specs.Prelude.{◌≡◌, ◌<◌, ◌^◌, ℕ, Bool, true, List, [], length, map, slice_get, Some}
+use Rattle.std.specs.Prelude.{◌≡◌, ◌<◌, ◌^◌, ℕ, Bool, true, List, [], ◌++◌, length, map, slice_get, Some}
 use Rattle.alw_image.specs.declared.parts.Parts.{Parts}
 use Rattle.alw_image.specs.Images.{node_count}
 use Rattle.alw_image.specs.Parameters.{Parameters}
-use Rattle.alw_model.specs.Threads.{Logs, took_from}
+use Rattle.alw_model.specs.Threads.{Logs, took_from, sent_to}
+use Rattle.alw_msg.specs.declared.messages.Msg.{Msg}
+use Rattle.alw_model.specs.declared.steps.Did.{Did}
+use Rattle.alw_node.specs.Nodes.{Whole}
 use Rattle.alw_node.specs.Shares.{share_of}
-use Rattle.alw_cells.specs.Cells.{Cell, IsCell, IsSpent, in_from}
+use Rattle.alw_cells.specs.declared.parts.Worked.{Worked}
+use Rattle.alw_cells.specs.Logs.{logged}
+use Rattle.alw_cells.specs.Cells.{Cell, IsCell, IsSpent, in_from, picked}
 use Rattle.alw_work.specs.Works.{holds_trap}
 
 -- the number of the node behind a lock, its cell, and whether it has trapped
@@ -33,16 +38,20 @@ pub record IsSeat (parts : Parts) (parameters : Parameters) (number : ℕ) (cell
   pub cell_is : IsCellOf parts parameters number cell
   pub marked : IsMarked trapped cell
 
--- messages have moved: the node and its log are as they were
-pub record IsSameNode (before after : Cell) : Type 0 where
-  pub node : after.node ≡ before.node
-  pub log : after.log ≡ before.log
-
 -- the node is the same one
 pub record IsOfNode (before after : Cell) : Type 0 where
   pub number : after.node.number ≡ before.node.number
   pub parts : after.node.parts ≡ before.node.parts
   pub parameters : after.node.parameters ≡ before.node.parameters
+
+-- what has come of a node: what the log took, and the in list
+abbrev pub came_of : Cell → ℕ → List Msg
+came_of cell from = took_from from cell.log ++ in_from cell.come from
+
+-- a node took steps of its own: what has come is what had come, and what it sent is to be given out
+pub record Works (before after : Cell) : Type 0 where
+  pub came : (k : ℕ) → came_of after k ≡ came_of before k
+  pub sent : (k : ℕ) → (more : List Msg) × (sent_to k after.log ≡ sent_to k before.log ++ more) × (picked k after.pending ≡ picked k before.pending ++ more)
 
 -- nothing has come, and the log took nothing
 pub record TakesNothing (cell : Cell) : Type 0 where
@@ -55,6 +64,7 @@ pub record Finishes (before after : Cell) : Type 0 where
   pub stands : IsCell after
   pub spent : IsSpent after.node.parameters after.node.state
   pub alone : TakesNothing before → TakesNothing after
+  pub works : Works before after
 
 -- each member of a list is as its place says
 abbrev pub EachAt : {X : Type 0} → (ℕ → X → Type 0) → List X → Type 0
@@ -77,9 +87,21 @@ pub record AreGathered (parts : Parts) (parameters : Parameters) (nodes : ℕ) (
   pub each : EachAt (StandsAt parts parameters) cells
   pub marked : trapped ≡ true → (k : ℕ) × ((cell : Cell) × ((slice_get cells k ≡ Some cell) × HasTrapped cell))
 
--- the logs of cells
+-- the logs of cells, their nodes, and what the events of the logs did
 abbrev pub logs_in : List Cell → Logs
 logs_in cells = map (λ (cell : Cell). cell.log) cells
+
+abbrev pub nodes_in : List Cell → List Whole
+nodes_in cells = map (λ (cell : Cell). cell.node) cells
+
+abbrev pub dids_in : List Cell → List (List Did)
+dids_in cells = map (λ (cell : Cell). cell.dids) cells
+
+-- cells have been split, in order
+pub record AreParts (cells : List Cell) (worked : Worked) : Type 0 where
+  pub logs : logged worked.logs ≡ logs_in cells
+  pub nodes : worked.nodes ≡ nodes_in cells
+  pub dids : worked.dids ≡ dids_in cells
 
 -- nothing has come to any cell, and no log took anything
 abbrev pub AreAlone : List Cell → Type 0

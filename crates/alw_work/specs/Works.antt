@@ -1,5 +1,5 @@
 -- What workers leave of a machine: which nodes are spent, and what that is held to where a context traps.
-use Rattle.std.specs.Prelude.{◌≡◌, ℕ, ◌<◌, Bool, true, false, ◌||◌, List, [], ◌∷◌, length}
+use Rattle.std.specs.Prelude.{◌≡◌, ℕ, ◌<◌, Bool, true, false, ◌||◌, List, [], ◌∷◌}
 use Rattle.sparc_table.specs.declared.outcomes.Outcome.TheVariants.{Trap}
 use Rattle.alw_image.specs.declared.parts.Parts.{Parts}
 use Rattle.alw_image.specs.Images.{node_count}
@@ -8,7 +8,7 @@ use Rattle.alw_model.specs.declared.steps.Did.{Did}
 use Rattle.alw_model.specs.declared.steps.Did.TheVariants.{Turn}
 use Rattle.alw_model.specs.NodeStates.{NodeState, node_start}
 use Rattle.alw_model.specs.NodeSteps.{node_step}
-use Rattle.alw_model.specs.Threads.{Logged, Logs, log_at, IsLocalRun, node_after}
+use Rattle.alw_model.specs.Threads.{Logged, Logs, log_at, node_after}
 use Rattle.alw_cells.specs.Cells.{IsSpent}
 
 -- a trapping turn
@@ -32,9 +32,3 @@ abbrev pub AreSpent : Parts → Parameters → Logs → Type 0
 AreSpent parts parameters logs =
     ((n : ℕ) → n < node_count parts → holds_trap parts parameters n (log_at logs n) ≡ false)
     → (n : ℕ) → n < node_count parts → IsSpent parameters (node_after parts parameters n (node_start parts n) (log_at logs n))
-
--- a log for each node, each a local run of its node, and the nodes are spent as told
-pub record AreLeft (parts : Parts) (parameters : Parameters) (logs : Logs) : Type 0 where
-  pub count : length logs ≡ node_count parts
-  pub runs : (n : ℕ) → n < node_count parts → IsLocalRun parts parameters n (log_at logs n)
-  pub spent : AreSpent parts parameters logs

@@ -1,14 +1,13 @@
-ghost use Rattle.std.specs.Prelude.{◌≡◌, ◌<◌, ◌^◌, vec_len, IfOk, OnOk, IfSome};
+ghost use Rattle.std.specs.Prelude.{◌≡◌, ◌<◌, ◌^◌, vec_len, IfOk, OnOk};
 ghost use Rattle.alw_image.specs.Images.{node_count};
-ghost use Rattle.alw_cells.specs.Logs.{logged};
-ghost use Rattle.alw_work.specs.Seats.{logs_in, AreCells, AreAlone, AreGathered, Finishes, AreFinished};
+ghost use Rattle.alw_work.specs.Seats.{AreCells, AreAlone, AreParts, Finishes, AreFinished};
 
-use crate::seats::{Locked, Naming};
-use alw_cells::{Logs, NodeCell, Stepped};
+use alw_cells::{CellParts, DidLists, Logs, NodeCell, Stepped, Worked};
 use alw_image::{Image, Params};
+use alw_node::Nodes;
 use alw_num::{Draws, NoMemory, NodeNo};
 use std::alloc::Global;
-use std::sync::{Arc, Mutex};
+use std::sync::Arc;
 
 /// The number of nodes of an image.
 pub fn count_nodes(image: &Image) -> u16
@@ -35,32 +34,6 @@ pub fn start_all(alloc: Global, image: &Image, params: &Params) -> Result<Vec<No
     Ok(cells)
 }
 
-/// The cells that the locks have kept, and whether one of them has trapped. None where a lock has the cell
-/// of another place, or where there aren't so many.
-pub fn gather<I: Naming>(
-    alloc: Global,
-    nodes: u16,
-    locks: Vec<Mutex<Locked<I>>>,
-) -> Result<Option<(Vec<NodeCell>, bool)>, NoMemory>
-    ensures { IfOk result (λ found. IfSome found (λ left. AreGathered I.image I.parameters nodes left.0.items left.1)) }
-{
-    let mut cells = Vec::new(alloc);
-    let mut trapped = false;
-    for lock in locks {
-        let (number, cell, has_trapped) = lock.into_inner().open();
-        if usize::from(number.0) != cells.len() {
-            return Ok(None);
-        }
-        cells.push(cell)?;
-        trapped |= has_trapped;
-    }
-    if cells.len() == usize::from(nodes) {
-        Ok(Some((cells, trapped)))
-    } else {
-        Ok(None)
-    }
-}
-
 /// Steps the cells one after the other, each until it is idle.
 pub fn finish_all(cells: &mut Vec<NodeCell>, state: u64) -> Result<(), NoMemory>
     ensures { OnOk result (AreFinished cells.old.items cells.new.items) }
@@ -72,16 +45,25 @@ pub fn finish_all(cells: &mut Vec<NodeCell>, state: u64) -> Result<(), NoMemory>
     Ok(())
 }
 
-/// The logs of cells, in order.
-pub fn logs_of(alloc: Global, cells: Vec<NodeCell>) -> Result<Logs, NoMemory>
+/// What the cells were of, in order.
+pub fn split_all(alloc: Global, cells: Vec<NodeCell>) -> Result<Worked, NoMemory>
     requires { vec_len cells < 2 ^ 32 }
-    ensures { IfOk result (λ logs. logged logs ≡ logs_in cells.items) }
+    ensures { IfOk result (λ worked. AreParts cells.items worked) }
 {
     let mut logs = Logs::empty(alloc);
+    let mut nodes = Nodes::empty(alloc);
+    let mut did_lists = DidLists::empty(alloc);
     for cell in cells {
-        logs.push(cell.into_log())?;
+        let CellParts { node, log, dids } = cell.split();
+        logs.push(log)?;
+        nodes.push(node)?;
+        did_lists.push(dids)?;
     }
-    Ok(logs)
+    Ok(Worked {
+        logs,
+        nodes,
+        dids: did_lists,
+    })
 }
 
 // Steps a cell until it is idle. Each step has a greater stamp, and none is past the limit.

@@ -3,8 +3,11 @@
 #![tactic(auto)]
 
 mod cells;
+mod closing;
+mod ends;
 mod gates;
-mod rings;
+mod laying;
+mod moves;
 mod runs;
 mod seats;
 mod signs;

@@ -1,28 +1,26 @@
-ghost use Rattle.std.specs.Prelude.{◌≡◌, ◌<◌, vec_len, IfOk};
-ghost use Rattle.alw_model.specs.Threads.{LinksAgree};
-ghost use Rattle.alw_order.specs.Merges.{AreLocalRuns};
+ghost use Rattle.std.specs.Prelude.{◌≡◌, ◌<◌, ◌*◌, length, vec_len, IfOk};
+ghost use Rattle.alw_image.specs.Images.{node_count};
 ghost use Rattle.alw_cells.specs.Logs.{logged};
-ghost use Rattle.alw_work.specs.Works.{AreSpent, AreLeft};
+ghost use Rattle.alw_cells.specs.Leaving.{IsWorked};
+ghost use Rattle.alw_work.specs.Works.{AreSpent};
+ghost use Rattle.alw_work.specs.Ties.{AreNewOuts, AreNewIns, AreLaid};
 
-use crate::cells::{count_nodes, finish_all, gather, logs_of, start_all};
+use crate::cells::{count_nodes, finish_all, split_all, start_all};
+use crate::closing::{cells_of, close_all, gather};
+use crate::ends::{In, Out};
 use crate::gates::Gate;
-use crate::rings::ring;
+use crate::laying::{Laid, lay_links};
 use crate::seats::{Locked, Naming};
 use crate::workers::work;
-use alw_cells::{Logs, NodeCell, links_agree};
+use alw_cells::{NodeCell, Worked};
 use alw_image::{Image, Params};
 use alw_num::{NoMemory, NodeNo};
+use alw_ruled::Link;
 use std::alloc::Global;
 use std::marker::Brand;
+use std::mem;
 use std::sync::{Arc, Mutex, Wait};
 use std::thread::Threads;
-
-// The room of a ring, where there are few nodes and where there are many.
-const ROOM: usize = 16;
-
-const NARROW_ROOM: usize = 4;
-
-const FEW_NODES: usize = 64;
 
 /// Steps the nodes of an image on so many threads, from the start, and answers what each node did. Unless
 /// a context trapped, each node has come to its limit, or has no Ready context and no packet left. It may
@@ -34,60 +32,51 @@ pub fn run_workers<R: Threads + Wait + Sync, G: Gate>(
     params: &Params,
     workers: u32,
     gate: &G,
-) -> Result<Logs, NoMemory>
-    ensures runs { IfOk result (λ logs. AreLocalRuns image.now params.now (logged logs)) }
-    ensures spent { IfOk result (λ logs. AreSpent image.now params.now (logged logs)) }
+) -> Result<Worked, NoMemory>
+    ensures worked { IfOk result (λ worked. IsWorked image.now params.now worked) }
+    ensures spent { IfOk result (λ worked. AreSpent image.now params.now (logged worked.logs)) }
 {
-    run_named::<Brand, R, G>(rt, alloc, image, params, workers, gate)
+    let laid = lay_links(rt, alloc, count_nodes(image))?;
+    run_named::<Brand, R, G>(rt, alloc, image, params, laid, workers, gate)
 }
 
-// The same, of the image and the parameters that the type names.
+// The same, of the image and the parameters that the type names, over the links that it names.
 fn run_named<I: Naming + Send + Sync, R: Threads + Wait + Sync, G: Gate>(
     rt: &R,
     alloc: Global,
     image: &Image,
     params: &Params,
+    laid: Laid,
     workers: u32,
     gate: &G,
-) -> Result<Logs, NoMemory>
+) -> Result<Worked, NoMemory>
     requires image { image.now ≡ I.image }
     requires parameters { params.now ≡ I.parameters }
-    ensures runs { IfOk result (λ logs. AreLocalRuns image.now params.now (logged logs)) }
-    ensures spent { IfOk result (λ logs. AreSpent image.now params.now (logged logs)) }
+    requires links { laid.links.items ≡ I.links }
+    requires laid { AreLaid (node_count image.now) laid }
+    ensures worked { IfOk result (λ worked. IsWorked image.now params.now worked) }
+    ensures spent { IfOk result (λ worked. AreSpent image.now params.now (logged worked.logs)) }
 {
-    let locks = lock_all::<I>(alloc, image, params)?;
-    work::<I, R, G>(rt, alloc, &locks, count_nodes(image), workers, gate)?;
-    let logs = take_over::<I>(alloc, image, params, locks, workers)?;
-    if links_agree(&logs) {
-        return Ok(logs);
-    }
-    run_apart(alloc, image, params, workers)
+    let Laid { links, outs, ins } = laid;
+    let locks = lock_each(alloc, start_seats::<I>(alloc, image, params, outs, ins)?)?;
+    work::<I, R, G>(rt, alloc, &locks, &links, count_nodes(image), workers, gate)?;
+    take_over::<I, R>(rt, alloc, image, params, links, locks, workers)
 }
 
-// All nodes at the start, each behind its lock, with a ring for each pair.
-fn lock_all<I: Naming>(
-    alloc: Global,
-    image: &Image,
-    params: &Params,
-) -> Result<Vec<Mutex<Locked<I>>>, NoMemory>
-    requires image { image.now ≡ I.image }
-    requires parameters { params.now ≡ I.parameters }
-{
-    let mut seats = start_seats::<I>(alloc, image, params)?;
-    for from in 0..seats.len() {
-        tie(alloc, &mut seats, from)?;
-    }
-    lock_each(alloc, seats)
-}
-
-// All nodes at the start, without rings.
+// All nodes at the start, each with the ends of its links.
 fn start_seats<I: Naming>(
     alloc: Global,
     image: &Image,
     params: &Params,
+    mut outs: Vec<Vec<Out>>,
+    mut ins: Vec<Vec<In>>,
 ) -> Result<Vec<Locked<I>>, NoMemory>
     requires image { image.now ≡ I.image }
     requires parameters { params.now ≡ I.parameters }
+    requires rows { length outs.items ≡ node_count image.now }
+    requires outs { AreNewOuts I.links (node_count image.now) outs.items }
+    requires ins { AreNewIns I.links (node_count image.now) ins.items }
+    requires columns { length ins.items ≡ node_count image.now }
 {
     let code = Arc::new(alloc, image.code().copy()?)?;
     let nodes = count_nodes(image);
@@ -95,27 +84,11 @@ fn start_seats<I: Naming>(
     for n in 0..nodes {
         let number = NodeNo(n);
         let cell = NodeCell::start_shared(alloc, image, params, number, &code)?;
-        seats.push(Locked::of(alloc, number, nodes, cell))?;
+        let row = mem::replace(&mut outs[usize::from(n)], Vec::new(alloc));
+        let column = mem::replace(&mut ins[usize::from(n)], Vec::new(alloc));
+        seats.push(Locked::of(number, nodes, cell, row, column))?;
     }
     Ok(seats)
-}
-
-// The rings from a node to all nodes.
-fn tie<I: Naming>(alloc: Global, seats: &mut Vec<Locked<I>>, from: usize) -> Result<(), NoMemory>
-    requires { from < vec_len seats.old }
-    ensures { vec_len seats.new ≡ vec_len seats.old }
-{
-    let room = if seats.len() > FEW_NODES {
-        NARROW_ROOM
-    } else {
-        ROOM
-    };
-    for to in 0..seats.len() {
-        let (out, come) = ring(alloc, room)?;
-        seats[from].add_out(out)?;
-        seats[to].add_in(come)?;
-    }
-    Ok(())
 }
 
 // Each behind a lock of its own.
@@ -130,35 +103,51 @@ fn lock_each<I: Naming>(
     Ok(locks)
 }
 
-// What the workers leave. Each cell is compared with its place; where one is of another, all nodes start
-// anew. Where none has trapped, each is then stepped until it is idle.
-fn take_over<I: Naming>(
+// What the workers leave. Each cell is compared with its place, and the links are closed; where a cell or an
+// end is of another place, all nodes start anew. Where none has trapped, each is then stepped until it is
+// idle.
+fn take_over<I: Naming, R: Wait>(
+    rt: &R,
     alloc: Global,
     image: &Image,
     params: &Params,
+    links: Vec<Link>,
     locks: Vec<Mutex<Locked<I>>>,
     workers: u32,
-) -> Result<Logs, NoMemory>
+) -> Result<Worked, NoMemory>
     requires image { image.now ≡ I.image }
     requires parameters { params.now ≡ I.parameters }
-    ensures { IfOk result (λ logs. AreLeft image.now params.now (logged logs)) }
+    requires links { links.items ≡ I.links }
+    requires all { length links.items ≡ node_count image.now * node_count image.now }
+    ensures worked { IfOk result (λ worked. IsWorked image.now params.now worked) }
+    ensures spent { IfOk result (λ worked. AreSpent image.now params.now (logged worked.logs)) }
 {
-    let Some((mut cells, trapped)) = gather(alloc, count_nodes(image), locks)? else {
+    let nodes = count_nodes(image);
+    let Some((mut lefts, trapped)) = gather(alloc, nodes, locks)? else {
         return run_apart(alloc, image, params, workers);
     };
+    if !close_all(rt, nodes, links, &mut lefts) {
+        return run_apart(alloc, image, params, workers);
+    }
+    let mut cells = cells_of(alloc, lefts)?;
     if trapped {
-        return logs_of(alloc, cells);
+        return split_all(alloc, cells);
     }
     finish_all(&mut cells, u64::from(workers))?;
-    logs_of(alloc, cells)
+    split_all(alloc, cells)
 }
 
 // The nodes from the start, each stepped by itself until it is idle. None takes a message, so links agree.
-fn run_apart(alloc: Global, image: &Image, params: &Params, workers: u32) -> Result<Logs, NoMemory>
-    ensures left { IfOk result (λ logs. AreLeft image.now params.now (logged logs)) }
-    ensures agree { IfOk result (λ logs. LinksAgree (logged logs)) }
+fn run_apart(
+    alloc: Global,
+    image: &Image,
+    params: &Params,
+    workers: u32,
+) -> Result<Worked, NoMemory>
+    ensures worked { IfOk result (λ worked. IsWorked image.now params.now worked) }
+    ensures spent { IfOk result (λ worked. AreSpent image.now params.now (logged worked.logs)) }
 {
     let mut cells = start_all(alloc, image, params)?;
     finish_all(&mut cells, u64::from(workers))?;
-    logs_of(alloc, cells)
+    split_all(alloc, cells)
 }

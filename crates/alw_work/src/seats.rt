@@ -1,28 +1,32 @@
 ghost use Rattle.std.specs.Prelude.{◌≡◌, ◌<◌};
 ghost use Rattle.alw_image.specs.Images.{node_count};
 ghost use Rattle.alw_work.specs.Works as works;
-ghost use Rattle.alw_work.specs.Seats.{IsCellOf, StandsAt, IsMarked, IsSameNode, IsOfNode};
+ghost use Rattle.alw_work.specs.Seats.{IsCellOf, StandsAt, IsMarked, IsOfNode, Works};
+ghost use Rattle.alw_work.specs.Ties.{AreTiedOuts, AreTiedIns};
 
-use crate::rings::{In, Out};
+use crate::ends::{In, Out};
+use crate::moves::{fetch, offer};
 use crate::signs::Signs;
 use alw_cells::{Did, NodeCell, Stepped};
-use alw_num::{MOST_NODES, NoMemory, NodeNo};
+use alw_num::{NoMemory, NodeNo};
+use alw_ruled::Link;
 use sparc_table::Outcome;
-use std::alloc::Global;
 use std::marker::{Brand, Model, PhantomData};
+use std::sync::Wait;
 
-// The most messages of a ring that a turn takes in.
-const MOST_TAKEN: u32 = 16;
-
-/// The image and the parameters of a run. A locked value is known by its type alone, so the type names
-/// both.
+/// The image and the parameters of a run, and the names of its links: that from node a to node b stands at
+/// place a * N + b. A locked value is known by its type alone, so the type names all three.
 pub trait Naming {
+    ghost use Rattle.std.specs.Prelude.{List};
     ghost use Rattle.alw_image.specs.declared.parts.Parts.{Parts};
     ghost use Rattle.alw_image.specs.Parameters.{Parameters};
+    ghost use Rattle.alw_ruled.specs.Ends.{LinkName};
 
     ghost image: { Parts };
 
     ghost parameters: { Parameters };
+
+    ghost links: { List LinkName };
 }
 
 impl Naming for Brand {
@@ -31,10 +35,13 @@ impl Naming for Brand {
     ghost image = { record { width = 0; height = 0; contexts = 0; per_node = 0; code = []; bodies = []; starts = []; always = [] } };
 
     ghost parameters = { record { pointers = 0; sets = 0; limit = 0; evict = 0 } };
+
+    ghost links = { [] };
 }
 
-/// What stands behind a lock: a node's cell, the sender's ends of its rings to all nodes and the receiver's
-/// ends of those from all nodes. Its type keeps that the cell is of the named image's node of this number.
+/// What stands behind a lock: a node's cell, the sender's ends of its links to all nodes and the receiver's
+/// ends of those from all nodes. Its type keeps that the cell is of the named image's node of this number,
+/// and that the ends are those of the links at its own places and tied to its log.
 #[derive(Drop)]
 pub struct Locked<I: Naming> {
     number: NodeNo,
@@ -51,82 +58,91 @@ impl<I: Naming> Model for Locked<I> {
     ghost use Rattle.std.specs.Prelude.{◌≡◌};
     ghost use Rattle.alw_image.specs.Images.{node_count};
     ghost use Rattle.alw_work.specs.Seats.{Seat, IsSeat};
+    ghost use Rattle.alw_work.specs.Ties.{AreTiedOuts, AreTiedIns};
 
     ghost Value = { Seat };
 
     ghost view = { λ s. record { number = s.number.0; cell = s.cell; trapped = s.trapped } };
 
-    ghost invariant = { λ s. (s.nodes ≡ node_count I.image) × IsSeat I.image I.parameters s.number.0 s.cell s.trapped };
+    ghost invariant = { λ s. (s.nodes ≡ node_count I.image) × IsSeat I.image I.parameters s.number.0 s.cell s.trapped
+        × AreTiedOuts I.links s.nodes s.number.0 s.cell s.outs.items × AreTiedIns I.links s.nodes s.number.0 s.cell s.ins.items };
 }
 
 impl<I: Naming> Locked<I> {
-    /// A cell without rings, on its way behind a lock.
-    pub fn of(alloc: Global, number: NodeNo, nodes: u16, cell: NodeCell) -> Locked<I>
+    /// A cell at its start with the ends of its links, on its way behind a lock.
+    pub fn of(number: NodeNo, nodes: u16, cell: NodeCell, outs: Vec<Out>, ins: Vec<In>) -> Locked<I>
         requires nodes { nodes ≡ node_count I.image }
         requires cell { IsCellOf I.image I.parameters number.0 cell }
+        requires outs { AreTiedOuts I.links nodes number.0 cell outs.items }
+        requires ins { AreTiedIns I.links nodes number.0 cell ins.items }
     {
         Locked {
             number,
             nodes,
             cell,
-            outs: Vec::new(alloc),
-            ins: Vec::new(alloc),
+            outs,
+            ins,
             late: None,
             trapped: false,
             of: PhantomData,
         }
     }
 
-    /// The sender's end of the ring to the next node.
-    pub fn add_out(&mut self, out: Out) -> Result<(), NoMemory> {
-        self.outs.push(out)?;
-        Ok(())
-    }
-
-    /// The receiver's end of the ring from the next node.
-    pub fn add_in(&mut self, come: In) -> Result<(), NoMemory> {
-        self.ins.push(come)?;
-        Ok(())
-    }
-
     /// One turn of a worker: what has come is taken in, the cell takes one step, and what it sent goes
-    /// into the rings, as far as they have room.
-    pub fn turn(&mut self, signs: &Signs, pick: u32) -> Result<Stepped, NoMemory> {
+    /// onto the links.
+    pub fn turn<R: Wait>(
+        &mut self,
+        rt: &R,
+        links: &[Link],
+        signs: &Signs,
+        pick: u32,
+    ) -> Result<Stepped, NoMemory>
+        requires { links.now ≡ I.links }
+    {
+        let (number, nodes) = (self.number, self.nodes);
         fetch(
-            self.number,
-            self.nodes,
+            rt,
+            links,
+            number,
+            nodes,
             &mut self.cell,
             &mut self.ins,
             signs,
         )?;
         let stepped = step(&mut self.cell, &mut self.trapped, pick)?;
-        offer(
-            self.number,
+        self.late = offer(
+            rt,
+            links,
+            number,
+            nodes,
             &mut self.cell,
             &mut self.outs,
-            &mut self.late,
+            self.late,
             signs,
         );
         Ok(stepped)
     }
 
-    /// The number, the cell, and whether it took a trapping turn, once the lock is gone.
-    pub fn open(self) -> (NodeNo, NodeCell, bool)
+    /// The number, the cell, whether it took a trapping turn, and the ends of its links, once the lock is
+    /// gone.
+    pub fn open(self) -> (NodeNo, NodeCell, bool, Vec<Out>, Vec<In>)
         ensures cell { StandsAt I.image I.parameters result.0.0 result.1 }
         ensures trapped { IsMarked result.2 result.1 }
+        ensures outs { AreTiedOuts I.links (node_count I.image) result.0.0 result.1 result.3.items }
+        ensures ins { AreTiedIns I.links (node_count I.image) result.0.0 result.1 result.4.items }
     {
         let Locked {
             number,
             nodes: _,
             cell,
-            outs: _,
-            ins: _,
+            outs,
+            ins,
             late: _,
             trapped,
             of: _,
         } = self;
         let _stands = cell.log();
-        (number, cell, trapped)
+        (number, cell, trapped, outs, ins)
     }
 }
 
@@ -147,6 +163,7 @@ pub fn is_trap(did: Did) -> bool
 fn step(cell: &mut NodeCell, trapped: &mut bool, pick: u32) -> Result<Stepped, NoMemory>
     ensures same { IsOfNode cell.old cell.new }
     ensures marked { IsMarked trapped.old cell.old → IsMarked trapped.new cell.new }
+    ensures works { Works cell.old cell.new }
 {
     let _stands = cell.log();
     match cell.step(pick)? {
@@ -156,96 +173,4 @@ fn step(cell: &mut NodeCell, trapped: &mut bool, pick: u32) -> Result<Stepped, N
         }
         Stepped::Idle => Ok(Stepped::Idle),
     }
-}
-
-// Takes in what the marked rings have, up to so many messages of each.
-fn fetch(
-    number: NodeNo,
-    nodes: u16,
-    cell: &mut NodeCell,
-    ins: &mut Vec<In>,
-    signs: &Signs,
-) -> Result<(), NoMemory>
-    requires { nodes ≡ node_count cell.old.node.parts }
-    ensures { IsSameNode cell.old cell.new }
-{
-    let mut senders = signs.take(number);
-    for _ in 0..MOST_NODES {
-        let Some(from) = senders.lowest() else {
-            break;
-        };
-        senders = senders.without(from);
-        let Some(come) = ins.get_mut(usize::from(from.0)) else {
-            break;
-        };
-        if from.0 < nodes && fetch_from(from, cell, come)? {
-            signs.mark(number, from);
-        }
-    }
-    Ok(())
-}
-
-// Takes in what a ring has, up to so many messages. Answers whether there may be more.
-fn fetch_from(from: NodeNo, cell: &mut NodeCell, come: &mut In) -> Result<bool, NoMemory>
-    requires { from.0 < node_count cell.old.node.parts }
-    ensures { IsSameNode cell.old cell.new }
-{
-    for _ in 0..MOST_TAKEN {
-        let Some(msg) = come.receive() else {
-            return Ok(false);
-        };
-        if cell.take_in(from, msg).is_err() {
-            come.keep(msg);
-            return Err(NoMemory);
-        }
-    }
-    Ok(true)
-}
-
-// Gives the rings what the cell has sent, in order, until one has no room.
-fn offer(
-    number: NodeNo,
-    cell: &mut NodeCell,
-    outs: &mut Vec<Out>,
-    late: &mut Option<NodeNo>,
-    signs: &Signs,
-)
-    ensures { IsSameNode cell.old cell.new }
-{
-    if !flush(number, outs, late, signs) {
-        return;
-    }
-    for _ in 0..MOST_NODES {
-        let Some(to) = cell.first_out() else {
-            return;
-        };
-        let Some(out) = outs.get_mut(usize::from(to.0)) else {
-            return;
-        };
-        let Some(msg) = cell.give_out(to) else {
-            return;
-        };
-        let sent = out.send(msg);
-        signs.mark(to, number);
-        if !sent {
-            *late = Some(to);
-            return;
-        }
-    }
-}
-
-// Sends the message that found no room. Answers whether there is none any longer.
-fn flush(number: NodeNo, outs: &mut Vec<Out>, late: &mut Option<NodeNo>, signs: &Signs) -> bool {
-    let Some(to) = *late else {
-        return true;
-    };
-    let Some(out) = outs.get_mut(usize::from(to.0)) else {
-        return true;
-    };
-    if !out.flush() {
-        return false;
-    }
-    signs.mark(to, number);
-    *late = None;
-    true
 }

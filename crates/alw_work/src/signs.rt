@@ -7,7 +7,7 @@ const WORD_NODES: u16 = 64;
 
 const NODE_WORDS: usize = 4;
 
-/// What workers tell each other beside the messages: for each node, from which nodes its rings may have
+/// What workers tell each other beside the messages: for each node, from which nodes its links may have
 /// something; and that all are to stop. No clause speaks of it.
 #[derive(Drop)]
 pub struct Signs {
@@ -28,7 +28,7 @@ impl Signs {
         })
     }
 
-    /// There may be something for a node in its ring from another.
+    /// There may be something for a node on its link from another.
     pub fn mark(&self, node: NodeNo, from: NodeNo) {
         let word = usize::from(node.0) * NODE_WORDS + usize::from(from.0 / WORD_NODES);
         if let Some(marks) = self.marks.get(word) {
@@ -36,7 +36,7 @@ impl Signs {
         }
     }
 
-    /// The nodes whose rings to a node are marked, and marks them no longer.
+    /// The nodes whose links to a node are marked, and marks them no longer.
     pub fn take(&self, node: NodeNo) -> NodeSet {
         let first = usize::from(node.0) * NODE_WORDS;
         NodeSet {

@@ -1,10 +1,11 @@
-ghost use Rattle.std.specs.Prelude.{◌<◌, ◌^◌};
+ghost use Rattle.std.specs.Prelude.{◌≡◌, ◌<◌, ◌^◌};
 
 use crate::gates::Gate;
 use crate::seats::{Locked, Naming, is_trap};
 use crate::signs::Signs;
 use alw_cells::Stepped;
 use alw_num::{Draws, NoMemory};
+use alw_ruled::Link;
 use std::alloc::Global;
 use std::sync::{Mutex, Wait};
 use std::thread;
@@ -19,11 +20,13 @@ pub fn work<I: Naming + Send + Sync, R: Threads + Wait + Sync, G: Gate>(
     rt: &R,
     alloc: Global,
     locks: &[Mutex<Locked<I>>],
+    links: &[Link],
     nodes: u16,
     workers: u32,
     gate: &G,
 ) -> Result<(), NoMemory>
-    requires { 0 < nodes }
+    requires some { 0 < nodes }
+    requires links { links.now ≡ I.links }
 {
     let signs = Signs::none(alloc)?;
     let told = &signs;
@@ -32,8 +35,8 @@ pub fn work<I: Naming + Send + Sync, R: Threads + Wait + Sync, G: Gate>(
         alloc,
         workers as usize,
         &|k: usize| -> Result<(), NoMemory>
-            requires { (k < 2 ^ 32) × (0 < nodes) }
-        { worker::<I, R, G>(rt, locks, nodes, told, gate, k as u32) },
+            requires { (k < 2 ^ 32) × (0 < nodes) × (links.now ≡ I.links) }
+        { worker::<I, R, G>(rt, locks, links, nodes, told, gate, k as u32) },
     )?;
     for end in &ends {
         (*end)?;
@@ -46,12 +49,14 @@ pub fn work<I: Naming + Send + Sync, R: Threads + Wait + Sync, G: Gate>(
 fn worker<I: Naming, R: Wait, G: Gate>(
     rt: &R,
     locks: &[Mutex<Locked<I>>],
+    links: &[Link],
     nodes: u16,
     signs: &Signs,
     gate: &G,
     k: u32,
 ) -> Result<(), NoMemory>
-    requires { 0 < nodes }
+    requires some { 0 < nodes }
+    requires links { links.now ≡ I.links }
 {
     let mut draws = Draws {
         state: u64::from(k),
@@ -68,7 +73,7 @@ fn worker<I: Naming, R: Wait, G: Gate>(
             return Ok(());
         };
         gate.pass(k, node);
-        match turn(rt, lock, signs, draws.draw())? {
+        match turn(rt, lock, links, signs, draws.draw())? {
             Stepped::Did { .. } => idle = 0,
             Stepped::Idle => idle += 1,
         }
@@ -80,10 +85,13 @@ fn worker<I: Naming, R: Wait, G: Gate>(
 fn turn<I: Naming, R: Wait>(
     rt: &R,
     lock: &Mutex<Locked<I>>,
+    links: &[Link],
     signs: &Signs,
     pick: u32,
-) -> Result<Stepped, NoMemory> {
-    let stepped = lock.lock(rt).turn(signs, pick);
+) -> Result<Stepped, NoMemory>
+    requires { links.now ≡ I.links }
+{
+    let stepped = lock.lock(rt).turn(rt, links, signs, pick);
     match stepped {
         Ok(Stepped::Did { did, .. }) if is_trap(did) => signs.stop(),
         Ok(_) => {}

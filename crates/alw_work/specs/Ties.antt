@@ -1,0 +1,151 @@
+-- How the links are tied to the logs: what the passes of a node pushed and popped is what its log sent and took, but for what stands between.
+use Rattle.std.specs.Prelude.{◌≡◌, ◌≢◌, ℕ, ◌+◌, ◌*◌, ◌<◌, ◌≤◌, Option, Some, None, option_to_list, List, [], ◌∷◌, ◌++◌, map, length, slice_get}
+use Rattle.std.specs.Global.{Vec}
+use Rattle.alw_msg.specs.declared.messages.Msg.{Msg}
+use Rattle.alw_model.specs.Threads.{sent_to, IsFront}
+use Rattle.alw_cells.specs.Cells.{Cell, in_from, picked}
+use Rattle.alw_ruled.specs.Ends.{LinkName}
+use Rattle.alw_work.specs.declared.ends.Out.{Out}
+use Rattle.alw_work.specs.declared.ends.In.{In}
+use Rattle.alw_work.specs.declared.laying.Laid.{Laid}
+use Rattle.alw_work.specs.declared.closing.Left.{Left}
+use Rattle.alw_work.specs.Seats.{EachAt, came_of}
+
+-- what was given to the sender's end: what it pushed, and the message that it keeps
+abbrev pub given : Out → List Msg
+given out = out.end.pushed ++ option_to_list out.kept
+
+-- the sender's end of the link to a node: what was given to it, and the out list, is what the log sent
+pub record FitsOut (links : List LinkName) (nodes number : ℕ) (cell : Cell) (to : ℕ) (out : Out) : Type 0 where
+  pub name : slice_get links (number * nodes + to) ≡ Some out.end.link
+  pub words : given out ++ picked to cell.pending ≡ sent_to to cell.log
+
+-- the receiver's end of the link from a node: what it popped is what has come, and the message that it keeps
+pub record FitsIn (links : List LinkName) (nodes number : ℕ) (cell : Cell) (from : ℕ) (come : In) : Type 0 where
+  pub name : slice_get links (from * nodes + number) ≡ Some come.end.link
+  pub words : come.end.popped ≡ came_of cell from ++ option_to_list come.kept
+
+-- all ends of a node
+abbrev pub AreTiedOuts : List LinkName → ℕ → ℕ → Cell → List Out → Type 0
+AreTiedOuts links nodes number cell outs = EachAt (FitsOut links nodes number cell) outs
+
+abbrev pub AreTiedIns : List LinkName → ℕ → ℕ → Cell → List In → Type 0
+AreTiedIns links nodes number cell ins = EachAt (FitsIn links nodes number cell) ins
+
+-- ---- moves
+
+-- an end gave its next message, or none
+pub record Receives (before after : In) (msg : Option Msg) : Type 0 where
+  pub link : after.end.link ≡ before.end.link
+  pub empty : after.kept ≡ None
+  pub words : (came : List Msg) → before.end.popped ≡ came ++ option_to_list before.kept → after.end.popped ≡ came ++ option_to_list msg
+
+-- messages have come into in lists alone
+pub record IsSameButCome (before after : Cell) : Type 0 where
+  pub node : after.node ≡ before.node
+  pub log : after.log ≡ before.log
+  pub pending : after.pending ≡ before.pending
+
+-- messages were given out alone
+pub record IsSameButGiven (before after : Cell) : Type 0 where
+  pub node : after.node ≡ before.node
+  pub log : after.log ≡ before.log
+  pub come : after.come ≡ before.come
+
+-- messages of a node went from its link into the in list, by the end
+pub record Fetches (from : ℕ) (before after : Cell) (old new : In) : Type 0 where
+  pub same : IsSameButCome before after
+  pub link : new.end.link ≡ old.end.link
+  pub others : (k : ℕ) → k ≢ from → in_from after.come k ≡ in_from before.come k
+  pub words : old.end.popped ≡ came_of before from ++ option_to_list old.kept → new.end.popped ≡ came_of after from ++ option_to_list new.kept
+
+-- a message to a node went from the out list to the end
+pub record Offers (to : ℕ) (before after : Cell) (old new : Out) : Type 0 where
+  pub same : IsSameButGiven before after
+  pub link : new.end.link ≡ old.end.link
+  pub others : (k : ℕ) → k ≢ to → picked k after.pending ≡ picked k before.pending
+  pub words : given new ++ picked to after.pending ≡ given old ++ picked to before.pending
+
+-- ---- links that agree
+
+-- what has come to one cell of another is a front of what that one sent it
+abbrev pub AgreesAt : List Cell → ℕ → ℕ → Type 0
+AgreesAt cells from to = (one other : Cell) → slice_get cells from ≡ Some one → slice_get cells to ≡ Some other → IsFront (came_of other from) (sent_to to one.log)
+
+abbrev pub AllAgree : List Cell → Type 0
+AllAgree cells = (from to : ℕ) → AgreesAt cells from to
+
+-- ---- new links
+
+-- an end of a link on which nothing was sent
+pub record IsNewOut (links : List LinkName) (nodes number : ℕ) (to : ℕ) (out : Out) : Type 0 where
+  pub name : slice_get links (number * nodes + to) ≡ Some out.end.link
+  pub empty : given out ≡ []
+
+pub record IsNewIn (links : List LinkName) (nodes number : ℕ) (from : ℕ) (come : In) : Type 0 where
+  pub name : slice_get links (from * nodes + number) ≡ Some come.end.link
+  pub empty : (come.end.popped ≡ []) × (come.kept ≡ None)
+
+-- the sender's ends of all nodes
+abbrev pub AreNewOuts : List LinkName → ℕ → List (Vec Out) → Type 0
+AreNewOuts links nodes outs = EachAt (λ number (row : Vec Out). EachAt (IsNewOut links nodes number) row.items) outs
+
+-- the receiver's ends of all nodes
+abbrev pub AreNewIns : List LinkName → ℕ → List (Vec In) → Type 0
+AreNewIns links nodes ins = EachAt (λ number (column : Vec In). EachAt (IsNewIn links nodes number) column.items) ins
+
+-- the same, from the first so many of them, and of the first `to` nodes from one more
+pub record AreColumns (links : List LinkName) (nodes from to : ℕ) (ins : List (Vec In)) : Type 0 where
+  pub count : length ins ≡ nodes
+  pub each : AreNewIns links nodes ins
+  pub below : (number : ℕ) (column : Vec In) → slice_get ins number ≡ Some column → number < to → length column.items ≡ from + 1
+  pub above : (number : ℕ) (column : Vec In) → slice_get ins number ≡ Some column → to ≤ number → length column.items ≡ from
+
+-- a list has what another has, at the same places
+abbrev pub Keeps : List LinkName → List LinkName → Type 0
+Keeps before after = (place : ℕ) (link : LinkName) → slice_get before place ≡ Some link → slice_get after place ≡ Some link
+
+-- the links from one node more
+pub record LaysRow (nodes from : ℕ) (before after : List LinkName) (row : List Out) (ins : List (Vec In)) : Type 0 where
+  pub keeps : Keeps before after
+  pub count : length after ≡ from * nodes + nodes
+  pub row_is : EachAt (IsNewOut after nodes from) row
+  pub ins_are : AreColumns after nodes (from + 1) 0 ins
+
+-- all links and their ends
+pub record AreLaid (nodes : ℕ) (laid : Laid) : Type 0 where
+  pub links : length laid.links.items ≡ nodes * nodes
+  pub rows : length laid.outs.items ≡ nodes
+  pub outs : AreNewOuts laid.links.items nodes laid.outs.items
+  pub ins : AreColumns laid.links.items nodes nodes 0 laid.ins.items
+
+-- ---- what locks leave
+
+abbrev pub cells_in : List Left → List Cell
+cells_in lefts = map (λ (left : Left). left.cell) lefts
+
+-- the ends of a node are tied to its log
+pub record IsTied (links : List LinkName) (nodes number : ℕ) (left : Left) : Type 0 where
+  pub outs : AreTiedOuts links nodes number left.cell left.outs.items
+  pub ins : AreTiedIns links nodes number left.cell left.ins.items
+
+abbrev pub AreTied : List LinkName → ℕ → List Left → Type 0
+AreTied links nodes lefts = EachAt (IsTied links nodes) lefts
+
+-- the last end of a node was taken off: that of its link to another one, where it is answered
+pub record TakesOut (from to : ℕ) (before after : List Left) (found : Option Out) : Type 0 where
+  pub cells : cells_in after ≡ cells_in before
+  pub tied : (links : List LinkName) (nodes : ℕ) → AreTied links nodes before → AreTied links nodes after
+  pub fits : (links : List LinkName) (nodes : ℕ) (out : Out) → AreTied links nodes before → found ≡ Some out
+      → (cell : Cell) × (slice_get (cells_in before) from ≡ Some cell) × FitsOut links nodes from cell to out
+
+pub record TakesIn (from to : ℕ) (before after : List Left) (found : Option In) : Type 0 where
+  pub cells : cells_in after ≡ cells_in before
+  pub tied : (links : List LinkName) (nodes : ℕ) → AreTied links nodes before → AreTied links nodes after
+  pub fits : (links : List LinkName) (nodes : ℕ) (come : In) → AreTied links nodes before → found ≡ Some come
+      → (cell : Cell) × (slice_get (cells_in before) to ≡ Some cell) × FitsIn links nodes to cell from come
+
+-- a list became a front of itself, and what is answered stood at this place
+pub record TakesLast {X : Type 0} (place : ℕ) (before after : List X) (found : Option X) : Type 0 where
+  pub front : (k : ℕ) (x : X) → slice_get after k ≡ Some x → slice_get before k ≡ Some x
+  pub last : (x : X) → found ≡ Some x → slice_get before place ≡ Some x

@@ -1,0 +1,128 @@
+ghost use Rattle.std.specs.Prelude.{◌≡◌, ◌<◌, ◌*◌, true, length, vec_len, IfOk, IfSome};
+ghost use Rattle.alw_image.specs.Images.{node_count};
+ghost use Rattle.alw_work.specs.Seats.{AreGathered};
+ghost use Rattle.alw_work.specs.Ties.{cells_in, AreTied, AllAgree, TakesOut, TakesIn, TakesLast};
+
+use crate::ends::{In, Out};
+use crate::seats::{Locked, Naming};
+use alw_cells::NodeCell;
+use alw_num::NoMemory;
+use alw_ruled::Link;
+use std::alloc::Global;
+use std::sync::{Mutex, Wait};
+
+/// What a lock leaves: a node's cell, and the ends of its links.
+#[derive(Drop)]
+pub struct Left {
+    pub cell: NodeCell,
+    pub outs: Vec<Out>,
+    pub ins: Vec<In>,
+}
+
+/// What the locks have kept, and whether a node has trapped. None where a lock has the cell of another
+/// place, or where there aren't so many.
+pub fn gather<I: Naming>(
+    alloc: Global,
+    nodes: u16,
+    locks: Vec<Mutex<Locked<I>>>,
+) -> Result<Option<(Vec<Left>, bool)>, NoMemory>
+    ensures cells { IfOk result (λ found. IfSome found (λ left. AreGathered I.image I.parameters nodes (cells_in left.0.items) left.1)) }
+    ensures tied { IfOk result (λ found. IfSome found (λ left. AreTied I.links (node_count I.image) left.0.items)) }
+{
+    let mut lefts = Vec::new(alloc);
+    let mut trapped = false;
+    for lock in locks {
+        let (number, cell, has_trapped, outs, ins) = lock.into_inner().open();
+        if usize::from(number.0) != lefts.len() {
+            return Ok(None);
+        }
+        lefts.push(Left { cell, outs, ins })?;
+        trapped |= has_trapped;
+    }
+    if lefts.len() == usize::from(nodes) {
+        Ok(Some((lefts, trapped)))
+    } else {
+        Ok(None)
+    }
+}
+
+/// Closes the links. What has come to each node of each is then a front of what that one sent it. False
+/// where an end isn't at its place.
+pub fn close_all<R: Wait>(rt: &R, nodes: u16, mut links: Vec<Link>, lefts: &mut Vec<Left>) -> bool
+    requires some { 0 < nodes }
+    requires links { length links.items ≡ nodes * nodes }
+    requires count { length lefts.old.items ≡ nodes }
+    requires tied { AreTied links.items nodes lefts.old.items }
+    ensures cells { cells_in lefts.new.items ≡ cells_in lefts.old.items }
+    ensures agree { result ≡ true → AllAgree (cells_in lefts.old.items) }
+{
+    let nodes = usize::from(nodes);
+    while let Some(link) = links.pop() {
+        let place = links.len();
+        let (from, to) = (place / nodes, place % nodes);
+        let Some(out) = take_out(lefts, from, to) else {
+            return false;
+        };
+        let Some(come) = take_in(lefts, from, to) else {
+            return false;
+        };
+        let Out {
+            end: sender,
+            kept: _,
+        } = out;
+        let In {
+            end: receiver,
+            kept: _,
+        } = come;
+        link.close(rt, sender, receiver);
+    }
+    true
+}
+
+/// The cells alone, in order.
+pub fn cells_of(alloc: Global, lefts: Vec<Left>) -> Result<Vec<NodeCell>, NoMemory>
+    ensures { IfOk result (λ cells. cells.items ≡ cells_in lefts.items) }
+{
+    let mut cells = Vec::new(alloc);
+    for left in lefts {
+        let Left {
+            cell,
+            outs: _,
+            ins: _,
+        } = left;
+        cells.push(cell)?;
+    }
+    Ok(cells)
+}
+
+// The last of the sender's ends of a node. None where it isn't that of the link to another one.
+fn take_out(lefts: &mut Vec<Left>, from: usize, to: usize) -> Option<Out>
+    ensures { TakesOut from to lefts.old.items lefts.new.items result }
+{
+    if from >= lefts.len() {
+        return None;
+    }
+    take_last(&mut lefts[from].outs, to)
+}
+
+// The last of the receiver's ends of a node. None where it isn't that of the link from another one.
+fn take_in(lefts: &mut Vec<Left>, from: usize, to: usize) -> Option<In>
+    ensures { TakesIn from to lefts.old.items lefts.new.items result }
+{
+    if to >= lefts.len() {
+        return None;
+    }
+    take_last(&mut lefts[to].ins, from)
+}
+
+// The last of some ends, which is answered where it stood at this place.
+fn take_last<E: Drop>(ends: &mut Vec<E>, place: usize) -> Option<E>
+    ensures { TakesLast place ends.old.items ends.new.items result }
+{
+    let last = ends.pop()?;
+    if ends.len() == place {
+        Some(last)
+    } else {
+        None
+    }
+}
