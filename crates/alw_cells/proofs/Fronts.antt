@@ -1,56 +1,63 @@
--- Links that agree: what was taken is a front of what was sent, message by message and link by link.
-use Rattle.std.proofs.Common.{◌≡◌, ◌↔◌, ℕ, zero, suc, ◌+◌, ◌<◌, Some, List, [], ◌∷◌, ◌++◌, length, take, drop, get_or, slice_get, refl, sym, subst, ap, ◌∙◌, arith}
-use Rattle.std.proofs.lemmas.List.{take-append-drop, length-drop}
+-- Links that agree: what was taken is a front of what was sent, event by event and link by link.
+use Rattle.std.proofs.Common.{◌≡◌, ◌↔◌, ℕ, zero, suc, Option, Some, None, List, [], ◌∷◌, ◌++◌, slice_get, refl, sym, subst, ap, ◌∙◌, append_assoc}
+use Rattle.std.specs.Option.{option_map}
 use Rattle.std.proofs.lemmas.Option.{same_Some}
 use Rattle.alw_msg.specs.declared.messages.Msg.{Msg}
-use Rattle.alw_model.specs.Threads.{took_from, sent_to, log_at, IsFront}
-use Rattle.alw_cells.specs.declared.logs.Record.{Record}
-use Rattle.alw_cells.specs.Logs.{Written, logged, Agrees}
-use Rattle.alw_cells.specs.Cells.{picked}
-use Rattle.alw_cells.specs.Records.{gathered, sends_of, took_by, took_in}
-use Rattle.alw_cells.proofs.Receivers.{picked-append}
-
--- ---- a log in two lists
-
-pub took_gathered : (number : ℕ) (events : List Record) (sent : List (ℕ × Msg)) → took_from number (gathered events sent) ≡ took_in number events
-took_gathered number [] sent = refl
-took_gathered number (event ∷ rest) sent = ap (λ (xs : List Msg). took_by number event ++ xs) (took_gathered number rest (drop event.sends sent))
-
-pub sent_gathered : (number : ℕ) (events : List Record) (sent : List (ℕ × Msg)) → sends_of events ≡ length sent → sent_to number (gathered events sent) ≡ picked number sent
-sent_gathered number [] [] counted = refl
-sent_gathered number [] (send ∷ rest) counted = absurd (omega arith)
-sent_gathered number (event ∷ rest) sent counted =
-    let left : sends_of rest ≡ length (drop event.sends sent) = omega (arith, counted, length-drop event.sends sent) in
-    ap (λ (xs : List Msg). picked number (take event.sends sent) ++ xs) (sent_gathered number rest (drop event.sends sent) left)
-    ∙ (sym (picked-append number (take event.sends sent) (drop event.sends sent)) ∙ ap (picked number) (take-append-drop event.sends sent))
-
--- ---- message by message
-
-pub nothing_front : (sent : List Msg) → IsFront [] sent
-nothing_front sent = (sent, refl)
+use Rattle.alw_msg.specs.declared.events.Entry.{Entry}
+use Rattle.alw_msg.specs.Lists.{front, behind}
+use Rattle.alw_model.specs.Threads.{Logged, took_from, sent_to, log_at, IsFront}
+use Rattle.alw_cells.specs.Logs.{Written, logged, Agrees, Reading, after_next, taken_of, entry_of}
+use Rattle.alw_cells.specs.Receiving.{took_by}
 
 -- ---- event by event
 
-drop_event : (number : ℕ) (events : List Record) (i : ℕ) (d : Record) → i < length events → took_in number (drop i events) ≡ took_by number (get_or events i d) ++ took_in number (drop (i + 1) events)
-drop_event number [] i d l = absurd (omega arith)
-drop_event number (first ∷ rest) zero d l = refl
-drop_event number (first ∷ rest) (suc i) d l =
-    let e : suc i + 1 ≡ suc (i + 1) = omega arith in
-    drop_event number rest i d (omega arith) ∙ ap (λ n. took_by number (get_or rest i d) ++ took_in number (drop n (first ∷ rest))) (sym e)
+cancel : (some first second : List Msg) → some ++ first ≡ some ++ second → first ≡ second
+cancel [] first second is = is
+cancel (msg ∷ some) first second is = cancel some first second (ap behind is)
 
--- what is left agrees where all agrees: one event on
-pub goes_on : (Whole : Type 0) (number : ℕ) (events : List Record) (i : ℕ) (d : Record) (sent left : List Msg) → i < length events → Whole ↔ IsFront (took_in number (drop i events)) sent
-    → ((took : List Msg) → IsFront (took_by number (get_or events i d) ++ took) sent ↔ IsFront took left) → Whole ↔ IsFront (took_in number (drop (i + 1) events)) left
-goes_on Whole number events i d sent left l so_far one =
-    let rest = took_in number (drop (i + 1) events) in
-    let next = drop_event number events i d l in
-    (λ whole. (one rest).0 (subst (λ (xs : List Msg). IsFront xs sent) next (so_far.0 whole)), λ after. so_far.1 (subst (λ (xs : List Msg). IsFront xs sent) (sym next) ((one rest).1 after)))
+behind_both : (some took sent : List Msg) → IsFront (some ++ took) (some ++ sent) ↔ IsFront took sent
+behind_both some took sent = (
+  λ (rest, is). (rest, cancel some (took ++ rest) sent (sym (append_assoc some took rest) ∙ is)),
+  λ (rest, is). (rest, append_assoc some took rest ∙ ap (λ (xs : List Msg). some ++ xs) is),
+)
 
--- an event took another message
-pub goes_wrong : (Whole : Type 0) (number : ℕ) (events : List Record) (i : ℕ) (d : Record) (sent : List Msg) → i < length events → Whole ↔ IsFront (took_in number (drop i events)) sent
-    → ((took : List Msg) → IsFront (took_by number (get_or events i d) ++ took) sent → ⊥) → Whole → ⊥
-goes_wrong Whole number events i d sent l so_far other whole =
-    other (took_in number (drop (i + 1) events)) (subst (λ (xs : List Msg). IsFront xs sent) (drop_event number events i d l) (so_far.0 whole))
+-- what is left before an event is read, and after
+took_next : (number : ℕ) (before after : Reading) (entry : Entry) (taken : Option Msg) → Some entry ≡ option_map entry_of (front before.left) → after ≡ after_next before → taken ≡ taken_of after.given
+    → took_from number before.left ≡ took_by number entry.event taken ++ took_from number after.left
+took_next number before after entry taken entry_is after_is taken_is =
+    go before.left entry_is (taken_is ∙ ap (λ (r : Reading). taken_of r.given) after_is) ∙ ap (λ (r : Reading). took_by number entry.event taken ++ took_from number r.left) (sym after_is)
+  where
+    go : (left : List Logged) → Some entry ≡ option_map entry_of (front left) → taken ≡ taken_of (front left) → took_from number left ≡ took_by number entry.event taken ++ took_from number (behind left)
+    go [] none same = absurd (cc)
+    go (first ∷ rest) is same =
+        let first_is : entry ≡ first.entry = same_Some entry first.entry is in
+        λ x. took_by number (sym first_is x).event (sym same x) ++ took_from number rest
+
+-- an event is read, and what it took is the next that was sent: what is left agrees where all agrees
+pub goes_on : (Whole : Type 0) (number : ℕ) (before after : Reading) (entry : Entry) (taken : Option Msg) (sent left : List Msg) → Whole ↔ IsFront (took_from number before.left) sent
+    → Some entry ≡ option_map entry_of (front before.left) → after ≡ after_next before → taken ≡ taken_of after.given → sent ≡ took_by number entry.event taken ++ left
+    → Whole ↔ IsFront (took_from number after.left) left
+goes_on Whole number before after entry taken sent left so_far entry_is after_is taken_is sent_is =
+    let own = took_by number entry.event taken in
+    let here : IsFront (took_from number before.left) sent ≡ IsFront (own ++ took_from number after.left) (own ++ left) =
+    λ x. IsFront (took_next number before after entry taken entry_is after_is taken_is x) (sent_is x) in
+    let both = behind_both own (took_from number after.left) left in
+    (λ whole. both.0 (subst (λ (P : Type 0). P) here (so_far.0 whole)), λ agrees. so_far.1 (subst (λ (P : Type 0). P) (sym here) (both.1 agrees)))
+
+-- or it isn't
+pub goes_wrong : (Whole : Type 0) (number : ℕ) (before after : Reading) (entry : Entry) (taken : Option Msg) (sent : List Msg) → Whole ↔ IsFront (took_from number before.left) sent
+    → Some entry ≡ option_map entry_of (front before.left) → after ≡ after_next before → taken ≡ taken_of after.given
+    → ((took : List Msg) → IsFront (took_by number entry.event taken ++ took) sent → ⊥) → Whole → ⊥
+goes_wrong Whole number before after entry taken sent so_far entry_is after_is taken_is other whole =
+    other (took_from number after.left) (subst (λ (xs : List Msg). IsFront xs sent) (took_next number before after entry taken entry_is after_is taken_is) (so_far.0 whole))
+
+-- nothing is a front of anything
+pub nothing_front : (number : ℕ) (reading : Reading) (sent : List Msg) → None ≡ option_map entry_of (front reading.left) → IsFront (took_from number reading.left) sent
+nothing_front number reading sent none = go reading.left none
+  where
+    go : (left : List Logged) → None ≡ option_map entry_of (front left) → IsFront (took_from number left) sent
+    go [] none = (sent, refl)
+    go (first ∷ rest) none = absurd (cc)
 
 -- ---- link by link
 

@@ -1,6 +1,12 @@
+pub mod Packing
+pub mod Unpacking
+pub mod Places
+pub mod Following
 pub mod Gathered
 pub mod Receivers
 pub mod Runs
 pub mod Choosing
 pub mod Moves
+pub mod Sends
+pub mod Filing
 pub mod Fronts

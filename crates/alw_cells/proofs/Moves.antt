@@ -24,7 +24,7 @@ use Rattle.alw_cells.specs.Logs.{Written}
 use Rattle.alw_cells.specs.Cells.{Cell, IsBack, in_from, picked, without_first}
 use Rattle.alw_cells.specs.Choice.{taken_by, come_taken, may_happen, stepped_by, entry_by, logged_by, after_event, Happens}
 use Rattle.alw_cells.specs.declared.cells.Stepped.TheVariants as result
-use Rattle.alw_cells.specs.Keeping.{AreSenders, IsKept}
+use Rattle.alw_cells.specs.Keeping.{AreSenders, IsKept, IsFiled}
 use Rattle.alw_cells.proofs.Receivers.{picked_behind, picked_other}
 use Rattle.alw_cells.proofs.Runs.{back_shrinks, grows, is_next}
 
@@ -118,15 +118,15 @@ keeps_start parts parameters number count senders sent count_is few none room = 
 
 -- a node at its start, as the calls that make it say
 pub kept_start : (parts : Parts) (parameters : Parameters) (number count : ℕ) (node : Whole) (log : Written) (come : List (List Msg)) (senders : NodeSet) (pending : List (ℕ × Msg)) (sent : Sending) (dids : List Did)
-    → node ≡ whole_start parts parameters number → log ≡ record { entries = []; room = 0 } → come ≡ replicate count [] → nodes_of senders ≡ no_nodes → pending ≡ [] → sent.room ≡ count → count ≡ node_count parts → count ≤ 256
-    → dids ≡ [] → IsKept node log.entries come senders pending sent dids
+    → node ≡ whole_start parts parameters number → log ≡ record { number = number; entries = []; room = 0 } → come ≡ replicate count [] → nodes_of senders ≡ no_nodes → pending ≡ [] → sent.room ≡ count → count ≡ node_count parts → count ≤ 256
+    → dids ≡ [] → IsFiled node log come senders pending sent dids
 kept_start parts parameters number count node log come senders pending sent dids node_is log_is come_is none pending_is room count_is few dids_is =
-    subst (λ (w : Whole). IsKept w log.entries come senders pending sent dids) (sym node_is)
-    (subst (λ (l : Written). IsKept (whole_start parts parameters number) l.entries come senders pending sent dids) (sym log_is)
-    (subst (λ (lists : List (List Msg)). IsKept (whole_start parts parameters number) [] lists senders pending sent dids) (sym come_is)
-    (subst (λ (p : List (ℕ × Msg)). IsKept (whole_start parts parameters number) [] (replicate count []) senders p sent dids) (sym pending_is)
-    (subst (λ (done : List Did). IsKept (whole_start parts parameters number) [] (replicate count []) senders [] sent done) (sym dids_is)
-    (keeps_start parts parameters number count senders sent count_is few none room)))))
+    subst (λ (w : Whole). IsFiled w log come senders pending sent dids) (sym node_is)
+    (subst (λ (l : Written). IsFiled (whole_start parts parameters number) l come senders pending sent dids) (sym log_is)
+    (subst (λ (lists : List (List Msg)). IsFiled (whole_start parts parameters number) (record { number = number; entries = []; room = 0 }) lists senders pending sent dids) (sym come_is)
+    (subst (λ (p : List (ℕ × Msg)). IsFiled (whole_start parts parameters number) (record { number = number; entries = []; room = 0 }) (replicate count []) senders p sent dids) (sym pending_is)
+    (subst (λ (done : List Did). IsFiled (whole_start parts parameters number) (record { number = number; entries = []; room = 0 }) (replicate count []) senders [] sent done) (sym dids_is)
+    (record { kept = keeps_start parts parameters number count senders sent count_is few none room; own = refl })))))
 
 -- ---- an event
 

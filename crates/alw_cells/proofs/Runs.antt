@@ -98,7 +98,7 @@ passes_some : {X : Type 0} (test : X → Bool) (o : Option X) → IsTrue (passes
 passes_some test None is = absurd (true≢false (sym is))
 passes_some test (Some x) is = refl
 
-takes : (cell : Cell) (event : Event) → may cell.node.parts cell.node.parameters cell.node.state event (taken_by cell.come event) ≡ true → IsTrue (takes_rightly event (taken_by cell.come event))
+pub takes : (cell : Cell) (event : Event) → may cell.node.parts cell.node.parameters cell.node.state event (taken_by cell.come event) ≡ true → IsTrue (takes_rightly event (taken_by cell.come event))
 takes cell (Instr at) is = refl
 takes cell (Handle at) is = refl
 takes cell (Evict at set) is = refl

@@ -2,6 +2,7 @@
 use Rattle.std.specs.Prelude.{◌≡◌, ℕ, cond, false, ◌⊎◌, ◌==◌, List, [], ◌∷◌, ◌++◌, map, filter, length, replicate, slice_index_or, slice_set}
 use Rattle.std.specs.List.{list_any}
 use Rattle.alw_msg.specs.declared.messages.Msg.{Msg}
+use Rattle.alw_msg.specs.Sending.{carried_body}
 use Rattle.alw_msg.specs.Statuses.{is_ready}
 use Rattle.alw_image.specs.declared.parts.Parts.{Parts}
 use Rattle.alw_image.specs.Images.{node_count}
@@ -70,6 +71,10 @@ pub record IsSplit (cell : Cell) (parts : CellParts) : Type 0 where
   pub node : parts.node ≡ cell.node
   pub log : parts.log.entries ≡ cell.log
   pub dids : parts.dids ≡ cell.dids
+
+-- a message as its kind carries it: of a kind that carries no line the bytes are left out
+abbrev pub as_carried : Msg → Msg
+as_carried msg = record msg { body = carried_body msg.kind msg.body }
 
 -- a message has come from a node
 abbrev pub after_coming : Cell → ℕ → Msg → Cell

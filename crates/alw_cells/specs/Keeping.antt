@@ -11,6 +11,7 @@ use Rattle.alw_model.specs.declared.steps.Did.{Did}
 use Rattle.alw_model.specs.Threads.{Logged}
 use Rattle.alw_node.specs.Nodes.{Whole}
 use Rattle.alw_cells.specs.Cells.{IsReplayed, in_from}
+use Rattle.alw_cells.specs.Logs.{Written}
 
 -- the set has the nodes with something in their in lists
 abbrev pub AreSenders : List (List Msg) → NodeSet → Type 0
@@ -21,3 +22,8 @@ pub record IsKept (node : Whole) (log : List Logged) (come : List (List Msg)) (s
   pub sent_by : AreSenders come senders
   pub room : sent.room ≡ node_count node.parts
   pub few : length come ≤ MOST_NODES
+
+-- all of that, and the log is the node's
+pub record IsFiled (node : Whole) (log : Written) (come : List (List Msg)) (senders : NodeSet) (pending : List (ℕ × Msg)) (sent : Sending) (dids : List Did) : Type 0 where
+  pub kept : IsKept node log.entries come senders pending sent dids
+  pub own : log.number ≡ node.number

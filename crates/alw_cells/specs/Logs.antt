@@ -5,8 +5,9 @@ use Rattle.alw_msg.specs.declared.events.Entry.{Entry}
 use Rattle.alw_msg.specs.Lists.{front, behind}
 use Rattle.alw_model.specs.Threads.{Logged, Logs, log_at, took_from, sent_to, IsFront}
 
--- the records so far; and how many places are kept for one record more: one for itself, and one for each message that it sends
+-- the node whose log it is; the records so far; and how many places are kept for one record more: one for itself, and one for each message that it sends
 pub record Written : Type 0 where
+  pub number : ℕ
   pub entries : List Logged
   pub room : ℕ
 

@@ -1,4 +1,4 @@
-ghost use Rattle.std.specs.Prelude.{◌≡◌, ◌<◌, ◌≤◌, ◌==◌, ℕ, [], true, false, nat_le, not, cond, length, replicate, slice_set, option_copied, Some, None, IsTrue, IfOk, OnOk, OnErr};
+ghost use Rattle.std.specs.Prelude.{◌≡◌, ◌<◌, ◌≤◌, ◌==◌, ℕ, [], true, false, nat_le, not, cond, length, replicate, slice_set, option_copied, Some, None, IsTrue, IfSome, IfOk, OnOk, OnErr};
 ghost use Rattle.std.specs.List.{list_any};
 ghost use Rattle.std.specs.Option.{option_map};
 ghost use Rattle.std.specs.Arc.{arc_value};
@@ -8,7 +8,8 @@ ghost use Rattle.alw_msg.specs.Statuses as statuses;
 ghost use Rattle.alw_image.specs.Images.{node_count};
 ghost use Rattle.alw_model.specs.NodeStates.{is_enabled_at, stamp_of};
 ghost use Rattle.alw_node.specs.Nodes.{IsNode};
-ghost use Rattle.alw_cells.specs.Cells.{IsCell, IsSpent, cell_start, in_from, out_to, after_coming, after_giving, IsSplit};
+ghost use Rattle.alw_cells.specs.Cells.{IsCell, IsSpent, cell_start, in_from, out_to, as_carried, after_coming, after_giving, IsSplit};
+ghost use Rattle.alw_cells.specs.Records.{IsPlain};
 ghost use Rattle.alw_cells.specs.Choice.{taken_by, come_taken, may_happen, next_events, asked_eviction, is_evicted, picked_event, Happens, StepsCell};
 ghost use Rattle.alw_cells.specs.Keeping.{AreSenders};
 ghost use Rattle.alw_cells.specs.declared.cells.Stepped.TheVariants as Stepped;
@@ -54,13 +55,13 @@ pub struct NodeCell {
 
 impl Model for NodeCell {
     ghost use Rattle.alw_cells.specs.Cells.{Cell};
-    ghost use Rattle.alw_cells.specs.Keeping.{IsKept};
+    ghost use Rattle.alw_cells.specs.Keeping.{IsFiled};
 
     ghost Value = { Cell };
 
     ghost view = { λ c. record { node = c.node; log = c.log.entries; come = c.come.items; pending = c.pending.items; dids = c.dids.list } };
 
-    ghost invariant = { λ c. IsKept c.node c.log.entries c.come.items c.senders c.pending.items c.sent c.dids.list };
+    ghost invariant = { λ c. IsFiled c.node c.log c.come.items c.senders c.pending.items c.sent c.dids.list };
 }
 
 impl NodeCell {
@@ -96,7 +97,7 @@ impl NodeCell {
         let _exists = started.number();
         Ok(NodeCell {
             node: started,
-            log: Log::empty(alloc),
+            log: Log::empty(alloc, node),
             come: lists(alloc, count)?,
             senders: NodeSet::empty(),
             pending: VecDeque::new(alloc),
@@ -117,10 +118,11 @@ impl NodeCell {
         }
     }
 
-    /// A message more at the end of the in list from a node, or all as it was.
+    /// A message more at the end of the in list from a node, or all as it was. Bytes that its kind doesn't
+    /// carry are left out.
     pub fn take_in(&mut self, from: NodeNo, msg: Msg) -> Result<(), NoMemory>
         requires { from.0 < node_count self.old.node.parts }
-        ensures ok { OnOk result (self.new ≡ after_coming self.old from.0 msg) }
+        ensures ok { OnOk result (self.new ≡ after_coming self.old from.0 (as_carried msg)) }
         ensures err { OnErr result (self.new ≡ self.old) }
     {
         self.come[from.0 as usize].push(msg)?;
@@ -350,6 +352,7 @@ fn take(come: &mut Vec<InList>, senders: &mut NodeSet, event: Event) -> Option<M
     requires { AreSenders come.old.items senders.old }
     ensures message { result ≡ taken_by come.old.items event }
     ensures left { come.new.items ≡ come_taken come.old.items event }
+    ensures plain { IfSome result IsPlain }
     ensures senders { AreSenders come.new.items senders.new }
 {
     let Event::Deliver { from, .. } = event else {

@@ -1,16 +1,18 @@
-ghost use Rattle.std.specs.Prelude.{◌≡◌, ◌<◌, ◌+◌, ◌≤◌, [], ◌∷◌, ◌++◌, not, length, OnOk, OnErr};
+ghost use Rattle.std.specs.Prelude.{◌≡◌, ◌<◌, ◌+◌, ◌≤◌, [], ◌∷◌, ◌++◌, not, length, IfSome, OnOk, OnErr};
 ghost use Rattle.std.specs.Option.{option_copied};
 ghost use Rattle.std.specs.VecDeque.{deque_len, deque_capacity};
 ghost use Rattle.alw_msg.specs.Lists.{front, behind, is_nonempty};
-ghost use Rattle.alw_cells.specs.Cells.{picked, without_first};
+ghost use Rattle.alw_cells.specs.Cells.{picked, without_first, as_carried};
+ghost use Rattle.alw_cells.specs.Records.{IsPlain};
 
 use alw_msg::{Msg, Sends};
-use alw_num::{NoMemory, NodeNo};
+use alw_num::{Line, NoMemory, NodeNo};
 use std::alloc::Global;
 use std::collections::VecDeque;
 use std::marker::Model;
 
-/// The messages that have come from a node, first in, first out. Contracts see the list.
+/// The messages that have come from a node, first in, first out. Contracts see the list. None has bytes
+/// that its kind doesn't carry.
 #[derive(Debug, Drop)]
 pub struct InList {
     messages: VecDeque<Msg>,
@@ -23,6 +25,10 @@ impl Model for InList {
     ghost Value = { List Msg };
 
     ghost view = { λ l. l.messages.items };
+
+    ghost use Rattle.alw_cells.specs.Records.{ArePlain};
+
+    ghost invariant = { λ l. ArePlain l.messages.items };
 }
 
 impl InList {
@@ -35,12 +41,12 @@ impl InList {
         }
     }
 
-    /// A message more at the end.
+    /// A message more at the end. Bytes that its kind doesn't carry are left out.
     pub fn push(&mut self, msg: Msg) -> Result<(), NoMemory>
-        ensures ok { OnOk result (self.new ≡ self.old ++ msg ∷ []) }
+        ensures ok { OnOk result (self.new ≡ self.old ++ as_carried msg ∷ []) }
         ensures err { OnErr result (self.new ≡ self.old) }
     {
-        self.messages.push_back(msg)?;
+        self.messages.push_back(carried(msg))?;
         Ok(())
     }
 
@@ -55,6 +61,7 @@ impl InList {
     pub fn pop(&mut self) -> Option<Msg>
         ensures message { result ≡ front self.old }
         ensures left { self.new ≡ behind self.old }
+        ensures plain { IfSome result IsPlain }
     {
         self.messages.pop_front()
     }
@@ -64,6 +71,20 @@ impl InList {
         ensures { result ≡ not (is_nonempty self.now) }
     {
         self.messages.is_empty()
+    }
+}
+
+// A message as its kind carries it.
+fn carried(msg: Msg) -> Msg
+    ensures { result ≡ as_carried msg }
+{
+    if msg.kind.carries_body() {
+        msg
+    } else {
+        Msg {
+            body: Line::ZERO,
+            ..msg
+        }
     }
 }
 

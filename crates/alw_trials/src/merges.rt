@@ -1,3 +1,5 @@
+ghost use Rattle.std.specs.Prelude.{◌≡◌, OnOk};
+
 use alw_cells::{Log, Logs, links_agree};
 use alw_merge::merge;
 use alw_msg::{Entry, Event, Kind, Msg, Sends};
@@ -21,13 +23,42 @@ fn comes(stamp: u32, from: NodeNo, to: NodeNo) -> Entry {
     Entry { stamp, event }
 }
 
+// A message without a line, sent at stamp 2.
+const CALL_BACK: Msg = Msg {
+    kind: Kind::INV,
+    line: LineNo(0),
+    src: ONE,
+    stamp: 2,
+    body: Line::ZERO,
+};
+
+// An event more of a node that sends nothing. A delivery takes such a message.
+fn put(alloc: Global, log: &mut Log, node: NodeNo, entry: Entry) -> Result<(), Fail>
+    requires { log.old.number ≡ node.0 }
+    ensures { OnOk result (log.new.number ≡ node.0) }
+{
+    let mut nothing = Sends::room(alloc, 0)?;
+    nothing.begin(node, entry.stamp);
+    log.reserve(0)?;
+    match entry.event {
+        Event::Instr { node: own } if own == node => log.push(entry, None, &nothing),
+        Event::Deliver { from, to } if to == node => {
+            let taken = Msg {
+                src: from,
+                ..CALL_BACK
+            };
+            log.push(entry, Some(taken), &nothing);
+        }
+        _ => return Err("another event".into()),
+    }
+    Ok(())
+}
+
 // The entries of a node's log.
-fn log_of(alloc: Global, entries: &[Entry]) -> Result<Log, Fail> {
-    let mut log = Log::empty(alloc);
+fn log_of(alloc: Global, node: NodeNo, entries: &[Entry]) -> Result<Log, Fail> {
+    let mut log = Log::empty(alloc, node);
     for entry in entries {
-        let nothing = Sends::room(alloc, 0)?;
-        log.reserve(nothing.len())?;
-        log.push(*entry, None, &nothing);
+        put(alloc, &mut log, node, *entry)?;
     }
     Ok(log)
 }
@@ -62,8 +93,10 @@ fn entries_of_two_writers_merge(rt: HostRuntime) -> Result<(), Fail> {
         comes(12, ONE, OTHER),
     ];
     let mut logs = Logs::empty(alloc);
-    logs.push(log_of(alloc, &one)?)?;
-    logs.push(log_of(alloc, &other)?)?;
+    logs.push(log_of(alloc, ONE, &one)?)?;
+    logs.push(log_of(alloc, OTHER, &other)?)?;
+    let first = [0, 0, 0, 1, 0, 0, 0, 0, 0, 0, 0];
+    assert!(rt; logs.at_ref(0).bytes().starts_with(&first));
     let merged = [
         turn(1, ONE),
         turn(1, OTHER),
@@ -92,30 +125,38 @@ fn entries_of_two_writers_merge(rt: HostRuntime) -> Result<(), Fail> {
     Ok(())
 }
 
-// A node's message to another, and the other's log where it took it with this stamp.
-fn one_message(alloc: Global, stamp: u32) -> Result<Logs, Fail> {
+// A node's log, in which it sends another a message.
+fn sender(alloc: Global) -> Result<Log, Fail> {
     let mut sends = Sends::room(alloc, 2)?;
     sends.begin(ONE, 2);
     sends.push(OTHER, Kind::INV, LineNo(0), Line::ZERO);
-    let msg = sends.at(0).1;
-    let mut sender = Log::empty(alloc);
-    sender.reserve(2)?;
-    let handled = Event::Handle { node: ONE };
-    sender.push(
-        Entry {
-            stamp: 2,
-            event: handled,
-        },
-        None,
-        &sends,
-    );
+    let mut log = Log::empty(alloc, ONE);
+    log.reserve(2)?;
+    let event = Event::Handle { node: ONE };
+    log.push(Entry { stamp: 2, event }, None, &sends);
+    Ok(log)
+}
+
+// The other's log, in which it takes the message with this stamp.
+fn receiver(alloc: Global, stamp: u32) -> Result<Log, Fail> {
+    let mut sends = Sends::room(alloc, 2)?;
     sends.begin(OTHER, 5);
-    let mut receiver = Log::empty(alloc);
-    receiver.reserve(2)?;
-    receiver.push(comes(5, ONE, OTHER), Some(Msg { stamp, ..msg }), &sends);
+    let mut log = Log::empty(alloc, OTHER);
+    log.reserve(2)?;
+    let event = Event::Deliver {
+        from: ONE,
+        to: OTHER,
+    };
+    let taken = Msg { stamp, ..CALL_BACK };
+    log.push(Entry { stamp: 5, event }, Some(taken), &sends);
+    Ok(log)
+}
+
+// Both logs.
+fn one_message(alloc: Global, stamp: u32) -> Result<Logs, Fail> {
     let mut logs = Logs::empty(alloc);
-    logs.push(sender)?;
-    logs.push(receiver)?;
+    logs.push(sender(alloc)?)?;
+    logs.push(receiver(alloc, stamp)?)?;
     Ok(logs)
 }
 
@@ -124,5 +165,17 @@ fn a_message_with_another_stamp_was_not_sent(rt: HostRuntime) -> Result<(), Fail
     let alloc = rt.alloc();
     assert!(rt; links_agree(&one_message(alloc, 2)?));
     assert!(rt; !links_agree(&one_message(alloc, 3)?));
+    Ok(())
+}
+
+#[test]
+fn messages_are_packed(rt: HostRuntime) -> Result<(), Fail> {
+    let alloc = rt.alloc();
+    let sent = [0, 0, 0, 2, 2, 0, 0, 0, 0, 0, 1, 0, 1, 7, 0, 0, 0, 0];
+    assert!(rt; sender(alloc)?.bytes() == sent.as_slice());
+    let taken = [
+        0, 0, 0, 5, 1, 0, 0, 0, 0, 7, 0, 0, 0, 0, 0, 0, 0, 0, 0, 2, 0, 0,
+    ];
+    assert!(rt; receiver(alloc, 2)?.bytes() == taken.as_slice());
     Ok(())
 }

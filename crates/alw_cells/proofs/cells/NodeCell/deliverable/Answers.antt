@@ -10,7 +10,7 @@ use Rattle.alw_cells.proofs.cells.NodeCell.deliverable.Goals as goal
 
 pub loop-from-init : goal.loop-from-init
 loop-from-init c = found_start c.args.self.now c.self.inside.senders (nodes_of c.empty-found.result)
-    (subst (λ (v : Cell). AreSenders v.come c.self.inside.senders) c.self.view_is c.self.invariant.sent_by) c.empty-found.ensures
+    (subst (λ (v : Cell). AreSenders v.come c.self.inside.senders) c.self.view_is c.self.invariant.kept.sent_by) c.empty-found.ensures
 
 pub loop-from-preserved : goal.loop-from-preserved
 loop-from-preserved c = found_more (λ from. may_happen c.args.self.now (delivery from c.args.self.now.node.number)) (nodes_of c.loop-from.found) (nodes_of c.looked_at-found.result)

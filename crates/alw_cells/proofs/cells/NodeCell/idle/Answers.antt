@@ -11,4 +11,4 @@ returns-clause-spent c =
     let current : c.self.inside.node.state.current < length c.self.inside.node.state.slots = subst (λ k. k < length c.self.inside.node.state.slots) c.last-last.ensures.slot c.last-last.ensures.within in
     let limit : c.self.inside.node.parameters.limit < 2 ^ 32 - 1 = omega (arith, c.limit-limit.ensures.allowed.limit, ap (λ (p : Parameters). p.limit) c.params.ensures) in
     subst (λ (cell : Cell). IsSpent cell.node.parameters cell.node.state) c.self.view_is
-    (none_spent v c.self.invariant.replayed c.number-number.ensures.stands.number limit current (subst (λ (cell : Cell). next_events cell ≡ []) (sym c.self.view_is) c.requires))
+    (none_spent v c.self.invariant.kept.replayed c.number-number.ensures.stands.number limit current (subst (λ (cell : Cell). next_events cell ≡ []) (sym c.self.view_is) c.requires))

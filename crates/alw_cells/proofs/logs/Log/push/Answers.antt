@@ -1,22 +1,26 @@
-use Rattle.std.proofs.Common.{◌≡◌, ◌+◌, ◌++◌, ◌∷◌, [], length, ap, ◌∙◌, length-append, arith}
+use Rattle.std.proofs.Common.{◌≡◌, [], ◌∷◌, ◌++◌, sym, subst, ap, ◌∙◌, arith}
+use Rattle.alw_model.specs.Threads.{Logged}
+use Rattle.alw_cells.specs.Layout.{record_bytes}
 use Rattle.alw_cells.specs.Logs.{Written}
-use Rattle.alw_cells.specs.Records.{gathered, sends_of, with_sent}
-use Rattle.alw_cells.specs.declared.logs.Record.{Record}
-use Rattle.alw_cells.proofs.Gathered.{gathered_push, sends_push}
+use Rattle.alw_cells.specs.Records.{IsRecord, FitsRecord, records_in}
+use Rattle.alw_cells.proofs.Unpacking.{put_all, packed_more, read_more}
 use Rattle.alw_cells.proofs.logs.Log.push.Goals as goal
 
 pub invariant_of-self : goal.invariant_of-self
 invariant_of-self c =
-    let event : Record = record { entry = c.args.entry; taken = c.args.taken; sends = c.len.result } in
-    let events : sends_of c.push_reserved.new.self.items ≡ sends_of c.self.inside.events.items + c.len.result = ap sends_of c.push_reserved.ensures.items ∙ sends_push c.self.inside.events.items event in
-    let messages : length c.copy_all.new.messages.items ≡ length c.self.inside.sent.items + length c.args.sent.now.messages = ap length c.copy_all.ensures.items ∙ length-append c.self.inside.sent.items c.args.sent.now.messages in
-    let ending : length c.push_reserved.new.self.items ≡ length c.self.inside.events.items + 1 = ap length c.push_reserved.ensures.items ∙ length-append c.self.inside.events.items (event ∷ []) in
-    let kept = ap (λ (w : Written). w.room) c.self.view_is in
-    record { counted = omega (arith, events, messages); few = omega (arith, ending, kept, c.requires, c.self.invariant.few); place = omega (arith, ending, kept, c.requires, c.self.invariant.place, c.push_reserved.ensures.capacity); places = omega (arith, messages, kept, c.requires, c.self.invariant.places, c.copy_all.ensures.room) }
+    let one : Logged = record { entry = c.args.entry; taken = c.args.taken; sent = c.args.sent.now.messages } in
+    let is : IsRecord c.self.inside.node.0 one = subst (λ (w : Written). IsRecord w.number one) (sym c.self.view_is) c.requires.record in
+    let fits : FitsRecord one = record { stamp = c.put_entry.ensures.stamp; event = c.put_entry.ensures.event; taken = c.put_taken.ensures.fits; sent = c.put_sends.ensures.fits } in
+    let grown = put_all one _ _ _ _ c.put_entry.ensures.items c.put_taken.ensures.items c.put_sends.ensures.items in
+    let room = ap (λ (w : Written). w.room) c.self.view_is in
+    packed_more c.self.inside.node.0 c.self.inside.events c.self.inside.bytes.items c.put_sends.new.bytes.items c.self.inside.room _ _ one c.self.invariant is fits grown (omega (arith, room, c.requires.room))
+    (omega (arith, room, c.requires.room, c.self.invariant.place, c.put_entry.ensures.len, c.put_entry.ensures.room, c.put_taken.ensures.len, c.put_taken.ensures.room, c.put_sends.ensures.len, c.put_sends.ensures.room))
 
 pub returns : goal.returns
 returns c =
-    let event : Record = record { entry = c.args.entry; taken = c.args.taken; sends = c.len.result } in
-    let grown : gathered c.push_reserved.new.self.items c.copy_all.new.messages.items ≡ gathered c.self.inside.events.items c.self.inside.sent.items ++ with_sent event c.args.sent.now.messages ∷ [] =
-    (λ x. gathered (c.push_reserved.ensures.items x) (c.copy_all.ensures.items x)) ∙ gathered_push c.self.inside.events.items c.self.inside.sent.items event c.args.sent.now.messages c.self.invariant.counted c.len.ensures in
-    λ x. record { entries = (grown ∙ ap (λ (w : Written). w.entries ++ with_sent event c.args.sent.now.messages ∷ []) c.self.view_is) x; room = 0 }
+    let one : Logged = record { entry = c.args.entry; taken = c.args.taken; sent = c.args.sent.now.messages } in
+    let is : IsRecord c.self.inside.node.0 one = subst (λ (w : Written). IsRecord w.number one) (sym c.self.view_is) c.requires.record in
+    let fits : FitsRecord one = record { stamp = c.put_entry.ensures.stamp; event = c.put_entry.ensures.event; taken = c.put_taken.ensures.fits; sent = c.put_sends.ensures.fits } in
+    let grown = put_all one _ _ _ _ c.put_entry.ensures.items c.put_taken.ensures.items c.put_sends.ensures.items in
+    let read = read_more c.self.inside.node.0 c.self.inside.events c.self.inside.bytes.items c.self.invariant.packed c.self.invariant.records one c.put_sends.new.bytes.items is fits grown in
+    λ x. record { number = (c.self.view_is x).number; entries = (read ∙ ap (λ (w : Written). w.entries ++ one ∷ []) c.self.view_is) x; room = 0 }

@@ -1,0 +1,182 @@
+ghost use Rattle.std.specs.Prelude.{◌≡◌, ◌+◌, ◌*◌, ◌≤◌, ◌<◌, ◌^◌, ◌∷◌, ◌++◌, [], length, flat_map, vec_capacity, IfSome};
+ghost use Rattle.std.specs.List.{AllByRecursion};
+ghost use Rattle.alw_msg.specs.Kinds.{kind_number};
+ghost use Rattle.alw_cells.specs.Layout.{word, half, tag_of, argument_of, body_bytes, taken_bytes, sent_bytes, front_bytes, back_bytes};
+ghost use Rattle.alw_cells.specs.Records.{FitsLine, FitsMsg, FitsSend, FitsEvent};
+
+use alw_msg::{Entry, Event, Kind, Msg, Sends};
+use alw_num::Line;
+use byteorder::{BigEndian, ByteOrder};
+
+/// The event of a record, with its stamp, goes behind bytes.
+#[tactic(auto, unfolding(crate::specs::Layout::front_bytes))]
+pub fn put_entry(bytes: &mut Vec<u8>, entry: Entry)
+    requires { length bytes.old.items + 9 ≤ vec_capacity bytes.old }
+    ensures items { bytes.new.items ≡ bytes.old.items ++ front_bytes entry }
+    ensures len { length bytes.new.items ≡ length bytes.old.items + 9 }
+    ensures room { vec_capacity bytes.old ≤ vec_capacity bytes.new }
+    ensures stamp { entry.stamp < 2 ^ 32 }
+    ensures event { FitsEvent entry.event }
+{
+    put_word(bytes, entry.stamp);
+    put_byte(bytes, tag(entry.event));
+    put_word(bytes, argument(entry.event));
+}
+
+/// The message that an event took goes behind bytes, where it took one.
+#[tactic(auto, unfolding(crate::specs::Layout::taken_bytes))]
+pub fn put_taken(bytes: &mut Vec<u8>, taken: Option<Msg>)
+    requires { length bytes.old.items + 27 ≤ vec_capacity bytes.old }
+    ensures items { bytes.new.items ≡ bytes.old.items ++ taken_bytes taken }
+    ensures len { length bytes.new.items ≤ length bytes.old.items + 27 }
+    ensures room { vec_capacity bytes.old ≤ vec_capacity bytes.new }
+    ensures fits { IfSome taken FitsMsg }
+{
+    if let Some(msg) = taken {
+        put_byte(bytes, number_of(msg.kind));
+        put_word(bytes, msg.line.0);
+        put_half(bytes, msg.src.0);
+        put_word(bytes, msg.stamp);
+        put_body(bytes, msg.kind, msg.body);
+    }
+}
+
+/// The messages that an event sent go behind bytes, and their number before them.
+pub fn put_sends(bytes: &mut Vec<u8>, sent: &Sends)
+    requires room { length bytes.old.items + 2 + 23 * length sent.now.messages ≤ vec_capacity bytes.old }
+    requires few { length sent.now.messages < 2 ^ 16 }
+    ensures items { bytes.new.items ≡ bytes.old.items ++ back_bytes sent.now.messages }
+    ensures len { length bytes.new.items ≤ length bytes.old.items + 2 + 23 * length sent.now.messages }
+    ensures room { vec_capacity bytes.old ≤ vec_capacity bytes.new }
+    ensures fits { AllByRecursion FitsSend sent.now.messages }
+{
+    put_half(bytes, sent.len() as u16);
+    for i in 0..sent.len() {
+        let (to, msg) = sent.at(i);
+        put_sent(bytes, to.0, msg);
+    }
+}
+
+// A message that was sent goes behind bytes, after its receiver.
+#[tactic(auto, unfolding(crate::specs::Layout::sent_bytes))]
+fn put_sent(bytes: &mut Vec<u8>, to: u16, msg: Msg)
+    requires { length bytes.old.items + 23 ≤ vec_capacity bytes.old }
+    ensures items { bytes.new.items ≡ bytes.old.items ++ sent_bytes (to, msg) }
+    ensures len { length bytes.new.items ≤ length bytes.old.items + 23 }
+    ensures room { vec_capacity bytes.old ≤ vec_capacity bytes.new }
+    ensures fits { FitsSend (to, msg) }
+{
+    put_half(bytes, to);
+    put_byte(bytes, number_of(msg.kind));
+    put_word(bytes, msg.line.0);
+    put_body(bytes, msg.kind, msg.body);
+}
+
+// The line that a message carries goes behind bytes, where its kind carries one.
+#[tactic(auto, unfolding(crate::specs::Layout::body_bytes))]
+fn put_body(bytes: &mut Vec<u8>, kind: Kind, body: Line)
+    requires { length bytes.old.items + 16 ≤ vec_capacity bytes.old }
+    ensures items { bytes.new.items ≡ bytes.old.items ++ body_bytes kind body }
+    ensures len { length bytes.new.items ≤ length bytes.old.items + 16 }
+    ensures room { vec_capacity bytes.old ≤ vec_capacity bytes.new }
+    ensures fits { FitsLine body }
+{
+    if kind.carries_body() {
+        put_word(bytes, body.a);
+        put_word(bytes, body.b);
+        put_word(bytes, body.c);
+        put_word(bytes, body.d);
+    }
+}
+
+// Which event it is.
+fn tag(event: Event) -> u8
+    ensures { result ≡ tag_of event }
+{
+    match event {
+        Event::Instr { .. } => 0,
+        Event::Deliver { .. } => 1,
+        Event::Handle { .. } => 2,
+        Event::Evict { .. } => 3,
+    }
+}
+
+// The sender of a delivery, the set of an eviction, and else 0.
+fn argument(event: Event) -> u32
+    ensures argument { result ≡ argument_of event }
+    ensures fits { FitsEvent event }
+{
+    match event {
+        Event::Deliver { from, .. } => u32::from(from.0),
+        Event::Evict { set, .. } => set,
+        Event::Instr { .. } | Event::Handle { .. } => 0,
+    }
+}
+
+// Kinds by number.
+fn number_of(kind: Kind) -> u8
+    ensures { result ≡ kind_number kind }
+{
+    match kind {
+        Kind::RREQ => 0,
+        Kind::WREQ => 1,
+        Kind::REPM => 2,
+        Kind::UPDATE => 3,
+        Kind::ACKC => 4,
+        Kind::RDATA => 5,
+        Kind::WDATA => 6,
+        Kind::INV => 7,
+        Kind::BUSY => 8,
+    }
+}
+
+// A number in four bytes goes behind others.
+#[tactic(auto, unfolding(crate::specs::Layout::word))]
+fn put_word(bytes: &mut Vec<u8>, number: u32)
+    requires { length bytes.old.items + 4 ≤ vec_capacity bytes.old }
+    ensures items { bytes.new.items ≡ bytes.old.items ++ word number }
+    ensures len { length bytes.new.items ≡ length bytes.old.items + 4 }
+    ensures room { vec_capacity bytes.old ≤ vec_capacity bytes.new }
+{
+    let mut four = [0; 4];
+    let field: &mut [u8] = &mut four;
+    BigEndian::write_u32(field, number);
+    put(bytes, field);
+}
+
+// A number in two bytes goes behind others.
+#[tactic(auto, unfolding(crate::specs::Layout::half))]
+fn put_half(bytes: &mut Vec<u8>, number: u16)
+    requires { length bytes.old.items + 2 ≤ vec_capacity bytes.old }
+    ensures items { bytes.new.items ≡ bytes.old.items ++ half number }
+    ensures len { length bytes.new.items ≡ length bytes.old.items + 2 }
+    ensures room { vec_capacity bytes.old ≤ vec_capacity bytes.new }
+{
+    let mut two = [0; 2];
+    let field: &mut [u8] = &mut two;
+    BigEndian::write_u16(field, number);
+    put(bytes, field);
+}
+
+// A byte goes behind others.
+fn put_byte(bytes: &mut Vec<u8>, byte: u8)
+    requires { length bytes.old.items + 1 ≤ vec_capacity bytes.old }
+    ensures items { bytes.new.items ≡ bytes.old.items ++ byte ∷ [] }
+    ensures len { length bytes.new.items ≡ length bytes.old.items + 1 }
+    ensures room { vec_capacity bytes.old ≤ vec_capacity bytes.new }
+{
+    bytes.push_reserved(byte);
+}
+
+// Bytes go behind others, for which there is room.
+fn put(bytes: &mut Vec<u8>, more: &[u8])
+    requires { length bytes.old.items + length more.now ≤ vec_capacity bytes.old }
+    ensures items { bytes.new.items ≡ bytes.old.items ++ more.now }
+    ensures len { length bytes.new.items ≡ length bytes.old.items + length more.now }
+    ensures room { vec_capacity bytes.old ≤ vec_capacity bytes.new }
+{
+    match bytes.extend_from_slice(more) {
+        Ok(()) => {}
+        Err(_) => unreachable!(),
+    }
+}
