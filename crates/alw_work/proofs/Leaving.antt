@@ -1,5 +1,5 @@
 -- What the parts of cells are: local runs whose links agree, nodes as the logs leave them, and what their events did; and when the nodes are spent.
-use Rattle.std.proofs.Common.{◌≡◌, ℕ, zero, suc, ◌+◌, ◌<◌, true, false, Some, List, [], ◌∷◌, ◌++◌, length, map, slice_get, refl, sym, ap, subst, ◌∙◌, arith, append_assoc, append-nil, length-append, ◌^◌}
+use Rattle.std.proofs.Common.{◌≡◌, ℕ, Bool, zero, suc, ◌+◌, ◌<◌, true, false, Some, List, [], ◌∷◌, ◌++◌, length, map, slice_get, refl, sym, ap, subst, ◌∙◌, arith, append_assoc, append-nil, length-append, ◌^◌}
 use Rattle.std.proofs.lemmas.List.{map-append, length-map}
 use Rattle.std.proofs.lemmas.Bool.{true≢false}
 use Rattle.std.proofs.lemmas.Option.{same_Some, slice_get-map}
@@ -19,11 +19,12 @@ use Rattle.alw_cells.specs.Cells.{Cell, in_from, dids_of, IsSpent}
 use Rattle.alw_cells.specs.Logs.{Written, logged}
 use Rattle.alw_cells.specs.Leaving.{whole_after, IsWorked}
 use Rattle.alw_cells.proofs.Runs.{local_run, left_alike, answers_alike}
-use Rattle.alw_work.specs.Works.{holds_trap, AreSpent}
-use Rattle.alw_work.specs.Seats.{EachAt, logs_in, nodes_in, dids_in, AreParts, StandsAt, HasTrapped, AreAlone, AreFinished}
+use Rattle.alw_work.specs.Works.{holds_trap, AreSpent, IsLeft}
+use Rattle.alw_work.specs.Seats.{EachAt, logs_in, nodes_in, dids_in, AreParts, StandsAt, HasTrapped, AreGathered, AreAlone, AreFinished}
 use Rattle.alw_work.specs.Ties.{AllAgree}
 use Rattle.alw_work.proofs.Trapping.{holds_same}
 use Rattle.alw_work.proofs.Finishing.{get_within}
+use Rattle.alw_work.proofs.Closings.{still_agree}
 
 -- the cell and the log of a place
 log_of : (cells : List Cell) (n : ℕ) → n < length cells → (cell : Cell) × ((slice_get cells n ≡ Some cell) × (log_at (logs_in cells) n ≡ cell.log))
@@ -146,6 +147,36 @@ still_cells parts parameters before after each are k cell at =
 pub all_spent : (before after : List Cell) → AreFinished before after → (k : ℕ) (cell : Cell) → slice_get after k ≡ Some cell
     → IsSpent cell.node.parameters cell.node.state
 all_spent before after are k cell at = (are.each k cell at).1.1.spent
+
+-- ---- cells once the links are closed
+
+-- all of them stand in their places, their links agree, and a mark of a trap is of one of them that has trapped
+pub record AreTaken (parts : Parts) (parameters : Parameters) (cells : List Cell) (trapped : Bool) : Type 0 where
+  pub count : length cells ≡ node_count parts
+  pub each : EachAt (StandsAt parts parameters) cells
+  pub agree : AllAgree cells
+  pub marked : trapped ≡ true → (k : ℕ) × ((cell : Cell) × ((slice_get cells k ≡ Some cell) × HasTrapped cell))
+
+pub taken : (parts : Parts) (parameters : Parameters) (nodes : ℕ) (gathered closed cells : List Cell) (trapped : Bool) → AreGathered parts parameters nodes gathered trapped → nodes ≡ node_count parts
+    → closed ≡ gathered → AllAgree gathered → cells ≡ closed → AreTaken parts parameters cells trapped
+taken parts parameters nodes gathered closed cells trapped are count same agree too =
+    subst (λ (cs : List Cell). AreTaken parts parameters cs trapped) (sym (too ∙ same)) (record { count = are.count ∙ count; each = are.each; agree = agree; marked = are.marked })
+
+module _ (parts : Parts) (parameters : Parameters) (cells : List Cell) (trapped : Bool) (are : AreTaken parts parameters cells trapped) where
+  pub left_at_trap : (worked : Worked) → trapped ≡ true → AreParts cells worked → IsLeft parts parameters worked
+  left_at_trap worked traps split =
+      let one = are.marked traps in (
+        worked_by parts parameters cells worked are.count are.each are.agree split,
+        left_trapped parts parameters cells are.count are.each one.0 one.1.0 one.1.1.0 one.1.1.1 (logged worked.logs) split.logs,
+      )
+
+  pub left_at_end : (after : List Cell) (worked : Worked) → AreFinished cells after → AreParts after worked → IsLeft parts parameters worked
+  left_at_end after worked finished split =
+      let count = finished.count ∙ are.count in
+      let each = still_cells parts parameters cells after are.each finished in (
+        worked_by parts parameters after worked count each (still_agree cells after are.agree finished) split,
+        left_spent parts parameters after count each (all_spent cells after finished) (logged worked.logs) split.logs,
+      )
 
 -- ---- cells that are split, one after the other
 

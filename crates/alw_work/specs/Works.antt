@@ -9,7 +9,10 @@ use Rattle.alw_model.specs.declared.steps.Did.TheVariants.{Turn}
 use Rattle.alw_model.specs.NodeStates.{NodeState, node_start}
 use Rattle.alw_model.specs.NodeSteps.{node_step}
 use Rattle.alw_model.specs.Threads.{Logged, Logs, log_at, node_after}
+use Rattle.alw_cells.specs.declared.parts.Worked.{Worked}
 use Rattle.alw_cells.specs.Cells.{IsSpent}
+use Rattle.alw_cells.specs.Logs.{logged}
+use Rattle.alw_cells.specs.Leaving.{IsWorked}
 
 -- a trapping turn
 abbrev pub is_trap : Did → Bool
@@ -32,3 +35,7 @@ abbrev pub AreSpent : Parts → Parameters → Logs → Type 0
 AreSpent parts parameters logs =
     ((n : ℕ) → n < node_count parts → holds_trap parts parameters n (log_at logs n) ≡ false)
     → (n : ℕ) → n < node_count parts → IsSpent parameters (node_after parts parameters n (node_start parts n) (log_at logs n))
+
+-- what workers leave, with nodes that are spent as told
+abbrev pub IsLeft : Parts → Parameters → Worked → Type 0
+IsLeft parts parameters worked = IsWorked parts parameters worked × AreSpent parts parameters (logged worked.logs)

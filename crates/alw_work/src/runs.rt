@@ -2,7 +2,7 @@ ghost use Rattle.std.specs.Prelude.{◌≡◌, ◌<◌, ◌*◌, length, vec_len
 ghost use Rattle.alw_image.specs.Images.{node_count};
 ghost use Rattle.alw_cells.specs.Logs.{logged};
 ghost use Rattle.alw_cells.specs.Leaving.{IsWorked};
-ghost use Rattle.alw_work.specs.Works.{AreSpent};
+ghost use Rattle.alw_work.specs.Works.{AreSpent, IsLeft};
 ghost use Rattle.alw_work.specs.Ties.{AreNewOuts, AreNewIns, AreLaid};
 
 use crate::cells::{count_nodes, finish_all, split_all, start_all};
@@ -54,8 +54,7 @@ fn run_named<I: Naming + Send + Sync, R: Threads + Wait + Sync, G: Gate>(
     requires parameters { params.now ≡ I.parameters }
     requires links { laid.links.items ≡ I.links }
     requires laid { AreLaid (node_count image.now) laid }
-    ensures worked { IfOk result (λ worked. IsWorked image.now params.now worked) }
-    ensures spent { IfOk result (λ worked. AreSpent image.now params.now (logged worked.logs)) }
+    ensures { IfOk result (λ worked. IsLeft image.now params.now worked) }
 {
     let Laid { links, outs, ins } = laid;
     let locks = lock_each(alloc, start_seats::<I>(alloc, image, params, outs, ins)?)?;
@@ -119,8 +118,7 @@ fn take_over<I: Naming, R: Wait>(
     requires parameters { params.now ≡ I.parameters }
     requires links { links.items ≡ I.links }
     requires all { length links.items ≡ node_count image.now * node_count image.now }
-    ensures worked { IfOk result (λ worked. IsWorked image.now params.now worked) }
-    ensures spent { IfOk result (λ worked. AreSpent image.now params.now (logged worked.logs)) }
+    ensures { IfOk result (λ worked. IsLeft image.now params.now worked) }
 {
     let nodes = count_nodes(image);
     let Some((mut lefts, trapped)) = gather(alloc, nodes, locks)? else {
@@ -144,8 +142,7 @@ fn run_apart(
     params: &Params,
     workers: u32,
 ) -> Result<Worked, NoMemory>
-    ensures worked { IfOk result (λ worked. IsWorked image.now params.now worked) }
-    ensures spent { IfOk result (λ worked. AreSpent image.now params.now (logged worked.logs)) }
+    ensures { IfOk result (λ worked. IsLeft image.now params.now worked) }
 {
     let mut cells = start_all(alloc, image, params)?;
     finish_all(&mut cells, u64::from(workers))?;

@@ -99,6 +99,16 @@ impl<I: Naming> Locked<I> {
     ) -> Result<Stepped, NoMemory>
         requires { links.now ≡ I.links }
     {
+        self.take_in(rt, links, signs)?;
+        let stepped = self.act(pick)?;
+        self.give_out(rt, links, signs);
+        Ok(stepped)
+    }
+
+    // Takes in what has come.
+    fn take_in<R: Wait>(&mut self, rt: &R, links: &[Link], signs: &Signs) -> Result<(), NoMemory>
+        requires { links.now ≡ I.links }
+    {
         let (number, nodes) = (self.number, self.nodes);
         fetch(
             rt,
@@ -108,8 +118,19 @@ impl<I: Naming> Locked<I> {
             &mut self.cell,
             &mut self.ins,
             signs,
-        )?;
-        let stepped = step(&mut self.cell, &mut self.trapped, pick)?;
+        )
+    }
+
+    // Takes one step.
+    fn act(&mut self, pick: u32) -> Result<Stepped, NoMemory> {
+        step(&mut self.cell, &mut self.trapped, pick)
+    }
+
+    // Gives out what was sent.
+    fn give_out<R: Wait>(&mut self, rt: &R, links: &[Link], signs: &Signs)
+        requires { links.now ≡ I.links }
+    {
+        let (number, nodes) = (self.number, self.nodes);
         self.late = offer(
             rt,
             links,
@@ -120,7 +141,6 @@ impl<I: Naming> Locked<I> {
             self.late,
             signs,
         );
-        Ok(stepped)
     }
 
     /// The number, the cell, whether it took a trapping turn, and the ends of its links, once the lock is
