@@ -2,47 +2,48 @@
 use Rattle.std.proofs.Common.{◌≡◌, ◌≢◌, ◌⊎◌, ⊎_elim, ℕ, zero, suc, ◌+◌, ◌*◌, ◌/◌, ◌%◌, ◌<◌, ◌≤◌, Bool, Option, Some, None, List, [], ◌∷◌, ◌++◌, length, map, slice_get, slice_set, refl, sym, ap, subst, ◌∙◌, arith, append_assoc, length-append}
 use Rattle.std.specs.Prelude.{option_to_list}
 use Rattle.std.specs.Option.{option_map}
-use Rattle.std.proofs.lemmas.List.{length-map}
+use Rattle.std.proofs.lemmas.List.{length-map, map-append}
 use Rattle.std.proofs.lemmas.Nat.{div-add-mod', div-mul-add, mod-mul-add, mul-add-lt}
 use Rattle.std.proofs.lemmas.Option.{same_Some, none-some, slice_get-map}
 use Rattle.alw_num.proofs.Weigh.{cases_lt_then}
 use Rattle.alw_msg.specs.declared.messages.Msg.{Msg}
 use Rattle.alw_model.specs.Threads.{took_from, sent_to, IsFront, Logs, LinksAgree}
-use Rattle.alw_cells.specs.Cells.{Cell, in_from, picked}
+use Rattle.alw_cells.specs.Cells.{Cell, in_from, picked, as_carried}
 use Rattle.alw_ruled.specs.Ends.{LinkName}
 use Rattle.alw_work.specs.declared.ends.Out.{Out}
 use Rattle.alw_work.specs.declared.ends.In.{In}
 use Rattle.alw_work.specs.declared.closing.Left.{Left}
 use Rattle.alw_work.specs.Seats.{EachAt, came_of, AreAlone, AreFinished}
-use Rattle.alw_work.specs.Ties.{given, FitsOut, FitsIn, cells_in, IsTied, AreTied, Keeps, AgreesAt, AllAgree, TakesOut, TakesIn, TakesLast}
+use Rattle.alw_work.specs.Ties.{given, all_carried, SendsPlain, SendPlain, FitsOut, FitsIn, cells_in, IsTied, AreTied, Keeps, AgreesAt, AllAgree, TakesOut, TakesIn, TakesLast}
 use Rattle.alw_work.proofs.Finishing.{get_last, get_left, each_set}
 
 -- ---- one link
 
-pub agrees_one : (links : List LinkName) (nodes from to : ℕ) (one other : Cell) (out : Out) (come : In) (left : List Msg) → FitsOut links nodes from one to out → FitsIn links nodes to other from come
-    → out.end.pushed ≡ come.end.popped ++ left → IsFront (came_of other from) (sent_to to one.log)
-agrees_one links nodes from to one other out come left fits_out fits_in closed =
+pub agrees_one : (links : List LinkName) (nodes from to : ℕ) (one other : Cell) (out : Out) (come : In) (left : List Msg) → SendsPlain one → FitsOut links nodes from one to out
+    → FitsIn links nodes to other from come → out.end.pushed ≡ come.end.popped ++ left → IsFront (came_of other from) (sent_to to one.log)
+agrees_one links nodes from to one other out come left plain fits_out fits_in closed =
     let came = came_of other from in
-    let held = option_to_list come.kept in
-    let kept = option_to_list out.kept in
-    let waits = picked to one.pending in
-    let pushed : out.end.pushed ≡ (came ++ held) ++ left = closed ∙ ap (λ (xs : List Msg). xs ++ left) fits_in.words in (
-      held ++ (left ++ (kept ++ waits)),
-      sym (append_assoc came held (left ++ (kept ++ waits)))
-          ∙ (sym (append_assoc (came ++ held) left (kept ++ waits))
-          ∙ (sym (append_assoc ((came ++ held) ++ left) kept waits)
-          ∙ (ap (λ (xs : List Msg). (xs ++ kept) ++ waits) (sym pushed) ∙ fits_out.words))),
+    let held = all_carried (option_to_list come.kept) in
+    let behind : List Msg = left ++ (option_to_list out.kept ++ picked to one.pending) in
+    let sent : sent_to to one.log ≡ come.end.popped ++ behind = sym fits_out.words
+    ∙ (ap (λ (xs : List Msg). (xs ++ option_to_list out.kept) ++ picked to one.pending) closed
+    ∙ (append_assoc (come.end.popped ++ left) (option_to_list out.kept) (picked to one.pending)
+    ∙ append_assoc come.end.popped left (option_to_list out.kept ++ picked to one.pending))) in (
+      held ++ all_carried behind,
+      sym (append_assoc came held (all_carried behind))
+          ∙ (ap (λ (xs : List Msg). xs ++ all_carried behind) (sym fits_in.words)
+          ∙ (sym (map-append as_carried come.end.popped behind) ∙ (ap all_carried (sym sent) ∙ plain to))),
     )
 
 -- the same, of the cells at their places
 pub agrees_found : (links : List LinkName) (nodes from to : ℕ) (cells : List Cell) (out : Out) (come : In) (left : List Msg)
-    → (one : Cell) → slice_get cells from ≡ Some one → FitsOut links nodes from one to out
+    → SendPlain cells → (one : Cell) → slice_get cells from ≡ Some one → FitsOut links nodes from one to out
     → (other : Cell) → slice_get cells to ≡ Some other → FitsIn links nodes to other from come
     → out.end.pushed ≡ come.end.popped ++ left → AgreesAt cells from to
-agrees_found links nodes from to cells out come left one at_one fits_out other at_other fits_in closed first second at_first at_second =
+agrees_found links nodes from to cells out come left plain one at_one fits_out other at_other fits_in closed first second at_first at_second =
     subst (λ (y : Cell × Cell). IsFront (came_of y.1 from) (sent_to to y.0.log))
     (λ i. (same_Some one first (sym at_one ∙ at_first) i, same_Some other second (sym at_other ∙ at_second) i))
-    (agrees_one links nodes from to one other out come left fits_out fits_in closed)
+    (agrees_one links nodes from to one other out come left (plain from one at_one) fits_out fits_in closed)
 
 -- ---- the links from a place on
 
@@ -120,12 +121,12 @@ module _ (all : List LinkName) (nodes : ℕ) (start : List Left) (links rest : L
   pub receiver_is : come.end.link ≡ link
   receiver_is = name_is come.end.link fits_in.2.name
 
-  pub closed_next : (left : List Msg) → out.end.pushed ≡ come.end.popped ++ left → AreClosed all nodes start rest after
-  closed_next left ends =
+  pub closed_next : SendPlain (cells_in start) → (left : List Msg) → out.end.pushed ≡ come.end.popped ++ left → AreClosed all nodes start rest after
+  closed_next plain left ends =
       let cells = cells_in start in
       let at_one : slice_get cells from ≡ Some fits_out.0 = ap (λ (cs : List Cell). slice_get cs from) (sym closed.cells) ∙ fits_out.1 in
       let at_other : slice_get cells to ≡ Some fits_in.0 = ap (λ (cs : List Cell). slice_get cs to) (sym (takes.cells ∙ closed.cells)) ∙ fits_in.1 in
-      let agrees : AgreesAt cells from to = agrees_found all nodes from to cells out come left fits_out.0 at_one fits_out.2 fits_in.0 at_other fits_in.2 ends in
+      let agrees : AgreesAt cells from to = agrees_found all nodes from to cells out come left plain fits_out.0 at_one fits_out.2 fits_in.0 at_other fits_in.2 ends in
       let more : length links ≡ length rest + 1 = ap length popped ∙ length-append rest (link ∷ []) in
       record {
         keeps = λ place one at. keeps place one (get_left rest link one place at);

@@ -11,7 +11,7 @@ use Rattle.alw_ruled.specs.Ends.{LinkName, sender_at_start, receiver_at_start}
 use Rattle.alw_work.specs.declared.ends.Out.{Out}
 use Rattle.alw_work.specs.declared.ends.In.{In}
 use Rattle.alw_work.specs.Seats.{EachAt, came_of}
-use Rattle.alw_work.specs.Ties.{given, IsNewOut, IsNewIn, AreNewOuts, AreNewIns, AreColumns, Keeps, AreTiedOuts, AreTiedIns}
+use Rattle.alw_work.specs.Ties.{given, all_carried, IsNewOut, IsNewIn, AreNewOuts, AreNewIns, AreColumns, Keeps, AreTiedOuts, AreTiedIns}
 use Rattle.alw_work.proofs.Finishing.{get_last, get_left, get_within, set_length, at_place, each_set, each_none, each_push, none_come}
 
 -- ---- a link more
@@ -108,4 +108,4 @@ ins_start links nodes number parts parameters cell ins is each = subst (λ (c : 
     at_start : AreTiedIns links nodes number (cell_start parts parameters number) ins
     at_start k come at =
         let new = each k come at in
-        record { name = new.name; words = new.empty.0 ∙ sym (λ i. none_come (node_count parts) k i ++ option_to_list (new.empty.1 i)) }
+        record { name = new.name; words = ap all_carried new.empty.0 ∙ sym (λ i. none_come (node_count parts) k i ++ all_carried (option_to_list (new.empty.1 i))) }

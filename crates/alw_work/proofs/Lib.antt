@@ -6,3 +6,4 @@ mod Tying
 mod Turning
 mod Layings
 mod Closings
+mod Plain

@@ -11,7 +11,7 @@ use Rattle.alw_ruled.specs.Ends.{LinkName}
 use Rattle.alw_work.specs.declared.ends.Out.{Out}
 use Rattle.alw_work.specs.declared.ends.In.{In}
 use Rattle.alw_work.specs.Seats.{came_of, Works}
-use Rattle.alw_work.specs.Ties.{given, FitsOut, FitsIn, AreTiedOuts, AreTiedIns, Receives, IsSameButCome, IsSameButGiven, Fetches, Offers}
+use Rattle.alw_work.specs.Ties.{given, all_carried, FitsOut, FitsIn, AreTiedOuts, AreTiedIns, Receives, IsSameButCome, IsSameButGiven, Fetches, Offers}
 use Rattle.alw_work.proofs.Finishing.{at_place}
 
 -- two links at one place are one
@@ -28,7 +28,7 @@ module _ (links : List LinkName) (nodes number : ℕ) (before after : Cell) wher
       (λ (h : (k ≢ from) × (slice_get ins k ≡ Some come)).
       let was = tied k come h.1 in
       let same : came_of before k ≡ came_of after k = λ i. took_from k (sym fetches.same.log i) ++ sym (fetches.others k h.0) i in
-      record { name = was.name; words = was.words ∙ ap (λ (xs : List Msg). xs ++ option_to_list come.kept) same }) (at_place ins from new k come at)
+      record { name = was.name; words = was.words ∙ ap (λ (xs : List Msg). xs ++ all_carried (option_to_list come.kept)) same }) (at_place ins from new k come at)
 
   pub outs_same : (outs : List Out) → IsSameButCome before after → AreTiedOuts links nodes number before outs → AreTiedOuts links nodes number after outs
   outs_same outs same tied k out at =
@@ -39,7 +39,7 @@ module _ (links : List LinkName) (nodes number : ℕ) (before after : Cell) wher
   ins_same ins same tied k come at =
       let was = tied k come at in
       let whole : came_of before k ≡ came_of after k = λ i. took_from k (sym same.log i) ++ in_from (sym same.come i) k in
-      record { name = was.name; words = was.words ∙ ap (λ (xs : List Msg). xs ++ option_to_list come.kept) whole }
+      record { name = was.name; words = was.words ∙ ap (λ (xs : List Msg). xs ++ all_carried (option_to_list come.kept)) whole }
 
   -- ---- steps
 
@@ -56,7 +56,7 @@ module _ (links : List LinkName) (nodes number : ℕ) (before after : Cell) wher
   pub ins_work : (ins : List In) → Works before after → AreTiedIns links nodes number before ins → AreTiedIns links nodes number after ins
   ins_work ins works tied k come at =
       let was = tied k come at in
-      record { name = was.name; words = was.words ∙ ap (λ (xs : List Msg). xs ++ option_to_list come.kept) (sym (works.came k)) }
+      record { name = was.name; words = was.words ∙ ap (λ (xs : List Msg). xs ++ all_carried (option_to_list come.kept)) (sym (works.came k)) }
 
   -- ---- messages that are given out
 

@@ -3,7 +3,7 @@ use Rattle.std.specs.Prelude.{◌≡◌, ◌≢◌, ℕ, ◌+◌, ◌*◌, ◌<�
 use Rattle.std.specs.Global.{Vec}
 use Rattle.alw_msg.specs.declared.messages.Msg.{Msg}
 use Rattle.alw_model.specs.Threads.{sent_to, IsFront}
-use Rattle.alw_cells.specs.Cells.{Cell, in_from, picked}
+use Rattle.alw_cells.specs.Cells.{Cell, in_from, picked, as_carried}
 use Rattle.alw_ruled.specs.Ends.{LinkName}
 use Rattle.alw_work.specs.declared.ends.Out.{Out}
 use Rattle.alw_work.specs.declared.ends.In.{In}
@@ -20,10 +20,14 @@ pub record FitsOut (links : List LinkName) (nodes number : ℕ) (cell : Cell) (t
   pub name : slice_get links (number * nodes + to) ≡ Some out.end.link
   pub words : given out ++ picked to cell.pending ≡ sent_to to cell.log
 
+-- messages as their kinds carry them, which is how a cell takes them in
+abbrev pub all_carried : List Msg → List Msg
+all_carried messages = map as_carried messages
+
 -- the receiver's end of the link from a node: what it popped is what has come, and the message that it keeps
 pub record FitsIn (links : List LinkName) (nodes number : ℕ) (cell : Cell) (from : ℕ) (come : In) : Type 0 where
   pub name : slice_get links (from * nodes + number) ≡ Some come.end.link
-  pub words : come.end.popped ≡ came_of cell from ++ option_to_list come.kept
+  pub words : all_carried come.end.popped ≡ came_of cell from ++ all_carried (option_to_list come.kept)
 
 -- all ends of a node
 abbrev pub AreTiedOuts : List LinkName → ℕ → ℕ → Cell → List Out → Type 0
@@ -38,7 +42,7 @@ AreTiedIns links nodes number cell ins = EachAt (FitsIn links nodes number cell)
 pub record Receives (before after : In) (msg : Option Msg) : Type 0 where
   pub link : after.end.link ≡ before.end.link
   pub empty : after.kept ≡ None
-  pub words : (came : List Msg) → before.end.popped ≡ came ++ option_to_list before.kept → after.end.popped ≡ came ++ option_to_list msg
+  pub words : (came : List Msg) → all_carried before.end.popped ≡ came ++ all_carried (option_to_list before.kept) → all_carried after.end.popped ≡ came ++ all_carried (option_to_list msg)
 
 -- messages have come into in lists alone
 pub record IsSameButCome (before after : Cell) : Type 0 where
@@ -57,7 +61,7 @@ pub record Fetches (from : ℕ) (before after : Cell) (old new : In) : Type 0 wh
   pub same : IsSameButCome before after
   pub link : new.end.link ≡ old.end.link
   pub others : (k : ℕ) → k ≢ from → in_from after.come k ≡ in_from before.come k
-  pub words : old.end.popped ≡ came_of before from ++ option_to_list old.kept → new.end.popped ≡ came_of after from ++ option_to_list new.kept
+  pub words : all_carried old.end.popped ≡ came_of before from ++ all_carried (option_to_list old.kept) → all_carried new.end.popped ≡ came_of after from ++ all_carried (option_to_list new.kept)
 
 -- a message to a node went from the out list to the end
 pub record Offers (to : ℕ) (before after : Cell) (old new : Out) : Type 0 where
@@ -67,6 +71,13 @@ pub record Offers (to : ℕ) (before after : Cell) (old new : Out) : Type 0 wher
   pub words : given new ++ picked to after.pending ≡ given old ++ picked to before.pending
 
 -- ---- links that agree
+
+-- what a cell sent has no bytes that kinds don't carry
+abbrev pub SendsPlain : Cell → Type 0
+SendsPlain cell = (to : ℕ) → all_carried (sent_to to cell.log) ≡ sent_to to cell.log
+
+abbrev pub SendPlain : List Cell → Type 0
+SendPlain cells = EachAt (λ k. SendsPlain) cells
 
 -- what has come to one cell of another is a front of what that one sent it
 abbrev pub AgreesAt : List Cell → ℕ → ℕ → Type 0

@@ -1,7 +1,7 @@
 ghost use Rattle.std.specs.Prelude.{◌≡◌, ◌<◌, ◌*◌, true, length, vec_len, IfOk, IfSome};
 ghost use Rattle.alw_image.specs.Images.{node_count};
 ghost use Rattle.alw_work.specs.Seats.{AreGathered};
-ghost use Rattle.alw_work.specs.Ties.{cells_in, AreTied, AllAgree, TakesOut, TakesIn, TakesLast};
+ghost use Rattle.alw_work.specs.Ties.{cells_in, AreTied, SendPlain, AllAgree, TakesOut, TakesIn, TakesLast};
 
 use crate::ends::{In, Out};
 use crate::seats::{Locked, Naming};
@@ -53,6 +53,7 @@ pub fn close_all<R: Wait>(rt: &R, nodes: u16, mut links: Vec<Link>, lefts: &mut 
     requires links { length links.items ≡ nodes * nodes }
     requires count { length lefts.old.items ≡ nodes }
     requires tied { AreTied links.items nodes lefts.old.items }
+    requires plain { SendPlain (cells_in lefts.old.items) }
     ensures cells { cells_in lefts.new.items ≡ cells_in lefts.old.items }
     ensures agree { result ≡ true → AllAgree (cells_in lefts.old.items) }
 {

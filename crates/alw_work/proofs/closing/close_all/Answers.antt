@@ -25,7 +25,7 @@ loop-link-preserved g c =
     let here : length c.pop.new.self.items ≡ c.len-place.result = omega (arith, c.len-place.ensures, c.pop.new.self.ok.0) in
     closed_next c.args.links.items c.args.nodes c.args.lefts.now.items c.loop-link.links.items c.pop.new.self.items c.in-Some.link _ _ c.loop-link.lefts.items
     c.take_out.new.lefts.items c.take_in.new.lefts.items c.take_out.result c.take_in.result c.in-Some-take_out.out c.in-Some-take_in.come c.in-Some.ensures.items
-    (λ i. sym here i / c.from-nodes.ensures i) (λ i. sym here i % c.from-nodes.ensures i) c.loop-link.invariant c.take_out.ensures c.in-Some-take_out.is c.take_in.ensures c.in-Some-take_in.is c.close.ensures.0 c.close.ensures.2
+    (λ i. sym here i / c.from-nodes.ensures i) (λ i. sym here i % c.from-nodes.ensures i) c.loop-link.invariant c.take_out.ensures c.in-Some-take_out.is c.take_in.ensures c.in-Some-take_in.is c.requires.plain c.close.ensures.0 c.close.ensures.2
 
 pub returns-clause-agree : goal.returns-clause-agree
 returns-clause-agree g c = λ _.
