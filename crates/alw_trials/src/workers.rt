@@ -2,7 +2,7 @@ use crate::images::{ONE_NODE, Sizes, image_of};
 use alw_cells::{Logs, links_agree};
 use alw_image::{Image, Params, Starts};
 use alw_num::NodeNo;
-use alw_work::{Gate, OpenGate, run_workers};
+use alw_work::{Counting, Gate, OpenGate, Ready, run_workers};
 use std::alloc::Global;
 use std::sync::atomic::{AtomicBool, Ordering};
 use std::test::Fail;
@@ -41,6 +41,13 @@ impl Gate for HoldingGate {
             thread::yield_now();
         }
     }
+}
+
+// A queue of one node.
+struct One;
+
+impl Counting for One {
+    ghost nodes = { 1 };
 }
 
 // Each node stores to one line, loads from it and prints.
@@ -91,5 +98,20 @@ fn four_workers_step_four_nodes(rt: HostRuntime) -> Result<(), Fail> {
     assert_eq!(rt; worked.logs.len(), 4);
     assert!(rt; links_agree(&worked.logs));
     assert!(rt; count_events(&worked.logs) > 20);
+    Ok(())
+}
+
+#[test]
+fn a_node_is_with_one_worker_at_a_time(rt: HostRuntime) -> Result<(), Fail> {
+    let ready = Ready::<One>::start(&rt, rt.alloc(), 1)?;
+    let mut first = ready.pass(&rt)?;
+    let mut second = ready.pass(&rt)?;
+    assert_eq!(rt; ready.take(&rt, &mut first), Some(NodeNo(0)));
+    assert_eq!(rt; ready.take(&rt, &mut second), None);
+    ready.give(&rt, &mut first);
+    assert_eq!(rt; ready.take(&rt, &mut second), Some(NodeNo(0)));
+    ready.give(&rt, &mut second);
+    ready.end(&rt, first);
+    ready.end(&rt, second);
     Ok(())
 }

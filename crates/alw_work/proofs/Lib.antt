@@ -7,3 +7,4 @@ mod Turning
 mod Layings
 mod Closings
 mod Plain
+mod Fairness

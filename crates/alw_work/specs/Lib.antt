@@ -1,3 +1,4 @@
 pub mod Works
 pub mod Seats
 pub mod Ties
+pub mod Ready

@@ -8,10 +8,12 @@ mod ends;
 mod gates;
 mod laying;
 mod moves;
+mod ready;
 mod runs;
 mod seats;
 mod signs;
 mod workers;
 
 pub use gates::{Gate, OpenGate};
+pub use ready::{Counting, Ready, ReadyPass};
 pub use runs::run_workers;

@@ -10,6 +10,7 @@ use crate::closing::{cells_of, close_all, gather};
 use crate::ends::{In, Out};
 use crate::gates::Gate;
 use crate::laying::{Laid, lay_links};
+use crate::ready::Counting;
 use crate::seats::{Locked, Naming};
 use crate::workers::work;
 use alw_cells::{NodeCell, Worked};
@@ -41,7 +42,7 @@ pub fn run_workers<R: Threads + Wait + Sync, G: Gate>(
 }
 
 // The same, of the image and the parameters that the type names, over the links that it names.
-fn run_named<I: Naming + Send + Sync, R: Threads + Wait + Sync, G: Gate>(
+fn run_named<I: Naming + Counting + Send + Sync, R: Threads + Wait + Sync, G: Gate>(
     rt: &R,
     alloc: Global,
     image: &Image,
@@ -52,6 +53,7 @@ fn run_named<I: Naming + Send + Sync, R: Threads + Wait + Sync, G: Gate>(
 ) -> Result<Worked, NoMemory>
     requires image { image.now ≡ I.image }
     requires parameters { params.now ≡ I.parameters }
+    requires counted { node_count image.now ≡ I.nodes }
     requires links { laid.links.items ≡ I.links }
     requires laid { AreLaid (node_count image.now) laid }
     ensures { IfOk result (λ worked. IsLeft image.now params.now worked) }

@@ -1,6 +1,7 @@
 ghost use Rattle.std.specs.Prelude.{◌≡◌, ◌<◌, ◌^◌};
 
 use crate::gates::Gate;
+use crate::ready::{Counting, Ready};
 use crate::seats::{Locked, Naming, is_trap};
 use crate::signs::Signs;
 use alw_cells::Stepped;
@@ -16,7 +17,7 @@ const MOST_IDLE: u32 = 1024;
 
 /// Steps so many nodes on so many threads, until each worker has ended. Where a thread can't be made its
 /// worker works when the others have ended.
-pub fn work<I: Naming + Send + Sync, R: Threads + Wait + Sync, G: Gate>(
+pub fn work<I: Naming + Counting + Send + Sync, R: Threads + Wait + Sync, G: Gate>(
     rt: &R,
     alloc: Global,
     locks: &[Mutex<Locked<I>>],
@@ -26,17 +27,19 @@ pub fn work<I: Naming + Send + Sync, R: Threads + Wait + Sync, G: Gate>(
     gate: &G,
 ) -> Result<(), NoMemory>
     requires some { 0 < nodes }
+    requires counted { nodes ≡ I.nodes }
     requires links { links.now ≡ I.links }
 {
+    let ready = Ready::<I>::start(rt, alloc, u32::from(nodes))?;
     let signs = Signs::none(alloc)?;
-    let told = &signs;
+    let (queue, told) = (&ready, &signs);
     let ends = thread::map_indices(
         rt,
         alloc,
         workers as usize,
         &|k: usize| -> Result<(), NoMemory>
-            requires { (k < 2 ^ 32) × (0 < nodes) × (links.now ≡ I.links) }
-        { worker::<I, R, G>(rt, locks, links, nodes, told, gate, k as u32) },
+            requires { (k < 2 ^ 32) × (links.now ≡ I.links) }
+        { worker::<I, R, G>(rt, locks, links, queue, told, gate, k as u32) },
     )?;
     for end in &ends {
         (*end)?;
@@ -44,39 +47,41 @@ pub fn work<I: Naming + Send + Sync, R: Threads + Wait + Sync, G: Gate>(
     Ok(())
 }
 
-// Worker number k. In turn t it steps node (k + t) mod N, with a pick of its own draws. It ends after
-// enough idle steps in a row, after a trap, and where memory is refused.
-fn worker<I: Naming, R: Wait, G: Gate>(
+// Worker number k. It takes a node that no worker has, takes a turn at it with a pick of its own draws, and
+// gives it back. It ends after enough idle steps in a row, where no node is left to it, after a trap, and
+// where memory is refused.
+fn worker<I: Naming + Counting, R: Wait, G: Gate>(
     rt: &R,
     locks: &[Mutex<Locked<I>>],
     links: &[Link],
-    nodes: u16,
+    ready: &Ready<I>,
     signs: &Signs,
     gate: &G,
     k: u32,
 ) -> Result<(), NoMemory>
-    requires some { 0 < nodes }
-    requires links { links.now ≡ I.links }
+    requires { links.now ≡ I.links }
 {
+    let mut pass = ready.pass(rt)?;
     let mut draws = Draws {
         state: u64::from(k),
     };
-    let mut place = k;
     let mut idle = 0u32;
     for _ in rt.forever() {
         if idle >= MOST_IDLE || signs.has_stopped() {
             return Ok(());
         }
-        let node = place % u32::from(nodes);
-        place = node + 1;
-        let Some(lock) = locks.get(node as usize) else {
+        let Some(node) = ready.take(rt, &mut pass) else {
             return Ok(());
         };
-        gate.pass(k, node);
+        let Some(lock) = locks.get(usize::from(node.0)) else {
+            return Ok(());
+        };
+        gate.pass(k, u32::from(node.0));
         match turn(rt, lock, links, signs, draws.draw())? {
             Stepped::Did { .. } => idle = 0,
             Stepped::Idle => idle += 1,
         }
+        ready.give(rt, &mut pass);
     }
     Ok(())
 }
