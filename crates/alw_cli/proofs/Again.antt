@@ -51,8 +51,8 @@ module _ (image : Parts) (p : Parameters) (journal : List Entry) (e : Ended) (is
       is.words,
       omega (
         arith,
-        journal_fits (record { image = image; parameters = p; journal = journal })
-            (record { image = is.image_is; parameters = is.parameters_are; fits = is.fits; legal = is.run.legal }),
+        journal_fits (record { image = image; parameters = p; journal = journal; joined = 0 })
+            (record { image = is.image_is; parameters = is.parameters_are; fits = is.fits; legal = is.run.legal; joined = omega arith }),
       ),
     );
   }

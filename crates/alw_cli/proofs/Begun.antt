@@ -99,19 +99,19 @@ module _ (image : Parts) (params : Parameters) (entries : List Entry) (merge : I
   kept_all machine kept replayed =
       replayed.longest (length entries) (omega arith) (subst (λ (es : List Entry). IsLegal image params es) (sym (take_all (length entries) entries (omega arith))) legal)
 
-  machine_is : (machine : History) (kept : ℕ) → IsReplayed image params entries machine kept → machine ≡ record { image = image; parameters = params; journal = entries }
+  machine_is : (machine : History) (kept : ℕ) → IsReplayed image params entries machine kept → machine ≡ record { image = image; parameters = params; journal = entries; joined = 0 }
   machine_is machine kept replayed =
-      replayed.is ∙ ap (λ (j : List Entry). record { image = image; parameters = params; journal = j }) (take_all kept entries (kept_all machine kept replayed))
+      replayed.is ∙ ap (λ (j : List Entry). record { image = image; parameters = params; journal = j; joined = 0 }) (take_all kept entries (kept_all machine kept replayed))
 
   kept_is : (machine : History) (kept : ℕ) → IsReplayed image params entries machine kept → kept ≡ length entries
   kept_is machine kept replayed = omega (arith, kept_all machine kept replayed, replayed.few)
 
   -- the schedule of seed 0 went on from there
   module _ (machine after : History) (kept : ℕ) (replayed : IsReplayed image params entries machine kept) (e : Ended) (finished : IsFinished machine 0 after e) where
-    from_all : IsSeeded (record { image = image; parameters = params; journal = entries }) 0 after
+    from_all : IsSeeded (record { image = image; parameters = params; journal = entries; joined = 0 }) 0 after
     from_all = subst (λ (h : History). IsSeeded h 0 after) (machine_is machine kept replayed) finished.seeded
 
-    after_is : after ≡ record { image = image; parameters = params; journal = after.journal }
+    after_is : after ≡ record { image = image; parameters = params; journal = after.journal; joined = 0 }
     after_is = seeded_stays _ 0 after from_all
 
     front_is : take kept after.journal ≡ entries
@@ -127,8 +127,8 @@ module _ (image : Parts) (params : Parameters) (entries : List Entry) (merge : I
           ascends = subst Ascends (sym front_is) (subst Ascends (sym merge.same) (merged_ascends image params merge.logs merge.runs));
           spent = subst (λ (es : List Entry). any_trapped (state image params es) ≡ false → (n : ℕ) → n < node_count image → IsSpent params (node_at (state image params es) n))
               (sym front_is) spent;
-          later = subst (λ (h : History). IsSeeded (record { image = image; parameters = params; journal = take kept after.journal }) 0 h) after_is
-              (subst (λ (es : List Entry). IsSeeded (record { image = image; parameters = params; journal = es }) 0 after) (sym front_is) from_all);
+          later = subst (λ (h : History). IsSeeded (record { image = image; parameters = params; journal = take kept after.journal; joined = 0 }) 0 h) after_is
+              (subst (λ (es : List Entry). IsSeeded (record { image = image; parameters = params; journal = es; joined = 0 }) 0 after) (sym front_is) from_all);
         }
 
     pub run_by_workers : (workers : ℕ) (form : Form) (run : Run) (worked : Worked) → workers ≤ node_count image → IsToldOf after e form run →

@@ -53,7 +53,7 @@ pub run_by : (image : Parts) (params : Parameters) (seed : ℕ) (before after : 
     before ≡ begun image params → IsFinished before seed after e → IsToldOf after e form run → IsRunBy seed image params form run
 run_by image params seed before after e form run started finished told =
     let done : IsFinished (begun image params) seed after e = subst (λ (h : History). IsFinished h seed after e) started finished in
-    let is : after ≡ record { image = image; parameters = params; journal = after.journal } = of_start image params seed after done.seeded in
+    let is : after ≡ record { image = image; parameters = params; journal = after.journal; joined = 0 } = of_start image params seed after done.seeded in
     record {
       made = subst (λ (h : History). IsMade h.image h.parameters form run) is (made after e form run done.run done.end told);
       seeded = subst (λ (j : List Entry). IsSeededRun image params seed j) (sym told.journal) (seeded_run image params seed after done.seeded);
@@ -88,9 +88,9 @@ no_end trace after form _ why = absurd why
 
 -- all its entries are legal
 pub all_legal : (trace : Trace) (after : History) (kept : ℕ) → IsReplayed trace.image trace.params trace.journal after kept → length trace.journal ≤ kept →
-    after ≡ record { image = trace.image; parameters = trace.params; journal = trace.journal }
+    after ≡ record { image = trace.image; parameters = trace.params; journal = trace.journal; joined = 0 }
 all_legal trace after kept replayed all =
-    replayed.is ∙ ap (λ (j : List Entry). record { image = trace.image; parameters = trace.params; journal = j }) (take_all kept trace.journal all)
+    replayed.is ∙ ap (λ (j : List Entry). record { image = trace.image; parameters = trace.params; journal = j; joined = 0 }) (take_all kept trace.journal all)
 
 pub first_illegal : (trace : Trace) (after : History) (kept : ℕ) → IsReplayed trace.image trace.params trace.journal after kept → kept < length trace.journal →
     IsFit trace × IsFirstIllegal trace kept

@@ -111,7 +111,7 @@ module _ (trace : Trace) (at evict : ℕ) (of : IsTrace trace) (types : HasTrace
 
   pub saved_resumes : IsSomeCheckpoint evict (checkpoint_text trace.image trace.params kept)
   saved_resumes = record {
-    machine = record { image = trace.image; parameters = params; journal = kept };
+    machine = record { image = trace.image; parameters = params; journal = kept; joined = 0 };
     is = record {
       evict_is = refl;
       run = record {
@@ -126,6 +126,7 @@ module _ (trace : Trace) (at evict : ℕ) (of : IsTrace trace) (types : HasTrace
         };
         fits = sound.fits;
         legal = legal_again;
+        joined = omega arith;
       };
       words = types.0;
       text = same_text;

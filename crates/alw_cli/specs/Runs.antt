@@ -76,7 +76,7 @@ RanAgain trace form (Err _) = ⊥
 -- the end that holds after a trace's entries, of which a machine has taken so many: all of them; or why there is none
 abbrev pub EndsTrace : Trace → History → Result Ended Cause → Type 0
 EndsTrace trace machine (Ok ended) =
-    (machine ≡ record { image = trace.image; parameters = trace.params; journal = trace.journal }) × IsEnd machine.image machine.parameters machine.journal ended
+    (machine ≡ record { image = trace.image; parameters = trace.params; journal = trace.journal; joined = 0 }) × IsEnd machine.image machine.parameters machine.journal ended
 EndsTrace trace machine (Err (cause.Input (reason.NotLegal k))) = IsFit trace × IsFirstIllegal trace k
 EndsTrace trace machine (Err (cause.Input reason.Unfinished)) = IsFit trace × IsUnfinished trace
 EndsTrace trace machine (Err _) = ⊥

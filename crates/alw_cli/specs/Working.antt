@@ -35,8 +35,8 @@ pub record IsBegun (image : Parts) (parameters : Parameters) (journal : List Ent
   pub ascends : Ascends (take merged journal)
   pub spent : any_trapped (state image parameters (take merged journal)) ≡ false → (n : ℕ) → n < node_count image →
       IsSpent parameters (node_at (state image parameters (take merged journal)) n)
-  pub later : IsSeeded (record { image = image; parameters = parameters; journal = take merged journal }) 0
-      (record { image = image; parameters = parameters; journal = journal })
+  pub later : IsSeeded (record { image = image; parameters = parameters; journal = take merged journal; joined = 0 }) 0
+      (record { image = image; parameters = parameters; journal = journal; joined = 0 })
 
 -- no entry is an eviction where none is to be tried
 abbrev pub KeepsCopies : Parameters → List Entry → Type 0

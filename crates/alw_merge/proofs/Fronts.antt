@@ -1,15 +1,14 @@
 -- The entries that a machine takes are the longest legal front.
-use Rattle.std.proofs.Common.{◌≡◌, ℕ, zero, suc, ◌<◌, ◌≤◌, ◌==◌, ◌&&◌, Bool, true, false, IsTrue, cond, List, [], ◌∷◌, ◌++◌, length, take, refl, sym, ap, subst, ◌∙◌, append_assoc, arith}
+use Rattle.std.proofs.Common.{◌≡◌, ℕ, zero, suc, ◌≤◌, Bool, true, false, List, [], ◌∷◌, ◌++◌, length, take, refl, sym, ap, subst, ◌∙◌, append_assoc, arith}
 use Rattle.std.proofs.lemmas.Bool.{true≢false, eqb-true}
 use Rattle.std.proofs.lemmas.Bool.Decides.{nat_tests}
 use Rattle.std.proofs.lemmas.List.{append-nil, length-take-le}
-use Rattle.alw_msg.specs.declared.events.Event.{Event}
 use Rattle.alw_msg.specs.declared.events.Entry.{Entry}
 use Rattle.alw_image.specs.declared.parts.Parts.{Parts}
 use Rattle.alw_image.specs.Parameters.{Parameters}
-use Rattle.alw_model.specs.Machine.{MachineState, machine_start, state, step, stamp_at, is_enabled, is_within_limit, is_next, IsNext, AreLegal, IsLegal}
+use Rattle.alw_model.specs.Machine.{MachineState, state, stamp_at, is_next, IsNext, AreLegal}
 use Rattle.alw_model.proofs.Journals.{and_parts, state_push}
-use Rattle.alw_mesh.specs.Histories.{History, IsRun, begun, state_of, entry_of, grown, may_be_next}
+use Rattle.alw_mesh.specs.Histories.{History, IsRun, begun, state_of, entry_of, grown}
 use Rattle.alw_merge.specs.Replays.{IsReplayed, may_follow, taken_on}
 
 -- the test says what is next
@@ -86,7 +85,7 @@ pub replayed : (image : Parts) (parameters : Parameters) (entries : List Entry) 
 unfolding state
 replayed image parameters entries machine kept taken run count =
     let front = front_of (begun image parameters) entries in
-    let is : machine ≡ record { image = image; parameters = parameters; journal = take front.n entries } = taken ∙ front.front.is in
+    let is : machine ≡ record { image = image; parameters = parameters; journal = take front.n entries; joined = 0 } = taken ∙ front.front.is in
     let same : kept ≡ front.n = count ∙ ap (λ (h : History). length h.journal) is ∙ length-take-le front.n entries front.front.few in
     record {
       few = rw same front.front.few;

@@ -1,5 +1,5 @@
 -- What a replay that took all entries, or not all, says of them.
-use Rattle.std.proofs.Common.{◌≡◌, ℕ, suc, ◌<◌, ◌≤◌, List, length, take, refl, sym, ap, subst, ◌∙◌, arith}
+use Rattle.std.proofs.Common.{◌≡◌, ℕ, suc, ◌<◌, ◌≤◌, List, length, take, sym, ap, subst, ◌∙◌, arith}
 use Rattle.std.proofs.lemmas.List.{take_all}
 use Rattle.alw_msg.specs.declared.events.Entry.{Entry}
 use Rattle.alw_image.specs.declared.parts.Parts.{Parts}
@@ -25,11 +25,11 @@ module _ {image : Parts} {parameters : Parameters} {entries : List Entry} {machi
   pub all_legal : length entries ≤ kept → IsLegal image parameters entries
   all_legal all = subst (λ (j : List Entry). IsLegal image parameters j) (take_all kept entries all) front_legal
 
-  pub all_taken : length entries ≤ kept → machine ≡ record { image = image; parameters = parameters; journal = entries }
-  all_taken all = is.is ∙ ap (λ (j : List Entry). record { image = image; parameters = parameters; journal = j }) (take_all kept entries all)
+  pub all_taken : length entries ≤ kept → machine ≡ record { image = image; parameters = parameters; journal = entries; joined = 0 }
+  all_taken all = is.is ∙ ap (λ (j : List Entry). record { image = image; parameters = parameters; journal = j; joined = 0 }) (take_all kept entries all)
 
   -- legal entries all are
-  pub legal_taken : IsLegal image parameters entries → machine ≡ record { image = image; parameters = parameters; journal = entries }
+  pub legal_taken : IsLegal image parameters entries → machine ≡ record { image = image; parameters = parameters; journal = entries; joined = 0 }
   legal_taken legal =
       let whole : IsLegal image parameters (take (length entries) entries) =
       subst (λ (j : List Entry). IsLegal image parameters j) (sym (take_all (length entries) entries (omega arith))) legal in

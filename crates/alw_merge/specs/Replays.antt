@@ -13,7 +13,7 @@ use Rattle.alw_merge.specs.declared.replays.Replayed.{Replayed}
 -- a machine has taken so many of the entries, which are legal, and no longer front of them is
 pub record IsReplayed (image : Parts) (parameters : Parameters) (entries : List Entry) (machine : History) (kept : ℕ) : Type 0 where
   pub few : kept ≤ length entries
-  pub is : machine ≡ record { image = image; parameters = parameters; journal = take kept entries }
+  pub is : machine ≡ record { image = image; parameters = parameters; journal = take kept entries; joined = 0 }
   pub run : IsRun machine
   pub longest : (k : ℕ) → k ≤ length entries → IsLegal image parameters (take k entries) → k ≤ kept
 

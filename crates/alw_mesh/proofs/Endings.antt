@@ -118,9 +118,9 @@ no_event : (events : List Event) → length events ≤ 0 → is_nonempty events 
 no_event [] none = refl
 no_event (event ∷ rest) none = absurd (omega arith)
 
-module _ {grid : Grid} {journal : List Entry} {sent : Sending} {tally : Tallied} {ready : List Row} (is : IsMachine grid journal sent tally ready) where
+module _ {grid : Grid} {journal : List Entry} {joined : ℕ} {sent : Sending} {tally : Tallied} {ready : List Row} (is : IsMachine grid journal joined sent tally ready) where
   abbrev whole : History
-  whole = record { image = grid.image; parameters = grid.parameters; journal = journal }
+  whole = record { image = grid.image; parameters = grid.parameters; journal = journal; joined = joined }
 
   -- a test of the machine is one of the state
   tested : (test : MachineState → Bool) (b : Bool) → test grid.machine ≡ b → test (state_of whole) ≡ b

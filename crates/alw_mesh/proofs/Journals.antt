@@ -1,6 +1,7 @@
 -- A machine's journal, and one event more.
-use Rattle.std.proofs.Common.{◌≡◌, ℕ, ◌+◌, ◌*◌, ◌<◌, ◌≤◌, ◌&&◌, Bool, true, false, not, IsTrue, List, [], ◌∷◌, ◌++◌, length, filter, refl, sym, ap, subst, ◌∙◌, arith}
+use Rattle.std.proofs.Common.{◌≡◌, ℕ, suc, ◌+◌, ◌*◌, ◌<◌, ◌≤◌, ◌&&◌, Bool, true, false, not, IsTrue, List, [], ◌∷◌, ◌++◌, length, drop, filter, refl, sym, ap, subst, ◌∙◌, arith}
 use Rattle.std.proofs.lemmas.Nat.{mul-le}
+use Rattle.std.proofs.lemmas.List.{drop-append-le, length-append}
 use Rattle.alw_msg.specs.declared.messages.Msg.{Msg}
 use Rattle.alw_msg.specs.declared.events.Event.{Event}
 use Rattle.alw_msg.specs.declared.events.Entry.{Entry}
@@ -10,7 +11,7 @@ use Rattle.alw_image.specs.declared.parts.Parts.{Parts}
 use Rattle.alw_image.specs.Images.{IsImage, node_count}
 use Rattle.alw_image.specs.Parameters.{Parameters, AreParameters}
 use Rattle.alw_model.specs.Machine.{MachineState, machine_start, state, has_halted, taken_by, node_at, stamp_at, is_enabled, is_within_limit, step, stepped_by, main_events, IsNext, IsLegal}
-use Rattle.alw_model.specs.Runs.{Moment, moment_of, moments}
+use Rattle.alw_model.specs.Runs.{Moment, moment_of, moments_from, moments}
 use Rattle.alw_model.proofs.Journals.{and_parts, state_push, legal_push, moments_push}
 use Rattle.alw_lift.specs.Links.{GoBelow}
 use Rattle.alw_lift.proofs.Steps.{enabled_is}
@@ -46,11 +47,28 @@ journal_fits h run =
     let lines = mul-le (node_count h.image) h.image.per_node 256 4096 nodes run.image.per_node.1 in
     omega (arith, always_bounded h.image run.image h.parameters run.parameters h.journal run.legal, run.fits)
 
+-- a journal has an event for each entry
+moments_from_long : (parts : Parts) (parameters : Parameters) (machine : MachineState) (journal : List Entry) → length (moments_from parts parameters machine journal) ≡ length journal
+moments_from_long parts parameters machine [] = refl
+moments_from_long parts parameters machine (entry ∷ rest) = ap suc (moments_from_long parts parameters (step parts parameters machine entry.event) rest)
+
+pub moments_long : (parts : Parts) (parameters : Parameters) (journal : List Entry) → length (moments parts parameters journal) ≡ length journal
+unfolding moments
+moments_long parts parameters journal = moments_from_long parts parameters (machine_start parts) journal
+
 -- one event more sends what it sends
 sent_push : (run : List Moment) (moment : Moment) → sent_last (run ++ moment ∷ []) ≡ moment.stepped.sends
 sent_push [] moment = refl
 sent_push (first ∷ []) moment = refl
 sent_push (first ∷ next ∷ rest) moment = sent_push (next ∷ rest) moment
+
+pub last_push : (h : History) → h.joined ≤ length h.journal → (event : Event) → last_sends (grown h event) ≡ (stepped_by h.image h.parameters (state_of h) event).sends
+last_push h within event =
+    let run = moments h.image h.parameters h.journal in
+    let moment = moment_of h.image h.parameters (state_of h) (entry_of h event) in
+    let some : h.joined ≤ length run = omega (arith, within, moments_long h.image h.parameters h.journal) in
+    ap (λ (all : List Moment). sent_last (drop h.joined all)) (moments_push h.image h.parameters h.journal (entry_of h event))
+    ∙ (ap sent_last (drop-append-le h.joined run (moment ∷ []) some) ∙ sent_push (drop h.joined run) moment)
 
 -- what a tally is told more
 abbrev pub Adds : Parts → Tallied → Tallied → Happened → List (ℕ × Msg) → Type 0
@@ -62,9 +80,9 @@ Renews after rows rows' change sends = (journal : List Entry) → IsLegal after.
     → IsTold after.image after.parameters (state after.image after.parameters journal) after.machine change sends
     → RowsFit after.image after.parameters (state after.image after.parameters journal) rows → RowsFit after.image after.parameters after.machine rows'
 
-module _ {grid : Grid} {journal : List Entry} {sent : Sending} {tally : Tallied} {ready : List Row} (is : IsMachine grid journal sent tally ready) where
+module _ {grid : Grid} {journal : List Entry} {joined : ℕ} {sent : Sending} {tally : Tallied} {ready : List Row} (is : IsMachine grid journal joined sent tally ready) where
   abbrev here : History
-  here = record { image = grid.image; parameters = grid.parameters; journal = journal }
+  here = record { image = grid.image; parameters = grid.parameters; journal = journal; joined = joined }
 
   -- the rows say which main events may be next
   pub events_are : events_of ready ≡ next_events here
@@ -139,15 +157,15 @@ module _ {grid : Grid} {journal : List Entry} {sent : Sending} {tally : Tallied}
 
       -- the journal after it
       pub grown_is : {journal' : List Entry} (stamp : ℕ) → stamp ≡ stamp_at grid.image grid.machine event → journal' ≡ journal ++ record { stamp = stamp; event = event } ∷ []
-          → ◌≡◌ {A = History} (record { image = after.image; parameters = after.parameters; journal = journal' }) (grown here event)
+          → ◌≡◌ {A = History} (record { image = after.image; parameters = after.parameters; journal = journal'; joined = joined }) (grown here event)
       grown_is stamp stamp_at_is pushed =
           let stamp_is = stamp_at_is ∙ ap (λ (m : MachineState). stamp_at grid.image m event) is.state_is in
           let journal_is = pushed ∙ (λ i. journal ++ record { stamp = stamp_is i; event = event } ∷ []) in
-          λ i. record { image = happens.image i; parameters = happens.parameters i; journal = journal_is i }
+          λ i. record { image = happens.image i; parameters = happens.parameters i; journal = journal_is i; joined = joined }
 
       -- what a step answers
       pub step_answers : {journal' : List Entry} (stamp : ℕ) → stamp ≡ stamp_at grid.image grid.machine event → journal' ≡ journal ++ record { stamp = stamp; event = event } ∷ []
-          → ◌≡◌ {A = History} (record { image = after.image; parameters = after.parameters; journal = journal' }) (grown here event)
+          → ◌≡◌ {A = History} (record { image = after.image; parameters = after.parameters; journal = journal'; joined = joined }) (grown here event)
           × (happening.told.did ≡ (stepped_by grid.image grid.parameters (state_of here) event).did)
       step_answers stamp stamp_at_is pushed = (
         grown_is stamp stamp_at_is pushed,
@@ -159,7 +177,7 @@ module _ {grid : Grid} {journal : List Entry} {sent : Sending} {tally : Tallied}
           → stamp ≡ stamp_at grid.image grid.machine event → journal' ≡ journal ++ record { stamp = stamp; event = event } ∷ []
           → Adds after.image tally tally' happening.told sent'.messages
           → wide ≡ is_wide happening.told.did happening.told.taken happening.changes_holds → flips ≡ (not (has_halted grid.machine) && has_halted after.machine)
-          → Renews after ready ready' (record { event = event; wide = wide; halted = flips }) sent'.messages → IsMachine after journal' sent' tally' ready'
+          → Renews after ready ready' (record { event = event; wide = wide; halted = flips }) sent'.messages → IsMachine after journal' joined sent' tally' ready'
       machine_grows {journal' = journal'} {tally' = tally'} {ready' = ready'} stamp wide flips stamp_at_is pushed adds wide_is flips_is renews =
           let entry : Entry = record { stamp = stamp; event = event } in
           let stamp_is = stamp_at_is ∙ ap (λ (m : MachineState). stamp_at grid.image m event) is.state_is in
@@ -169,11 +187,16 @@ module _ {grid : Grid} {journal : List Entry} {sent : Sending} {tally : Tallied}
           let pushed_state = state_push grid.image grid.parameters journal (entry_of here event) in
           let adds_so : Adds grid.image tally tally' happening.told sent'.messages = subst (λ p. Adds p tally tally' happening.told sent'.messages) happens.image adds in
           record {
-            run = subst IsRun (sym grown_so) (record { image = is.run.image; parameters = is.run.parameters; fits = is.run.fits; legal = legal_push grid.image grid.parameters journal (entry_of here event) is.run.legal next_is });
+            run = subst IsRun (sym grown_so) (record {
+              image = is.run.image;
+              parameters = is.run.parameters;
+              fits = is.run.fits;
+              legal = legal_push grid.image grid.parameters journal (entry_of here event) is.run.legal next_is;
+              joined = omega (arith, is.run.joined, length-append journal (entry_of here event ∷ []));
+            });
             state_is = machine_next ∙ (sym pushed_state ∙ sym (ap state_of grown_so));
             room = happens.room ∙ ap node_count (sym happens.image);
-            sends = sends_next ∙ (sym (ap sent_last (moments_push grid.image grid.parameters journal (entry_of here event)) ∙ sent_push (moments grid.image grid.parameters journal) (moment_of grid.image grid.parameters (state_of here) (entry_of here event)))
-                ∙ sym (ap last_sends grown_so));
+            sends = sends_next ∙ (sym (last_push here is.run.joined event) ∙ sym (ap last_sends grown_so));
             told = adds_so (moment_of grid.image grid.parameters grid.machine entry) (happens.told stamp)
                 ∙ ((λ i. told_with grid.image (is.told i) (moment_of grid.image grid.parameters (is.state_is i) (entry_is i)))
                 ∙ (sym (told_entry grid.image grid.parameters journal (entry_of here event)) ∙ sym (ap told_by grown_so)));
@@ -202,17 +225,17 @@ module _ {grid : Grid} {journal : List Entry} {sent : Sending} {tally : Tallied}
 -- the machine at the start
 pub machine_begins : {grid : Grid} {sent : Sending} {tally : Tallied} {ready : List Row} (image : Parts) (parameters : Parameters) → grid ≡ grid_start image parameters
     → IsImage image → AreParameters parameters → stamps_of image parameters ≤ 8388608 → sent.room ≡ node_count image → sent.messages ≡ []
-    → ((parts : Parts) → tally.told ≡ told_of parts []) → RowsFit grid.image grid.parameters grid.machine ready → IsMachine grid [] sent tally ready
+    → ((parts : Parts) → tally.told ≡ told_of parts []) → RowsFit grid.image grid.parameters grid.machine ready → IsMachine grid [] 0 sent tally ready
 unfolding state moments
 machine_begins {sent = sent} {tally = tally} {ready = ready} image parameters starts is are fits room empty told rows =
     let rows_so : RowsFit image parameters (machine_start image) ready = subst (λ (g : Grid). RowsFit g.image g.parameters g.machine ready) starts rows in
-    let begins : IsMachine (grid_start image parameters) [] sent tally ready
+    let begins : IsMachine (grid_start image parameters) [] 0 sent tally ready
     = record {
-      run = record { image = is; parameters = are; fits = fits; legal = tt };
+      run = record { image = is; parameters = are; fits = fits; legal = tt; joined = omega arith };
       state_is = refl;
       room = room;
       sends = empty;
       rows = rows_so;
       told = told image;
     } in
-    subst (λ (g : Grid). IsMachine g [] sent tally ready) (sym starts) begins
+    subst (λ (g : Grid). IsMachine g [] 0 sent tally ready) (sym starts) begins

@@ -9,3 +9,8 @@ pub mod Endings
 pub mod Finding
 pub mod Carriers
 pub mod Reading
+pub mod FewSent
+pub mod Remains
+pub mod Filling
+pub mod Trapped
+pub mod Joined

@@ -45,7 +45,7 @@ use Rattle.alw_mesh.specs.Readings.{slot_of, counts_in, flat_in, line_of, IsShar
 use Rattle.alw_mesh.specs.Grids.{Grid, IsSlotOf}
 use Rattle.alw_mesh.specs.Keeping.{IsMachine}
 use Rattle.alw_mesh.proofs.OneNode.{home_exists}
-use Rattle.alw_mesh.proofs.Journals.{journal_fits}
+use Rattle.alw_mesh.proofs.Journals.{journal_fits, moments_long}
 use Rattle.alw_mesh.specs.Values.{FirstAlone}
 use Rattle.alw_mesh.proofs.Carriers.{few_carriers, shared_carriers, owned_carriers}
 
@@ -101,21 +101,13 @@ senders_of parts n node (packet ∷ rest) are =
     let right = and_parts (is_to_memory (content packet)) _ split.0 in
     (ltb-true packet.src.0 (node_count parts) (and_parts (nat_lt packet.src.0 (node_count parts)) _ right.1).0, senders_of parts n node rest split.1)
 
-moments_from_long : (parts : Parts) (parameters : Parameters) (machine : MachineState) (journal : List Entry) → length (moments_from parts parameters machine journal) ≡ length journal
-moments_from_long parts parameters machine [] = refl
-moments_from_long parts parameters machine (entry ∷ rest) = ap suc (moments_from_long parts parameters (step parts parameters machine entry.event) rest)
-
-moments_long : (parts : Parts) (parameters : Parameters) (journal : List Entry) → length (moments parts parameters journal) ≡ length journal
-unfolding moments
-moments_long parts parameters journal = moments_from_long parts parameters (machine_start parts) journal
-
 replies_few : (run : List Moment) → weigh (λ (moment : Moment). digit (passes (λ (msg : Msg). is_data (content msg)) moment.taken)) run ≤ length run
 replies_few [] = omega arith
 replies_few (moment ∷ rest) = omega (arith, digit_le (passes (λ (msg : Msg). is_data (content msg)) moment.taken), replies_few rest)
 
-module _ {grid : Grid} {journal : List Entry} {sent : Sending} {tally : Tallied} {ready : List Row} (is : IsMachine grid journal sent tally ready) where
+module _ {grid : Grid} {journal : List Entry} {joined : ℕ} {sent : Sending} {tally : Tallied} {ready : List Row} (is : IsMachine grid journal joined sent tally ready) where
   abbrev history : History
-  history = record { image = grid.image; parameters = grid.parameters; journal = journal }
+  history = record { image = grid.image; parameters = grid.parameters; journal = journal; joined = joined }
 
   -- a slot of a node is its context of the flat machine
   pub flat_slot : (context : ℕ) (whole : Whole) (slot : ℕ) → context < context_count grid.image → IsSlotOf grid context whole slot

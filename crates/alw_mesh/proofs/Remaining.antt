@@ -52,7 +52,7 @@ still_none all k moment (Deliver from to) did none = none_by all k moment did no
 still_none all k moment (Evict node emptied) did none = none_by all k moment did none
 
 module _ (parts : Parts) (parameters : Parameters) where
-  size_kept : (s : MachineState) (event : Event) → length s.nodes ≡ node_count parts → length (step parts parameters s event).nodes ≡ node_count parts
+  pub size_kept : (s : MachineState) (event : Event) → length s.nodes ≡ node_count parts → length (step parts parameters s event).nodes ≡ node_count parts
   size_kept s event size = length-set s.nodes (node_of event) (stepped_by parts parameters s event).node ∙ size
 
   troubles_grow : (s : MachineState) (journal : List Entry) → length s.nodes ≡ node_count parts → AreLegal parts parameters s journal → troubles (after parts parameters s journal) ≤ troubles s + length journal
@@ -73,7 +73,7 @@ module _ (parts : Parts) (parameters : Parameters) where
       = ap (λ (all : Remains). all.trapped) (remains_are parts parameters s entry.event size next.enabled) ∙ (still_none (remains_of s.nodes) k moment entry.event moment.stepped.did neither.0 ∙ none) in
       no_traps (step parts parameters s entry.event) rest (k + 1) (size_kept s entry.event size) legal now neither.1
 
-  start_size : length (machine_start parts).nodes ≡ node_count parts
+  pub start_size : length (machine_start parts).nodes ≡ node_count parts
   start_size = (start_aimed parts parameters).nodes
 
   -- at the start nothing has trapped, and no packet waits

@@ -1,5 +1,5 @@
--- What a machine is seen as: its image, its parameters and its journal, which say all else of it.
-use Rattle.std.specs.Prelude.{◌≡◌, ℕ, ◌*◌, ◌<◌, ◌≤◌, Bool, true, false, Result, Ok, Err, List, [], ◌∷◌, ◌++◌, IsTrue}
+-- What a machine is seen as: its image, its parameters and its journal, which say all else of it, and how many of the journal's first entries it was joined with.
+use Rattle.std.specs.Prelude.{◌≡◌, ℕ, ◌*◌, ◌<◌, ◌≤◌, Bool, true, false, Result, Ok, Err, List, [], ◌∷◌, ◌++◌, length, drop, IsTrue}
 use Rattle.alw_num.specs.declared.memory.NoMemory.{NoMemory}
 use Rattle.alw_msg.specs.declared.messages.Msg.{Msg}
 use Rattle.alw_msg.specs.declared.events.Event.{Event}
@@ -22,10 +22,15 @@ pub record History : Type 0 where
   pub image : Parts
   pub parameters : Parameters
   pub journal : List Entry
+  pub joined : ℕ
 
 -- a machine that hasn't begun
 abbrev pub begun : Parts → Parameters → History
-begun image parameters = record { image = image; parameters = parameters; journal = [] }
+begun image parameters = record { image = image; parameters = parameters; journal = []; joined = 0 }
+
+-- a machine that was joined from a journal, and has taken no step
+abbrev pub joined_of : Parts → Parameters → List Entry → History
+joined_of image parameters journal = record { image = image; parameters = parameters; journal = journal; joined = length journal }
 
 -- the state after the journal
 abbrev pub state_of : History → MachineState
@@ -47,12 +52,14 @@ grown h event = record h { journal = h.journal ++ entry_of h event ∷ [] }
 abbrev pub stamps_of : Parts → Parameters → ℕ
 stamps_of image parameters = node_count image * parameters.limit
 
--- what holds of every machine: its image and its parameters are such, its nodes' stamps are no more than the most, and its journal is legal
+-- what holds of every machine: its image and its parameters are such, its nodes' stamps are no more than the most, its journal is legal,
+-- and it was joined with no more entries than it has
 pub record IsRun (h : History) : Type 0 where
   pub image : IsImage h.image
   pub parameters : AreParameters h.parameters
   pub fits : stamps_of h.image h.parameters ≤ MOST_STEPS
   pub legal : IsLegal h.image h.parameters h.journal
+  pub joined : h.joined ≤ length h.journal
 
 -- a machine of an image under parameters fits; or its nodes may have more stamps together than the most
 abbrev pub Fits : Parts → Parameters → Result (Unit {0}) FitErr → Type 0
@@ -84,8 +91,9 @@ sent_last [] = []
 sent_last (moment ∷ []) = moment.stepped.sends
 sent_last (moment ∷ next ∷ rest) = sent_last (next ∷ rest)
 
+-- what the last step of a machine sent: nothing where it has taken none since it was started or joined
 abbrev pub last_sends : History → List (ℕ × Msg)
-last_sends h = sent_last (moments h.image h.parameters h.journal)
+last_sends h = sent_last (drop h.joined (moments h.image h.parameters h.journal))
 
 -- the parts of a machine, with the turns of its journal, each as its context, and the words that they printed
 pub record ArePartsOf (h : History) (parts : MachineParts) : Type 0 where

@@ -116,10 +116,10 @@ pub record Acts (nodes nodes' : List Whole) (at : ℕ) (event : Event) (taken : 
 -- ---- the machine
 
 -- what a machine keeps is of its journal
-pub record IsMachine (grid : Grid) (journal : List Entry) (sent : Sending) (tally : Tallied) (ready : List Row) : Type 0 where
-  pub run : IsRun (record { image = grid.image; parameters = grid.parameters; journal = journal })
+pub record IsMachine (grid : Grid) (journal : List Entry) (joined : ℕ) (sent : Sending) (tally : Tallied) (ready : List Row) : Type 0 where
+  pub run : IsRun (record { image = grid.image; parameters = grid.parameters; journal = journal; joined = joined })
   pub state_is : grid.machine ≡ state grid.image grid.parameters journal
   pub room : sent.room ≡ node_count grid.image
-  pub sends : sent.messages ≡ last_sends (record { image = grid.image; parameters = grid.parameters; journal = journal })
+  pub sends : sent.messages ≡ last_sends (record { image = grid.image; parameters = grid.parameters; journal = journal; joined = joined })
   pub rows : RowsFit grid.image grid.parameters grid.machine ready
   pub told : tally.told ≡ told_of grid.image (moments grid.image grid.parameters journal)

@@ -4,3 +4,4 @@ pub mod Keeping
 pub mod Readings
 pub mod Values
 pub mod Ends
+pub mod Joins

@@ -3,6 +3,8 @@
 
 mod ends;
 mod errors;
+mod joining;
+mod joins;
 mod machines;
 mod meshes;
 mod parts;
@@ -12,5 +14,6 @@ mod values;
 mod views;
 
 pub use errors::{FitErr, MOST_STEPS, StepErr, fit};
+pub use joining::LinkLists;
 pub use machines::Machine;
 pub use parts::MachineParts;

@@ -15,11 +15,13 @@ use std::alloc::Global;
 use std::marker::Model;
 
 /// A machine: the nodes of an image with the links between them, and the journal of the events that
-/// happened. Contracts see the image, the parameters and the journal, which say all else.
+/// happened. Contracts see the image, the parameters and the journal, which say all else, and how many
+/// of the journal's first entries the machine was joined with.
 #[derive(Debug, Drop)]
 pub struct Machine {
     pub(crate) mesh: Mesh,
     pub(crate) journal: Journal,
+    pub(crate) joined: u32,
     pub(crate) sent: Sends,
     pub(crate) tally: Tally,
     pub(crate) ready: Ready,
@@ -31,9 +33,9 @@ impl Model for Machine {
 
     ghost Value = { History };
 
-    ghost view = { λ m. record { image = m.mesh.image; parameters = m.mesh.parameters; journal = m.journal } };
+    ghost view = { λ m. record { image = m.mesh.image; parameters = m.mesh.parameters; journal = m.journal; joined = m.joined } };
 
-    ghost invariant = { λ m. IsMachine m.mesh m.journal m.sent m.tally m.ready };
+    ghost invariant = { λ m. IsMachine m.mesh m.journal m.joined m.sent m.tally m.ready };
 }
 
 impl Machine {
@@ -50,6 +52,7 @@ impl Machine {
         Ok(Machine {
             mesh,
             journal: Journal::empty(alloc),
+            joined: 0,
             sent: Sends::room(alloc, nodes)?,
             tally: Tally::start(alloc),
             ready,
@@ -115,6 +118,7 @@ impl Machine {
         let Machine {
             mesh,
             journal,
+            joined: _,
             sent: _,
             tally,
             ready: _,

@@ -9,13 +9,17 @@ ghost use Rattle.alw_model.specs.Lines.{entry_of};
 ghost use Rattle.alw_memory.specs.Views.{IsViewOf};
 ghost use Rattle.alw_ready.specs.Fits.{may_happen};
 ghost use Rattle.alw_tally.specs.Remaining.{remains_of, AreFew};
+ghost use Rattle.alw_order.proofs.Aimed.{IsAimed};
 ghost use Rattle.alw_mesh.specs.Grids.{grid_start, IsNodeAt, IsSlotOf, Happens};
+ghost use Rattle.alw_mesh.specs.Keeping.{machine_of, AreNodes};
+ghost use Rattle.alw_mesh.specs.Joins.{IsGridOf};
 
+use crate::joining::{LinkLists, links_of, nodes_of, remains_at};
 use crate::stepping::{Happening, act, count_nodes, is_in_time, nodes_start, take, uses_hold};
 use alw_image::{Image, Params};
 use alw_links::Links;
 use alw_msg::{Event, Msg, Sends};
-use alw_node::{HomeView, Node};
+use alw_node::{HomeView, Node, Nodes};
 use alw_num::{LineNo, NoMemory, NodeNo, NodeSet, home_of};
 use alw_tally::{Happened, Remains};
 use std::alloc::Global;
@@ -58,6 +62,30 @@ impl Mesh {
             nodes: nodes_start(alloc, image, params, &code, count)?,
             links: Links::start(alloc, u32::from(count))?,
             remains: Remains::start(image),
+        })
+    }
+
+    /// The nodes of a machine that has run, with what is on its links, and without room for a message.
+    pub fn joined(
+        alloc: Global,
+        image: &Image,
+        params: &Params,
+        nodes: Nodes,
+        links: &LinkLists,
+    ) -> Result<Mesh, NoMemory>
+        requires nodes { AreNodes image.now params.now nodes }
+        requires aimed { IsAimed image.now (machine_of nodes links.now) }
+        ensures { IfOk result (λ mesh. IsGridOf image.now params.now (machine_of nodes links.now) mesh) }
+    {
+        let count = count_nodes(image);
+        let nodes = nodes_of(alloc, nodes)?;
+        let remains = remains_at(&nodes);
+        Ok(Mesh {
+            image: image.copy()?,
+            params: *params,
+            links: links_of(alloc, u32::from(count), links)?,
+            nodes,
+            remains,
         })
     }
 

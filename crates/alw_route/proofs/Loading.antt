@@ -1,5 +1,5 @@
 -- What a machine's journal sends stands at the routers, one event after another.
-use Rattle.std.proofs.Common.{◌≡◌, ℕ, ◌*◌, ◌<◌, true, List, [], ◌∷◌, ◌++◌, map, refl, sym, ap, subst, ◌∙◌}
+use Rattle.std.proofs.Common.{◌≡◌, ℕ, ◌*◌, ◌<◌, ◌≤◌, length, length-append, arith, true, List, [], ◌∷◌, ◌++◌, map, refl, sym, ap, subst, ◌∙◌}
 use Rattle.std.specs.List.{AllByRecursion}
 use Rattle.std.proofs.lemmas.List.{map-append}
 use Rattle.alw_msg.specs.declared.messages.Msg.{Msg}
@@ -10,7 +10,7 @@ use Rattle.alw_image.specs.Images.{node_count}
 use Rattle.alw_image.specs.Parameters.{Parameters}
 use Rattle.alw_model.specs.Machine.{IsLegal}
 use Rattle.alw_model.specs.Runs.{moments}
-use Rattle.alw_mesh.specs.Histories.{History, begun, grown, last_sends}
+use Rattle.alw_mesh.specs.Histories.{History, begun, grown, entry_of, last_sends}
 use Rattle.alw_merge.specs.Replays.{may_follow}
 use Rattle.mesh_route.specs.declared.queues.Packet.{Packet}
 use Rattle.mesh_route.specs.Meshes.{Mesh, Act, Injects, count_of, mesh_start, after_act, after_acts, hop_run, injections, IsWithin}
@@ -38,22 +38,23 @@ loaded_nodes h hops loaded = ap count_of loaded ∙ nodes_stay (mesh_start h.ima
 
 pub begins : (image : Parts) (parameters : Parameters) → IsUnderWay (begun image parameters) (mesh_start image.width image.height)
 unfolding hop_run moments
-begins image parameters = record { legal = tt; loaded = refl }
+begins image parameters = record { legal = tt; loaded = refl; joined = omega arith }
 
-loaded_more : (h : History) (hops : Mesh) (entry : Entry) → IsLoaded h hops
+loaded_more : (h : History) (hops : Mesh) (entry : Entry) → h.joined ≤ length h.journal → IsLoaded h hops
     → IsLoaded (grown h entry.event) (after_sends hops (node_of entry.event) (last_sends (grown h entry.event)))
 unfolding hop_run
-loaded_more h hops entry loaded =
+loaded_more h hops entry joined loaded =
     let packets : List Packet = map (packet_from (node_of entry.event)) (last_sends (grown h entry.event)) in
     let start : Mesh = mesh_start h.image.width h.image.height in
     ap (λ (m : Mesh). after_acts m (map Injects packets)) loaded ∙ (sym (acts_on start (map Injects (sent_in h)) (map Injects packets))
-    ∙ ap (after_acts start) (sym (map-append Injects (sent_in h) packets) ∙ ap (map Injects) (sym (sent_more h entry.event))))
+    ∙ ap (after_acts start) (sym (map-append Injects (sent_in h) packets) ∙ ap (map Injects) (sym (sent_more h joined entry.event))))
 
 pub goes_on : (h : History) (hops : Mesh) (entry : Entry) → IsUnderWay h hops → may_follow h entry ≡ true → (after : History) → after ≡ grown h entry.event
     → IsUnderWay after (after_sends hops (node_of entry.event) (last_sends after))
 goes_on h hops entry so_far follows after is = rw is (record {
   legal = legal_more h entry follows so_far.legal;
-  loaded = loaded_more h hops entry so_far.loaded;
+  loaded = loaded_more h hops entry so_far.joined so_far.loaded;
+  joined = omega (arith, so_far.joined, length-append h.journal (entry_of h entry.event ∷ []));
 })
 
 -- ---- what was injected is carried

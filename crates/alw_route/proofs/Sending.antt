@@ -1,5 +1,5 @@
 -- What one event more sends, and that the messages of a legal journal go from nodes that exist to nodes that exist.
-use Rattle.std.proofs.Common.{◌≡◌, ℕ, ◌<◌, ◌==◌, ◌&&◌, true, IsTrue, List, [], ◌∷◌, ◌++◌, map, flat_map, refl, sym, ap, subst, ◌∙◌, append-nil}
+use Rattle.std.proofs.Common.{◌≡◌, ℕ, ◌<◌, ◌≤◌, ◌==◌, ◌&&◌, true, IsTrue, List, [], ◌∷◌, ◌++◌, length, map, flat_map, refl, sym, ap, subst, ◌∙◌, append-nil}
 use Rattle.std.specs.List.{AllByRecursion}
 use Rattle.std.proofs.lemmas.Bool.{eqb-true}
 use Rattle.std.proofs.lemmas.Grind.{flat_map-append}
@@ -18,26 +18,22 @@ use Rattle.alw_lift.specs.Links.{GoBelow}
 use Rattle.alw_lift.proofs.Steps.{enabled_is}
 use Rattle.alw_order.proofs.Aimed.{IsAimed, start_aimed, step_aimed, sends_below}
 use Rattle.alw_order.proofs.Reached.{state_aimed}
-use Rattle.alw_mesh.specs.Histories.{History, state_of, entry_of, grown, sent_last, last_sends}
+use Rattle.alw_mesh.specs.Histories.{History, state_of, entry_of, grown, last_sends}
+use Rattle.alw_mesh.proofs.Journals.{last_push}
 use Rattle.alw_merge.specs.Replays.{may_follow}
 use Rattle.mesh_route.specs.declared.queues.Packet.{Packet}
 use Rattle.mesh_route.specs.Meshes.{Act, Injects, IsWithin}
 use Rattle.alw_route.specs.Sending.{packet_from, packets_in, packets_of}
 use Rattle.alw_route.specs.Loading.{sent_in}
 
-sent_push : (run : List Moment) (moment : Moment) → sent_last (run ++ moment ∷ []) ≡ moment.stepped.sends
-sent_push [] moment = refl
-sent_push (first ∷ []) moment = refl
-sent_push (first ∷ next ∷ rest) moment = sent_push (next ∷ rest) moment
-
-module _ (h : History) (event : Event) where
+module _ (h : History) (joined : h.joined ≤ length h.journal) (event : Event) where
   run_more : moments h.image h.parameters (grown h event).journal
       ≡ moments h.image h.parameters h.journal ++ moment_of h.image h.parameters (state_of h) (entry_of h event) ∷ []
   run_more = moments_push h.image h.parameters h.journal (entry_of h event)
 
   -- the last sends are those of the event
   pub sends_are : last_sends (grown h event) ≡ (stepped_by h.image h.parameters (state_of h) event).sends
-  sends_are = ap sent_last run_more ∙ sent_push (moments h.image h.parameters h.journal) (moment_of h.image h.parameters (state_of h) (entry_of h event))
+  sends_are = last_push h joined event
 
   -- one event more sends its messages behind those before
   pub sent_more : sent_in (grown h event) ≡ sent_in h ++ map (packet_from (node_of event)) (last_sends (grown h event))
@@ -62,10 +58,10 @@ legal_more h entry follows legal = legal_push h.image h.parameters h.journal (en
 pub node_exists : (h : History) (entry : Entry) → may_follow h entry ≡ true → node_of entry.event < node_count h.image
 node_exists h entry follows = (enabled_is h.image h.parameters (state_of h) entry.event (next_of h entry follows).enabled).here
 
-pub goals_exist : (h : History) (entry : Entry) → may_follow h entry ≡ true → IsLegal h.image h.parameters h.journal
+pub goals_exist : (h : History) (entry : Entry) → h.joined ≤ length h.journal → may_follow h entry ≡ true → IsLegal h.image h.parameters h.journal
     → GoBelow (node_count h.image) (last_sends (grown h entry.event))
-goals_exist h entry follows legal =
-    subst (GoBelow (node_count h.image)) (sym (sends_are h entry.event))
+goals_exist h entry joined follows legal =
+    subst (GoBelow (node_count h.image)) (sym (sends_are h joined entry.event))
     (sends_below h.image h.parameters (state_of h) entry.event (next_of h entry follows).enabled (state_aimed h.image h.parameters h.journal legal))
 
 -- ---- a whole journal

@@ -1,5 +1,5 @@
 -- A replayed journal whose messages stand at the routers where they begin.
-use Rattle.std.specs.Prelude.{◌≡◌, ℕ, Result, Ok, Err, List, map}
+use Rattle.std.specs.Prelude.{◌≡◌, ℕ, ◌≤◌, length, Result, Ok, Err, List, map}
 use Rattle.alw_msg.specs.declared.messages.Msg.{Msg}
 use Rattle.alw_msg.specs.declared.events.Entry.{Entry}
 use Rattle.alw_image.specs.declared.parts.Parts.{Parts}
@@ -32,7 +32,8 @@ replayed_in (Err e) = Err e
 abbrev pub after_sends : Mesh → ℕ → List (ℕ × Msg) → Mesh
 after_sends hops from sends = after_acts hops (map Injects (map (packet_from from) sends))
 
--- a journal is legal, and its messages stand at the routers
+-- a journal is legal, and its messages stand at the routers; the machine was joined with no more entries than it has
 pub record IsUnderWay (h : History) (hops : Mesh) : Type 0 where
   pub legal : IsLegal h.image h.parameters h.journal
   pub loaded : IsLoaded h hops
+  pub joined : h.joined ≤ length h.journal

@@ -78,7 +78,7 @@ module _ (trace : Trace) where
       leaves.0,
       leaves.1,
       leaves.2
-          ∙ ap (λ (j : List Entry). record { image = trace.image; parameters = trace.params; journal = j }) (sym (all_kept at trace.journal same)),
+          ∙ ap (λ (j : List Entry). record { image = trace.image; parameters = trace.params; journal = j; joined = 0 }) (sym (all_kept at trace.journal same)),
     )
 
     -- the entries that it keeps are taken again
@@ -87,4 +87,4 @@ module _ (trace : Trace) where
     cut_taken entries machine kept same is =
         let legal : IsLegal trace.image trace.params entries =
         subst (λ (j : List Entry). IsLegal trace.image trace.params j) (sym same) (cut_front trace.image trace.params trace.journal sound_is.legal at) in
-        (sound_is, is.run, legal_taken is legal ∙ ap (λ (j : List Entry). record { image = trace.image; parameters = trace.params; journal = j }) same)
+        (sound_is, is.run, legal_taken is legal ∙ ap (λ (j : List Entry). record { image = trace.image; parameters = trace.params; journal = j; joined = 0 }) same)

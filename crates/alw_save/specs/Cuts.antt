@@ -40,7 +40,7 @@ Cuts trace at (Err fault) = IsNoCut trace fault
 
 -- the machine after all entries of a trace
 abbrev pub whole_of : Trace → History
-whole_of trace = record { image = trace.image; parameters = trace.params; journal = trace.journal }
+whole_of trace = record { image = trace.image; parameters = trace.params; journal = trace.journal; joined = 0 }
 
 abbrev pub LeavesAll : Trace → Result History CutErr → Type 0
 LeavesAll trace (Ok machine) = IsSound trace × IsRun machine × (machine ≡ whole_of trace)
@@ -48,7 +48,7 @@ LeavesAll trace (Err fault) = IsNoCut trace fault
 
 -- the machine that a cut leaves
 abbrev pub cut_machine : Trace → ℕ → History
-cut_machine trace at = record { image = trace.image; parameters = trace.params; journal = kept_by at trace.journal }
+cut_machine trace at = record { image = trace.image; parameters = trace.params; journal = kept_by at trace.journal; joined = 0 }
 
 abbrev pub LeavesCut : Trace → ℕ → Result History CutErr → Type 0
 LeavesCut trace at (Ok machine) = IsSound trace × IsRun machine × (machine ≡ cut_machine trace at)

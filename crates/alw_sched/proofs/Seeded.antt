@@ -106,13 +106,13 @@ scheduled h x (event ∷ rest) after y are so_far =
 
 pub seeded_scheduled : (image : Parts) (parameters : Parameters) (seed : ℕ) (journal : List Entry) → IsSeededRun image parameters seed journal → IsScheduled image parameters journal
 seeded_scheduled image parameters seed journal seeded =
-    scheduled (begun image parameters) seed seeded.events (record { image = image; parameters = parameters; journal = journal }) seeded.last seeded.drawn_are
+    scheduled (begun image parameters) seed seeded.events (record { image = image; parameters = parameters; journal = journal; joined = 0 }) seeded.last seeded.drawn_are
     (scheduled_none image parameters)
 
 -- ---- the image and the parameters stay
 
 abbrev of_journal : History → List Entry → History
-of_journal h journal = record { image = h.image; parameters = h.parameters; journal = journal }
+of_journal h journal = record { image = h.image; parameters = h.parameters; journal = journal; joined = h.joined }
 
 stays : (h : History) (x : ℕ) (events : List Event) (after : History) (y : ℕ) → AreDrawn h x events after y → after ≡ of_journal h after.journal
 stays h x [] after y are = subst (λ (g : History). g ≡ of_journal h g.journal) are.0 (same h)
@@ -126,11 +126,11 @@ pub seeded_run : (image : Parts) (parameters : Parameters) (seed : ℕ) (after :
 seeded_run image parameters seed after seeded =
     subst (λ (g : History). IsSeeded (begun image parameters) seed g) (stays (begun image parameters) seed seeded.events after seeded.last seeded.drawn_are) seeded
 
-pub of_start : (image : Parts) (parameters : Parameters) (seed : ℕ) (after : History) → IsSeeded (begun image parameters) seed after → after ≡ record { image = image; parameters = parameters; journal = after.journal }
+pub of_start : (image : Parts) (parameters : Parameters) (seed : ℕ) (after : History) → IsSeeded (begun image parameters) seed after → after ≡ record { image = image; parameters = parameters; journal = after.journal; joined = 0 }
 of_start image parameters seed after seeded = stays (begun image parameters) seed seeded.events after seeded.last seeded.drawn_are
 
 pub seeded_stays : (before : History) (seed : ℕ) (after : History) → IsSeeded before seed after →
-    after ≡ record { image = before.image; parameters = before.parameters; journal = after.journal }
+    after ≡ record { image = before.image; parameters = before.parameters; journal = after.journal; joined = before.joined }
 seeded_stays before seed after seeded = stays before seed seeded.events after seeded.last seeded.drawn_are
 
 -- ---- what stood before stays in front

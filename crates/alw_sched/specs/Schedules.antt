@@ -61,7 +61,7 @@ pub record IsSeeded (before : History) (seed : ℕ) (after : History) : Type 0 w
 
 -- a journal is what a seed makes of an image from its start on
 abbrev pub IsSeededRun : Parts → Parameters → ℕ → List Entry → Type 0
-IsSeededRun image parameters seed journal = IsSeeded (begun image parameters) seed (record { image = image; parameters = parameters; journal = journal })
+IsSeededRun image parameters seed journal = IsSeeded (begun image parameters) seed (record { image = image; parameters = parameters; journal = journal; joined = 0 })
 
 -- a seed has taken a machine to an end
 pub record IsFinished (before : History) (seed : ℕ) (after : History) (ended : Ended) : Type 0 where

@@ -17,7 +17,7 @@ pub inject_all-requires-clause-goals : goal.inject_all-requires-clause-goals
 inject_all-requires-clause-goals c =
     let took = rw c.if-not-taken.false at c.in_ok-taken.ensures.taken in
     rw (c.last_sent.ensures, took.1, loaded_nodes c.args.machine.now c.args.hops.now c.requires.loaded)
-    (goals_exist c.args.machine.now c.args.entry took.0 c.requires.legal)
+    (goals_exist c.args.machine.now c.args.entry c.requires.joined took.0 c.requires.legal)
 
 pub returns-clause-under_way : goal.returns-clause-under_way
 returns-clause-under_way c =
