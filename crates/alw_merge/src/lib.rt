@@ -1,10 +1,14 @@
-//! Journals made of others: the logs of all nodes merged, and the events of a trace taken again.
+//! Journals made of others: the logs of all nodes merged, with the machine that they leave, and the
+//! events of a trace taken again.
 #![tactic(auto)]
 
+mod joins;
 mod laws;
 mod merges;
 mod replays;
+mod walks;
 
+pub use joins::join;
 pub use laws::merges_are_kept;
 pub use merges::merge;
 pub use replays::{Replayed, replay, take};

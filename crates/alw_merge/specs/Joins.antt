@@ -1,0 +1,103 @@
+-- What workers leave, as it is read in the order of the merge.
+use Rattle.std.specs.Prelude.{◌≡◌, ℕ, ◌<◌, ◌≤◌, false, None, List, [], ◌∷◌, map, filter, ◌==◌, is_some, length, slice_index_or, slice_set}
+use Rattle.std.specs.List.{All}
+use Rattle.alw_num.specs.declared.node_sets.TheConstants.{MOST_NODES}
+use Rattle.alw_num.specs.Weights.{digit, weigh}
+use Rattle.alw_msg.specs.declared.messages.Msg.{Msg}
+use Rattle.alw_msg.specs.declared.events.Event.{Event}
+use Rattle.alw_msg.specs.declared.events.Entry.{Entry}
+use Rattle.alw_msg.specs.Events.{node_of}
+use Rattle.alw_msg.specs.Lists.{front, behind}
+use Rattle.alw_image.specs.declared.parts.Parts.{Parts}
+use Rattle.alw_image.specs.Images.{node_count}
+use Rattle.alw_image.specs.Parameters.{Parameters}
+use Rattle.alw_model.specs.declared.steps.Did.{Did}
+use Rattle.alw_model.specs.declared.steps.Did.TheVariants.{Took}
+use Rattle.alw_model.specs.Machine.{state, IsLegal}
+use Rattle.alw_model.specs.Runs.{Moment, number_of, moments}
+use Rattle.alw_model.specs.Rows.{log_in}
+use Rattle.alw_model.specs.Threads.{Logged}
+use Rattle.alw_links.specs.Traffic.{Traffic, links_with_all}
+use Rattle.alw_tally.specs.declared.happenings.Happened.{Happened}
+use Rattle.alw_tally.specs.Told.{Told, told_of}
+use Rattle.alw_tally.specs.Tallies.{told_logged}
+use Rattle.alw_node.specs.Nodes.{Whole}
+use Rattle.alw_mesh.specs.Keeping.{after_taking, IsWithin}
+use Rattle.alw_cells.specs.Logs.{sent_of, taken_of}
+
+-- the slots with a hold, at all of some nodes
+abbrev pub holds_at : List Whole → ℕ
+holds_at nodes = weigh (λ (whole : Whole). weigh (λ slot. digit (is_some slot.hold)) whole.state.slots) nodes
+
+-- ---- reading
+
+-- what is left of a node's log, and of what its events did
+pub record Course : Type 0 where
+  pub left : List Logged
+  pub dids : List Did
+
+-- a course at its end
+abbrev pub no_course : Course
+no_course = record { left = []; dids = [] }
+
+abbrev pub course_at : List Course → ℕ → Course
+course_at courses n = slice_index_or courses n no_course
+
+-- the courses of all nodes, by number
+abbrev pub courses_of : List (List Logged) → List (List Did) → List Course
+courses_of [] dids = []
+courses_of (log ∷ logs) [] = []
+courses_of (log ∷ logs) (did_list ∷ dids) = record { left = log; dids = did_list } ∷ courses_of logs dids
+
+-- what the next event did, and what it sent
+abbrev pub next_did : List Did → Did
+next_did [] = Took
+next_did (did ∷ rest) = did
+
+abbrev pub next_sent : Course → List (ℕ × Msg)
+next_sent course = sent_of (front course.left)
+
+-- what a tally is told of the next event of a node, but for what it sent, where no turn counts as having ended a hold
+abbrev pub next_of : ℕ → Course → Happened
+next_of n course = record { node = record { 0 = n }; did = next_did course.dids; taken = taken_of (front course.left); used = false; pc = 0 }
+
+-- the next event has been read
+abbrev pub read_on : Course → Course
+read_on course = record { left = behind course.left; dids = behind course.dids }
+
+-- ---- the events of a journal
+
+-- the course of a node through events
+abbrev pub course_of : ℕ → List Moment → Course
+course_of n run = record { left = log_in n run; dids = map (λ (moment : Moment). moment.stepped.did) (filter (λ (moment : Moment). number_of moment == n) run) }
+
+-- each node's log and what its events did are those of a legal journal
+pub record AreOf (image : Parts) (parameters : Parameters) (journal : List Entry) (courses : List Course) : Type 0 where
+  pub legal : IsLegal image parameters journal
+  pub counted : length courses ≡ node_count image
+  pub each : (n : ℕ) → n < node_count image → course_at courses n ≡ course_of n (moments image parameters journal)
+
+-- what a run tells, where no turn counts as having ended a hold and none as having trapped
+abbrev pub unheld : Told → Told
+unheld told = record told { counts = record told.counts { used = 0 }; trap = None }
+
+-- links and what is told are those of a journal
+pub record IsWalked (image : Parts) (parameters : Parameters) (journal : List Entry) (traffic : Traffic) (told : Told) : Type 0 where
+  pub nodes_are : traffic.nodes ≡ node_count image
+  pub links_are : traffic.links ≡ (state image parameters journal).links
+  pub told_is : told ≡ unheld (told_of image (moments image parameters journal))
+
+-- an event may be read off its node's course: it is there, and it names nodes that exist, as its messages do
+pub record MayFollow (nodes : ℕ) (event : Event) (course : Course) : Type 0 where
+  pub sender : node_of event < nodes
+  pub within : IsWithin nodes event
+  pub did : 1 ≤ length course.dids
+  pub few : length (next_sent course) ≤ MOST_NODES
+  pub go : All (λ (send : ℕ × Msg). send.0 < nodes) (next_sent course)
+
+-- it has been read, its messages are moved, and it is told
+pub record Follows (image : Parts) (event : Event) (courses courses' : List Course) (traffic traffic' : Traffic) (told told' : Told) : Type 0 where
+  pub courses_are : courses' ≡ slice_set courses (node_of event) (read_on (course_at courses (node_of event)))
+  pub nodes_are : traffic'.nodes ≡ traffic.nodes
+  pub links_are : traffic'.links ≡ links_with_all traffic.nodes (after_taking traffic event).links (node_of event) (next_sent (course_at courses (node_of event)))
+  pub told_is : told' ≡ told_logged image told (next_of (node_of event) (course_at courses (node_of event))) (next_sent (course_at courses (node_of event)))
