@@ -13,7 +13,7 @@ use Rattle.alw_image.specs.declared.parts.Parts.{Parts}
 use Rattle.alw_model.specs.declared.ends.TrapAt.{TrapAt}
 use Rattle.alw_model.specs.declared.steps.Counts.{Counts}
 use Rattle.alw_model.specs.declared.steps.Did.{Did}
-use Rattle.alw_model.specs.declared.steps.Did.TheVariants.{Turn}
+use Rattle.alw_model.specs.declared.steps.Did.TheVariants.{Turn, Missed, Took, Packet, Handled, Evicted}
 use Rattle.alw_model.specs.Counts.{is_turn, is_miss, is_eviction, is_handling, is_spill, is_data, hops_between}
 use Rattle.alw_tally.specs.declared.happenings.Happened.{Happened}
 
@@ -79,6 +79,15 @@ with_sent s c = record c {
   busy = c.busy + s.busy;
   hops = c.hops + s.hops;
 }
+
+-- counts with one event more that did this, its messages and its hold aside
+abbrev pub with_did : Counts → Did → Counts
+with_did c (Turn slot outcome) = record c { turns = c.turns + 1 }
+with_did c (Missed slot) = record c { misses = c.misses + 1 }
+with_did c Evicted = record c { evicts = c.evicts + 1 }
+with_did c (Handled kind state) = record c { handlers = c.handlers + 1; spills = c.spills + digit (is_spill (Handled kind state)) }
+with_did c Took = c
+with_did c Packet = c
 
 -- counts with one message of a kind more
 abbrev pub with_kind : Counts → Kind → Counts

@@ -1,8 +1,8 @@
 ghost use Rattle.std.specs.Prelude.{◌≡◌, ◌≤◌, ◌<◌, ◌-◌, ◌+◌, ◌^◌, length};
 ghost use Rattle.alw_num.specs.Weights.{digit};
-ghost use Rattle.alw_model.specs.Counts as counts;
-ghost use Rattle.alw_model.specs.Counts.{hops_between};
-ghost use Rattle.alw_tally.specs.Counted.{brings_line, sent_of, with_sent, with_send, with_event, with_kind, counts_of_event, AreFew, AreAtMost};
+ghost use Rattle.alw_model.specs.declared.steps.Did.TheVariants.{Handled};
+ghost use Rattle.alw_model.specs.Counts.{hops_between, is_spill};
+ghost use Rattle.alw_tally.specs.Counted.{brings_line, sent_of, with_sent, with_send, with_did, with_event, with_kind, counts_of_event, AreFew, AreAtMost};
 ghost use Rattle.alw_tally.specs.Told.{sum_of};
 
 use crate::happenings::Happened;
@@ -38,15 +38,27 @@ fn count_act(counts: &mut Counts, happened: &Happened)
     requires { AreAtMost (2 ^ 62) counts.old }
     ensures { counts.new ≡ with_event happened.now counts.old }
 {
-    let did = happened.did;
     counts.entries += 1;
-    counts.turns += one_if(is_turn(did));
-    counts.misses += one_if(is_miss(did));
-    counts.evicts += one_if(is_eviction(did));
-    counts.handlers += one_if(is_handling(did));
-    counts.spills += one_if(is_spill(did));
+    count_did(counts, happened.did);
     counts.replies += one_if(brings_line(&happened.taken));
     counts.used += one_if(happened.used);
+}
+
+// What a node did is counted.
+fn count_did(counts: &mut Counts, did: Did)
+    requires { AreAtMost (2 ^ 62 + 1) counts.old }
+    ensures { counts.new ≡ with_did counts.old did }
+{
+    match did {
+        Did::Turn { .. } => counts.turns += 1,
+        Did::Missed { .. } => counts.misses += 1,
+        Did::Evicted => counts.evicts += 1,
+        Did::Handled { kind, state } => {
+            counts.handlers += 1;
+            counts.spills += one_if(is_spill(kind, state));
+        }
+        Did::Took | Did::Packet => {}
+    }
 }
 
 // What a node sends is counted: of each number it is at most 131,072 a message.
@@ -119,40 +131,11 @@ fn distance(a: u16, b: u16) -> u64
     u64::from(if a < b { b - a } else { a - b })
 }
 
-fn is_turn(did: Did) -> bool
-    ensures { result ≡ counts.is_turn did }
+// The handler acts on an RREQ for a line in Read-Only.
+fn is_spill(kind: Kind, state: State) -> bool
+    ensures { result ≡ is_spill (Handled kind state) }
 {
-    matches!(did, Did::Turn { .. })
-}
-
-fn is_miss(did: Did) -> bool
-    ensures { result ≡ counts.is_miss did }
-{
-    matches!(did, Did::Missed { .. })
-}
-
-fn is_eviction(did: Did) -> bool
-    ensures { result ≡ counts.is_eviction did }
-{
-    matches!(did, Did::Evicted)
-}
-
-fn is_handling(did: Did) -> bool
-    ensures { result ≡ counts.is_handling did }
-{
-    matches!(did, Did::Handled { .. })
-}
-
-fn is_spill(did: Did) -> bool
-    ensures { result ≡ counts.is_spill did }
-{
-    matches!(
-        did,
-        Did::Handled {
-            kind: Kind::RREQ,
-            state: State::RO
-        }
-    )
+    matches!((kind, state), (Kind::RREQ, State::RO))
 }
 
 // A message, if there is one, brings a line to a cache.

@@ -1,4 +1,5 @@
 ghost use Rattle.std.specs.Prelude.{◌≡◌, option_to_list};
+ghost use Rattle.std.specs.Option.{option_or};
 ghost use Rattle.alw_model.specs.Runs.{turn_in};
 ghost use Rattle.alw_tally.specs.Counted.{trap_by};
 
@@ -36,21 +37,25 @@ pub fn turn_of(image: &Image, happened: &Happened) -> Option<(u32, Outcome)>
     }
 }
 
-/// Where a trapping turn stands, if the event was one: `entry` is the event's place in the journal.
-pub fn trap_of(entry: u32, happened: &Happened) -> Option<TrapAt>
-    ensures { result ≡ trap_by entry happened.now happened.now.did }
+/// Notes where a trapping turn stands, if the event was one and none is noted: `entry` is the event's
+/// place in the journal.
+pub fn note_trap(trap: &mut Option<TrapAt>, entry: u32, happened: &Happened)
+    ensures { trap.new ≡ option_or trap.old (trap_by entry happened.now happened.now.did) }
 {
-    match happened.did {
-        Did::Turn {
-            slot,
-            outcome: Outcome::Trap { tt },
-        } => Some(TrapAt {
+    let Did::Turn {
+        slot,
+        outcome: Outcome::Trap { tt },
+    } = happened.did
+    else {
+        return;
+    };
+    if trap.is_none() {
+        *trap = Some(TrapAt {
             entry,
             node: happened.node.0,
             slot,
             pc: happened.pc,
             tt,
-        }),
-        _ => None,
+        });
     }
 }

@@ -6,7 +6,7 @@ ghost use Rattle.alw_tally.specs.Tallies.{IsWithin, told_logged};
 ghost use Rattle.alw_tally.specs.Happenings.{IsOf};
 
 use crate::counting::{count_event, count_logged};
-use crate::happenings::{Happened, trap_of, turn_of};
+use crate::happenings::{Happened, note_trap, turn_of};
 use alw_image::Image;
 use alw_model::{Counts, TrapAt};
 use alw_msg::{Msg, Prints, Sends, Turns};
@@ -94,8 +94,7 @@ impl Tally {
         ensures told { (moment : Moment) → IsOf happened.now sends.now.messages moment → self.new.told ≡ told_with image.now self.old.told moment }
         ensures room { self.old.room ≤ self.new.room + 1 }
     {
-        let trap = trap_of(self.counts.entries as u32, happened);
-        self.trap = self.trap.or(trap);
+        note_trap(&mut self.trap, self.counts.entries as u32, happened);
         count_event(&mut self.counts, image, happened, sends);
         add_turn(&mut self.turns, &mut self.prints, turn_of(image, happened));
     }

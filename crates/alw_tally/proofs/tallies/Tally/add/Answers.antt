@@ -1,6 +1,4 @@
 -- One event more is told.
-use Rattle.std.proofs.Common.{◌∙◌, ap}
-use Rattle.std.specs.Option.{option_or}
 use Rattle.alw_tally.proofs.Adding.{told_by_event}
 use Rattle.alw_tally.proofs.tallies.Tally.add.Goals as goal
 
@@ -8,4 +6,4 @@ pub returns-clause-told : goal.returns-clause-told
 returns-clause-told c =
     λ moment of. rw (← c.self.view_is) (told_by_event c.args.image.now _ _ _ moment of _ _ c.turn_of.ensures c.add_turn.ensures.turns c.add_turn.ensures.prints
     c.count_event.ensures.counts
-    (c.or-self-inside.ensures ∙ ap (option_or c.self.inside.trap) c.trap_of-trap.ensures))
+    c.note_trap.ensures)
