@@ -1,5 +1,5 @@
 -- What an event that happened changes of the rows of a machine.
-use Rattle.std.specs.Prelude.{◌≡◌, ℕ, ◌<◌, Bool, true, false, cond, not, ◌&&◌, ◌==◌, Option, is_some, List, length, IsTrue}
+use Rattle.std.specs.Prelude.{◌≡◌, ℕ, ◌<◌, Bool, true, false, cond, not, ◌&&◌, ◌||◌, ◌==◌, Option, is_some, List, length, slice_set, IsTrue}
 use Rattle.alw_num.specs.Maps.{passes}
 use Rattle.alw_num.specs.NodeSets.{has_node, nodes_of}
 use Rattle.alw_num.specs.Weights.{digit, weigh}
@@ -18,12 +18,12 @@ use Rattle.alw_model.specs.Contexts.{Slot}
 use Rattle.alw_model.specs.NodeStates.{NodeState}
 use Rattle.alw_model.specs.NodeSteps.{Stepped}
 use Rattle.alw_model.specs.Machine.{MachineState, node_at, taken_by, state, is_enabled, has_halted, stepped_by, step}
-use Rattle.alw_order.specs.Orders.{EveryJournal}
+use Rattle.alw_order.specs.Orders.{EveryJournal, takes_from}
 use Rattle.alw_lift.specs.Links.{msgs_to}
 use Rattle.alw_ready.specs.declared.changes.Happened.{Happened}
 use Rattle.alw_ready.specs.declared.rows.Row.{Row}
 use Rattle.alw_ready.specs.Rows.{instr_at, handle_at, delivery, row_at}
-use Rattle.alw_ready.specs.Fits.{RowFitsBut}
+use Rattle.alw_ready.specs.Fits.{may_happen, is_in_time, RowFitsBut}
 
 -- a message brings its line to a cache
 abbrev pub brings : Content → Bool
@@ -69,6 +69,13 @@ pub record IsRenewed (test : Event → Bool) (at : ℕ) (again : ℕ → Bool) (
   pub instr : after.instr ≡ test (instr_at at)
   pub handle : after.handle ≡ test (handle_at at)
   pub senders : (from : ℕ) → has_node (nodes_of after.senders) from ≡ cond (again from) (test (delivery from at)) (has_node (nodes_of before.senders) from)
+
+-- the row of an event's own node was looked at again, with those of its senders that the event may have changed; all other rows stay
+pub record IsOwnRenewed (parts : Parts) (parameters : Parameters) (machine : MachineState) (happened : Happened) (before after : List Row) : Type 0 where
+  pub own : Row
+  pub rows_are : after ≡ slice_set before (node_of happened.event) own
+  pub in_time : own.in_time ≡ is_in_time parameters machine (node_of happened.event)
+  pub renewed : IsRenewed (may_happen parts parameters machine) (node_of happened.event) (λ from. happened.wide || takes_from happened.event from (node_of happened.event)) (row_at before (node_of happened.event)) own
 
 -- there is a row for each node, and it fits, but for deliveries from a sender of messages that were sent just now
 pub record RowsFitBut (parts : Parts) (parameters : Parameters) (machine : MachineState) (sender : ℕ) (sends : List (ℕ × Msg)) (rows : List Row) : Type 0 where

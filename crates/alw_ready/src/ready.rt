@@ -1,5 +1,5 @@
 ghost use Rattle.std.specs.Prelude.{◌≡◌, ◌<◌, ◌≤◌, length, replicate, slice_get, slice_set, Some, IfOk};
-ghost use Rattle.alw_ready.specs.Rows.{events_of, no_row};
+ghost use Rattle.alw_ready.specs.Rows.{events_of, no_row, row_at};
 
 use crate::rows::Row;
 use crate::tallies::Tally;
@@ -84,5 +84,18 @@ impl Ready {
         }
         self.tally.set(place, row.count());
         self.rows[place] = row;
+    }
+
+    /// The row of a node tells of its node's own events as this one does. Its senders stay.
+    pub(crate) fn set_own(&mut self, node: NodeNo, own: Row)
+        requires { node.0 < length self.old }
+        ensures { self.new ≡ slice_set self.old node.0 (record own { senders = (row_at self.old node.0).senders }) }
+    {
+        let row = &self.rows[usize::from(node.0)];
+        if row.in_time == own.in_time && row.instr == own.instr && row.handle == own.handle {
+            return;
+        }
+        let senders = row.senders;
+        self.set(node, Row { senders, ..own });
     }
 }

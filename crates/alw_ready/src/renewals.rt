@@ -1,4 +1,4 @@
-ghost use Rattle.std.specs.Prelude.{◌≡◌, ℕ, ◌<◌, ◌≤◌, cond, ◌||◌, ◌==◌, List, length};
+ghost use Rattle.std.specs.Prelude.{◌≡◌, ℕ, ◌<◌, ◌≤◌, false, cond, ◌||◌, ◌==◌, List, length, IsTrue};
 ghost use Rattle.alw_num.specs.NodeSets.{has_node, nodes_of};
 ghost use Rattle.alw_msg.specs.declared.events.Entry.{Entry};
 ghost use Rattle.alw_msg.specs.Events.{node_of};
@@ -8,7 +8,7 @@ ghost use Rattle.alw_lift.specs.Links.{GoBelow};
 ghost use Rattle.alw_order.specs.Orders.{takes_from};
 ghost use Rattle.alw_ready.specs.Rows.{instr_at, handle_at, delivery};
 ghost use Rattle.alw_ready.specs.Fits.{may_happen, is_in_time, RowFits, RowsFit};
-ghost use Rattle.alw_ready.specs.Changes.{IsRenewed, RowsFitBut, IsTold};
+ghost use Rattle.alw_ready.specs.Changes.{IsRenewed, IsOwnRenewed, RowsFitBut, IsTold};
 
 use crate::changes::Happened;
 use crate::ready::Ready;
@@ -48,10 +48,24 @@ impl Ready {
             self.renew_all(view);
             return;
         }
+        self.renew_own(view, happened);
+        self.renew_sent(view, happened.event.node(), sends);
+    }
+
+    // Looks again at the row of an event's own node.
+    fn renew_own<V: View>(&mut self, view: &V, happened: &Happened)
+        requires counted { length self.old ≡ node_count (V.image view.now) }
+        requires few { node_count (V.image view.now) ≤ 256 }
+        requires here { node_of happened.now.event < length self.old }
+        ensures { IsOwnRenewed (V.image view.now) (V.parameters view.now) (V.state view.now) happened.now self.old self.new }
+    {
         let node = happened.event.node();
+        if keeps_senders(happened) {
+            self.set_own(node, view.row(node));
+            return;
+        }
         let row = self.row(node);
         self.set(node, own_row(view, happened, row));
-        self.renew_sent(view, node, sends);
     }
 
     // Looks again at the heads of the links that a node sent to.
@@ -103,6 +117,16 @@ fn row_with<V: View>(view: &V, node: NodeNo, senders: NodeSet) -> Row
     Row {
         senders,
         ..view.row(node)
+    }
+}
+
+// An event neither took a message nor may have changed what keeps others on their links to its node.
+fn keeps_senders(happened: &Happened) -> bool
+    ensures { IsTrue result → (from : ℕ) → (happened.now.wide || takes_from happened.now.event from (node_of happened.now.event)) ≡ false }
+{
+    match happened.event {
+        Event::Deliver { .. } => false,
+        Event::Instr { .. } | Event::Handle { .. } | Event::Evict { .. } => !happened.wide,
     }
 }
 
