@@ -40,8 +40,12 @@ fn count_act(counts: &mut Counts, happened: &Happened)
 {
     counts.entries += 1;
     count_did(counts, happened.did);
-    counts.replies += one_if(brings_line(&happened.taken));
-    counts.used += one_if(happened.used);
+    if brings_line(&happened.taken) {
+        counts.replies += 1;
+    }
+    if happened.used {
+        counts.used += 1;
+    }
 }
 
 // What a node did is counted.
