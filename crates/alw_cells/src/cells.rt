@@ -324,7 +324,7 @@ impl NodeCell {
         self.pending.reserve(nodes)?;
         self.dids.reserve(1)?;
         let taken = take(&mut self.come, &mut self.senders, event);
-        let did = self.node.local(event, taken, &mut self.sent);
+        let did = self.node.local(event, &taken, &mut self.sent);
         let _fits = self.sent.free();
         let entry = Entry {
             stamp: self.node.clock(),

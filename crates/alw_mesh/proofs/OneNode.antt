@@ -1,5 +1,5 @@
 -- One of the nodes that a machine keeps: by its share of the image it does what the machine's definitions say of its number.
-use Rattle.std.proofs.Common.{◌≡◌, ℕ, ◌+◌, ◌/◌, ◌<◌, ◌≤◌, ◌==◌, not, Option, List, map, get_or, set, length, refl, sym, ap, subst, ◌∙◌, arith}
+use Rattle.std.proofs.Common.{◌≡◌, ℕ, ◌+◌, ◌/◌, ◌<◌, ◌≤◌, ◌==◌, ◌&&◌, Bool, not, Option, List, map, get_or, set, length, refl, sym, ap, subst, ◌∙◌, arith}
 use Rattle.std.proofs.Math.ListN.{get_or-map}
 use Rattle.std.proofs.lemmas.List.{get_or_read}
 use Rattle.std.proofs.lemmas.Nat.{mul-le}
@@ -15,10 +15,12 @@ use Rattle.alw_model.specs.Contexts.{Slot}
 use Rattle.alw_model.specs.NodeStates.{is_enabled_at}
 use Rattle.alw_model.specs.NodeSteps.{node_step}
 use Rattle.alw_model.specs.Machine.{node_at}
+use Rattle.alw_model.specs.Counts.{is_turn}
 use Rattle.alw_ready.specs.Changes.{hold_count}
 use Rattle.alw_node.specs.Nodes.{Whole, Steps}
 use Rattle.alw_node.proofs.KeptMembers.{enabled_same, step_same}
 use Rattle.alw_mesh.specs.declared.stepping.Acted.{Acted}
+use Rattle.alw_mesh.proofs.Turning.{Left, left_step, none_given}
 use Rattle.alw_mesh.specs.Keeping.{machine_of, no_whole, whole_in, IsOf, AreNodes, HasTrapPc, acted_by, Acts}
 
 -- the home of a line exists
@@ -46,22 +48,25 @@ module _ (image : Parts) (parameters : Parameters) where
     step_there = (λ i. node_step (of.share i) (of.parameters_are i) (of.number i) whole.state event head) ∙ step_same image n parameters n whole.state event head
 
 -- a node that was read takes its step, and is put back
-pub acts : (nodes : List Whole) (at : ℕ) (event : Event) (taken : Option Msg) (sent sent' : Sending) (node node' : Whole) (did : Did) (before holds pc free : ℕ)
+pub acts : (nodes : List Whole) (at : ℕ) (event : Event) (taken : Option Msg) (sent sent' : Sending) (node node' : Whole) (did : Did) (before pc free : ℕ) (changes : Bool)
     → at < length nodes → node ≡ get_or nodes at node → Steps node node' sent sent' did (acted_by node event taken)
-    → before ≡ hold_count node.state.slots → holds ≡ hold_count node'.state.slots → free + length sent'.messages ≡ sent'.room → HasTrapPc node'.state.slots pc did
-    → Acts nodes (set nodes at node') at event taken sent sent' (record { did = did; changes_holds = not (holds == before); pc = pc })
-acts nodes at event taken sent sent' node node' did before holds pc free here read steps held holding fits has =
+    → before ≡ hold_count node.state.slots → changes ≡ (not (before == 0 && is_turn did) && not (hold_count node'.state.slots == before))
+    → free + length sent'.messages ≡ sent'.room → HasTrapPc node'.state.slots pc did
+    → Acts nodes (set nodes at node') at event taken sent sent' (record { did = did; changes_holds = changes; pc = pc })
+acts nodes at event taken sent sent' node node' did before pc free changes here read steps held changed fits has =
     let is : node ≡ whole_in nodes at = get_or_read nodes at node here read no_whole in
     let slots = ap (λ (w : Whole). w.state.slots) steps.node ∙ ap (λ (w : Whole). (acted_by w event taken).node.slots) is in
-    let holding_is = holding ∙ ap hold_count slots in
-    let held_is = held ∙ ap (λ (w : Whole). hold_count w.state.slots) is in
     let room = ap (λ (s : Sending). s.room) steps.sends in
+    let left = left_step node.parts node.parameters node.number node.state event taken in
+    let left_so : Left node.state node'.state.slots did = subst (λ (p : List Slot × Did). Left node.state p.0 p.1) (λ i. (sym (ap (λ (w : Whole). w.state.slots) steps.node) i, sym steps.outcome i)) left in
+    let changed_so : changes ≡ not (hold_count node'.state.slots == hold_count node.state.slots)
+    = changed ∙ (ap (λ n. not (n == 0 && is_turn did) && not (hold_count node'.state.slots == n)) held ∙ none_given node.state node'.state.slots did left_so) in
     record {
       nodes_are = ap (set nodes at) (steps.node ∙ ap (λ (w : Whole). record w { state = (acted_by w event taken).node }) is);
       room = room;
       few = omega (arith, fits, room);
       sends = ap (λ (s : Sending). s.messages) steps.sends ∙ ap (λ (w : Whole). (acted_by w event taken).sends) is;
       did = steps.outcome ∙ ap (λ (w : Whole). (acted_by w event taken).did) is;
-      holds = λ i. not (holding_is i == held_is i);
+      holds = changed_so ∙ (λ i. not (hold_count (slots i) == hold_count (is i).state.slots));
       pc = subst (λ (after : List Slot). HasTrapPc after pc did) slots has;
     }

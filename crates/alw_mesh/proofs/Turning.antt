@@ -1,6 +1,6 @@
 -- What a turn leaves of its node: one slot has run, with the registers that it had where the turn trapped; and its hold has ended.
 use Rattle.std.proofs.Common.{◌≡◌, ℕ, ◌+◌, ◌<◌, ◌==◌, Bool, true, false, not, ◌&&◌, Option, Some, None, is_some, List, [], ◌∷◌, length, set, get_or, refl, sym, ap, subst, ◌∙◌, arith}
-use Rattle.std.proofs.lemmas.Bool.{eq-eqb, ne_eqb}
+use Rattle.std.proofs.lemmas.Bool.{eq-eqb, ne_eqb, eqb-true}
 use Rattle.std.proofs.lemmas.List.{get_or-set_same, length-set}
 use Rattle.alw_num.specs.declared.states.Mode.{Mode}
 use Rattle.alw_num.specs.Weights.{digit}
@@ -95,6 +95,11 @@ module _ (parts : Parts) (parameters : Parameters) (number stamp : ℕ) (node : 
 pub left_step : (parts : Parts) (parameters : Parameters) (number : ℕ) (node : NodeState) (event : Event) (taken : Option Msg) → let s = node_step parts parameters number node event taken in Left node s.node.slots s.did
 left_step parts parameters number node event taken = left_event parts parameters number (stamp_of node.clock taken) node event taken
 
+-- what is no turn is asked for its holds
+no_turn : (b changes : Bool) → (not (b && false) && changes) ≡ changes
+no_turn true changes = refl
+no_turn false changes = refl
+
 -- a turn ended a hold where there are fewer
 pub used_is : (node : NodeState) (after : List Slot) (did : Did) → Left node after did → (is_turn did && not (hold_count after == hold_count node.slots)) ≡ uses_hold node did
 used_is node after (Turn slot outcome) left = go (is_some (slot_at node.slots slot).hold) refl
@@ -110,6 +115,25 @@ used_is node after Took left = refl
 used_is node after Packet left = refl
 used_is node after (Handled kind state) left = refl
 used_is node after Evicted left = refl
+
+-- a turn of a node without a hold leaves it without one
+pub none_given : (node : NodeState) (after : List Slot) (did : Did) → Left node after did
+    → (not (hold_count node.slots == 0 && is_turn did) && not (hold_count after == hold_count node.slots)) ≡ not (hold_count after == hold_count node.slots)
+none_given node after (Turn slot outcome) left = go (hold_count node.slots == 0) refl
+  where
+    left_none : hold_count node.slots ≡ 0 → hold_count after ≡ hold_count node.slots
+    left_none none =
+        let changed = ap (λ slots. hold_count slots + digit (is_some (slot_at node.slots slot).hold)) left.slots ∙ weigh_set (λ (s : Slot). digit (is_some s.hold)) node.slots slot _ no_slot left.within in
+        omega (arith, none, changed)
+
+    go : (b : Bool) → (hold_count node.slots == 0) ≡ b → (not (b && true) && not (hold_count after == hold_count node.slots)) ≡ not (hold_count after == hold_count node.slots)
+    go true none = sym (ap not (eq-eqb (hold_count after) (hold_count node.slots) (left_none (eqb-true (hold_count node.slots) 0 none))))
+    go false some = refl
+none_given node after (Missed slot) left = no_turn (hold_count node.slots == 0) _
+none_given node after Took left = no_turn (hold_count node.slots == 0) _
+none_given node after Packet left = no_turn (hold_count node.slots == 0) _
+none_given node after (Handled kind state) left = no_turn (hold_count node.slots == 0) _
+none_given node after Evicted left = no_turn (hold_count node.slots == 0) _
 
 -- a slot that has trapped has the PC that it had
 pub pc_is : (node : NodeState) (after : List Slot) (did : Did) (pc : ℕ) → Left node after did → HasTrapPc after pc did → HasPc node pc did

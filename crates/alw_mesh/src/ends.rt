@@ -30,6 +30,7 @@ impl Machine {
 
     /// The end that holds, with the first trapping turn, or the first main event beyond the limit. None
     /// exactly where no end holds.
+    #[inline(always)]
     pub fn ended(&self) -> Option<Ended>
         ensures run { IsRun self.now }
         ensures end { MatchOption result (end_of self.now.image self.now.parameters (state_of self.now) ≡ None)

@@ -224,7 +224,7 @@ impl Mesh {
     {
         let number = event.node();
         let taken = take(&mut self.links, event);
-        let acted = act(&mut self.nodes, usize::from(number.0), event, taken, sent);
+        let acted = act(&mut self.nodes, usize::from(number.0), event, &taken, sent);
         self.links.send_all(number, sent);
         self.remains.follow(event, acted.did);
         let told = Happened {

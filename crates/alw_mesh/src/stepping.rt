@@ -1,9 +1,10 @@
-ghost use Rattle.std.specs.Prelude.{◌≡◌, ◌<◌, ◌≤◌, ◌&&◌, true, length, nat_le, map, option_copied, IfOk};
+ghost use Rattle.std.specs.Prelude.{◌≡◌, ◌<◌, ◌≤◌, ◌==◌, ◌&&◌, not, true, length, nat_le, map, option_copied, IfOk};
 ghost use Rattle.std.specs.List.{range_with_len};
 ghost use Rattle.std.specs.Arc.{arc_value};
 ghost use Rattle.alw_image.specs.Images.{IsImage, node_count};
 ghost use Rattle.alw_model.specs.NodeStates.{stamp_of};
 ghost use Rattle.alw_model.specs.Counts.{is_turn};
+ghost use Rattle.alw_ready.specs.Changes.{hold_count};
 ghost use Rattle.alw_node.specs.Nodes.{whole_start, IsGiven};
 ghost use Rattle.alw_mesh.specs.Keeping.{taken_from, after_taking, IsWithin, HasTrapPc, whole_in, may_act, Acts};
 
@@ -105,14 +106,14 @@ pub fn act(
     nodes: &mut Vec<Node>,
     at: usize,
     event: Event,
-    taken: Option<Msg>,
+    taken: &Option<Msg>,
     sent: &mut Sends,
 ) -> Acted
     requires here { at < length nodes.old.items }
-    requires enabled { may_act (whole_in nodes.old.items at) event taken ≡ true }
-    requires taken { IsGiven event taken }
+    requires enabled { may_act (whole_in nodes.old.items at) event taken.now ≡ true }
+    requires taken { IsGiven event taken.now }
     requires room { node_count (whole_in nodes.old.items at).parts ≤ sent.old.room }
-    ensures { Acts nodes.old.items nodes.new.items at event taken sent.old sent.new result }
+    ensures { Acts nodes.old.items nodes.new.items at event taken.now sent.old sent.new result }
 {
     let node = &mut nodes[at];
     let holds = node.holds();
@@ -120,9 +121,17 @@ pub fn act(
     let _fits = sent.free();
     Acted {
         did,
-        changes_holds: node.holds() != holds,
+        changes_holds: changes_holds(node, did, holds),
         pc: trap_pc(node, did),
     }
+}
+
+// A node has another number of holds than before, when it had this many. A turn gives none.
+fn changes_holds(node: &Node, did: Did, before: u32) -> bool
+    ensures { result ≡ (not (before == 0 && is_turn did) && not (hold_count node.now.state.slots == before)) }
+{
+    let ends_none = before == 0 && matches!(did, Did::Turn { .. });
+    !ends_none && node.holds() != before
 }
 
 /// What happened at an event, and whether its node has another number of holds than before.

@@ -109,11 +109,11 @@ impl Node {
 
     /// One event of the node, which is enabled, with the message that it takes: none, but for a
     /// delivery. What is sent is in `sent`, which has room for a message to each node.
-    pub fn local(&mut self, event: Event, taken: Option<Msg>, sent: &mut Sends) -> Did
-        requires enabled { is_enabled_at self.old.parts self.old.parameters self.old.number self.old.state event taken ≡ true }
-        requires taken { IsGiven event taken }
+    pub fn local(&mut self, event: Event, taken: &Option<Msg>, sent: &mut Sends) -> Did
+        requires enabled { is_enabled_at self.old.parts self.old.parameters self.old.number self.old.state event taken.now ≡ true }
+        requires taken { IsGiven event taken.now }
         requires room { node_count self.old.parts ≤ sent.old.room }
-        ensures { Steps self.old self.new sent.old sent.new result (node_step self.old.parts self.old.parameters self.old.number self.old.state event taken) }
+        ensures { Steps self.old self.new sent.old sent.new result (node_step self.old.parts self.old.parameters self.old.number self.old.state event taken.now) }
     {
         let stamp = next_stamp(self.clock, taken);
         sent.begin(self.proc.number(), stamp);
@@ -127,9 +127,9 @@ impl Node {
                     return Did::Took;
                 };
                 if msg.kind.is_to_memory() {
-                    self.memory.deliver(&msg, sent)
+                    self.memory.deliver(msg, sent)
                 } else {
-                    self.proc.cache_msg(&msg, sent)
+                    self.proc.cache_msg(msg, sent)
                 }
             }
         }
@@ -314,10 +314,10 @@ impl Node {
 }
 
 // The stamp of an event that takes this message, at a clock that isn't the greatest.
-fn next_stamp(clock: u32, taken: Option<Msg>) -> u32
+fn next_stamp(clock: u32, taken: &Option<Msg>) -> u32
     requires clock { clock < 4294967295 }
-    requires taken { FitsStamp taken }
-    ensures { result ≡ stamp_of clock taken }
+    requires taken { FitsStamp taken.now }
+    ensures { result ≡ stamp_of clock taken.now }
 {
     match taken {
         Some(msg) => clock.max(msg.stamp) + 1,

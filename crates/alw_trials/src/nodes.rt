@@ -108,7 +108,7 @@ fn step(mesh: &mut Mesh, event: Event, sent: &mut Sends) -> Result<Option<(u32, 
     if !may(node, event, taken) {
         return Ok(None);
     }
-    let did = node.local(event, taken, sent);
+    let did = node.local(event, &taken, sent);
     let clock = node.clock();
     if let Some((place, _)) = head {
         if place < mesh.waiting.len() {

@@ -5,10 +5,10 @@ use Rattle.alw_mesh.specs.Ends.{next_events}
 use Rattle.alw_sched.proofs.Picking.{some_event}
 use Rattle.alw_sched.proofs.schedules.pick.Goals as goal
 
-pub nonzero_rem-number : goal.nonzero_rem-number
-nonzero_rem-number c = omega (arith, c.events.ensures, some_event c.args.machine.now c.requires)
+pub modulo-requires : goal.modulo-requires
+modulo-requires c = omega (arith, c.events.ensures, some_event c.args.machine.now c.requires)
 
 pub event-requires : goal.event-requires
 event-requires c =
     let some : 0 < c.events.result = omega (arith, c.events.ensures, some_event c.args.machine.now c.requires) in
-    rw (← c.events.ensures) (mod-lt c.args.number some)
+    rw (c.modulo.ensures, ← c.events.ensures) (mod-lt c.args.number some)

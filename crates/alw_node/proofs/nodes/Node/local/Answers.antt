@@ -7,7 +7,7 @@ use Rattle.alw_node.proofs.nodes.Node.local.Goals as goal
 pub next_stamp-stamp-requires-clause-taken : goal.next_stamp-stamp-requires-clause-taken
 next_stamp-stamp-requires-clause-taken c =
     let whole = c.args.self.now in
-    given_fits whole.parts whole.parameters whole.number whole.state c.args.event c.args.taken c.requires.enabled c.requires.taken
+    given_fits whole.parts whole.parameters whole.number whole.state c.args.event c.args.taken.now c.requires.enabled c.requires.taken
 
 pub returns-in-Instr : goal.returns-in-Instr
 returns-in-Instr c = record { node = search rules; sends = search rules; outcome = search rules }
