@@ -1,11 +1,9 @@
 -- Places as slots: what is read of one, and what a change does.
-use Rattle.std.proofs.Common.{◌≡◌, ℕ, ◌+◌, ◌<◌, ◌≤◌, None, is_some, List, [], ◌∷◌, ◌++◌, length, map, take, slice_set, slice_index_or, sym, ap, ◌∙◌, arith}
+use Rattle.std.proofs.Common.{◌≡◌, ℕ, ◌+◌, ◌<◌, ◌≤◌, None, List, [], ◌∷◌, ◌++◌, length, map, take, slice_set, slice_index_or, sym, ap, ◌∙◌, arith}
 use Rattle.std.proofs.lemmas.List.{get_or-take, get_or-map, get_or-set_same, length-take-le, length-map, map-set, take-map, take_more, take_more_set}
 use Rattle.std.proofs.lemmas.List.FromFn.{map-range_with_len_more}
 use Rattle.std.specs.List.{range_with_len}
 use Rattle.std.proofs.Math.Seq.{take-set-lt}
-use Rattle.alw_num.specs.Weights.{digit, weigh}
-use Rattle.alw_num.proofs.Weigh.{weigh_push}
 use Rattle.alw_model.specs.Contexts.{Slot, no_slot, slot_at, ran, woken, wake}
 use Rattle.alw_ctx.specs.declared.residents.Resident.{Resident}
 use Rattle.sparc_table.specs.declared.registers.Regs.{Regs}
@@ -64,13 +62,6 @@ slots_woken n line (p ∷ []) o a b c d four ea eb ec ed = absurd (omega arith)
 slots_woken n line (p ∷ q ∷ []) o a b c d four ea eb ec ed = absurd (omega arith)
 slots_woken n line (p ∷ q ∷ r ∷ []) o a b c d four ea eb ec ed = absurd (omega arith)
 slots_woken n line (p ∷ q ∷ r ∷ s ∷ t ∷ rest) o a b c d four ea eb ec ed = absurd (omega arith)
-
--- one slot more is counted
-abbrev pub holding : Slot → ℕ
-holding slot = digit (is_some slot.hold)
-
-pub counted_more : (slots : List Slot) (i : ℕ) → i < length slots → weigh holding (take (i + 1) slots) ≡ weigh holding (take i slots) + holding (slot_at slots i)
-counted_more slots i l = ap (weigh holding) (take_more slots i no_slot l) ∙ weigh_push holding (take i slots) (slot_at slots i)
 
 -- one place more is filled
 pub filled_more : (f : ℕ → Slot) (k : ℕ) (places : List Resident) (place : Resident) → k < length places → slots_of k places ≡ map f (range_with_len 0 k) → slot_of place ≡ f k

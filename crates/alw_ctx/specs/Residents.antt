@@ -1,6 +1,7 @@
 -- The contexts of a node as it keeps them: four places, of which the first so many are its slots.
-use Rattle.std.specs.Prelude.{ℕ, List, map, take}
+use Rattle.std.specs.Prelude.{ℕ, List, map, take, is_some}
 use Rattle.std.specs.Option.{option_map}
+use Rattle.alw_num.specs.Weights.{digit, weigh}
 use Rattle.alw_num.specs.declared.addresses.LineNo.{LineNo}
 use Rattle.sparc_table.specs.declared.registers.Regs.{Regs}
 use Rattle.sparc_table.specs.declared.outcomes.Outcome.{Outcome}
@@ -27,6 +28,10 @@ slot_of resident = record { regs = resident.regs; status = resident.status; hold
 -- the first so many places as slots
 abbrev pub slots_of : ℕ → List Resident → List Slot
 slots_of count places = take count (map slot_of places)
+
+-- the number of slots with a hold
+abbrev pub holds_of : List Slot → ℕ
+holds_of slots = weigh (λ slot. digit (is_some slot.hold)) slots
 
 -- a context after a turn, which waits on the line that it misses
 abbrev pub left_by : Regs → Outcome → Status

@@ -27,17 +27,18 @@ pub struct Contexts {
     places: [Resident; 4],
     count: u8,
     current: u8,
+    holds: u8,
 }
 
 impl Model for Contexts {
     ghost use Rattle.std.specs.Prelude.{◌≡◌, ◌≤◌, ◌<◌, length};
-    ghost use Rattle.alw_ctx.specs.Residents.{NodeContexts, slots_of};
+    ghost use Rattle.alw_ctx.specs.Residents.{NodeContexts, slots_of, holds_of};
 
     ghost Value = { NodeContexts };
 
     ghost view = { λ c. record { slots = slots_of c.count c.places; current = c.current } };
 
-    ghost invariant = { λ c. (c.current < c.count) × (c.count ≤ 4) × (length c.places ≡ 4) };
+    ghost invariant = { λ c. (c.current < c.count) × (c.count ≤ 4) × (length c.places ≡ 4) × (c.holds ≡ holds_of (slots_of c.count c.places)) };
 }
 
 impl Contexts {
@@ -51,6 +52,7 @@ impl Contexts {
             places: residents(image, node),
             count: image.contexts(),
             current: 0,
+            holds: 0,
         }
     }
 
@@ -123,13 +125,7 @@ impl Contexts {
     pub fn holds(&self) -> u32
         ensures { result ≡ weigh (λ slot. digit (is_some slot.hold)) self.now.slots }
     {
-        let mut count = 0;
-        for slot in 0..self.count {
-            if self.places[slot as usize].has_hold() {
-                count += 1;
-            }
-        }
-        count
+        u32::from(self.holds)
     }
 
     /// All contexts have halted.
@@ -155,6 +151,7 @@ impl Contexts {
         ensures sizes { (P.lines port.new ≡ P.lines port.old) × (P.places port.new ≡ P.places port.old) }
     {
         self.current = slot;
+        self.holds -= self.places[slot as usize].holds();
         let place = &mut self.places[slot as usize];
         place.turn(code, port)
     }
@@ -165,6 +162,7 @@ impl Contexts {
         requires { slot < length self.old.slots }
         ensures { self.new ≡ record { slots = ran self.old.slots slot regs status; current = slot } }
     {
+        self.holds -= self.places[slot as usize].holds();
         self.places[slot as usize] = Resident {
             regs,
             status,
@@ -178,6 +176,7 @@ impl Contexts {
         requires { slot < length self.old.slots }
         ensures { self.new ≡ record self.old { slots = give_hold line.0 slot self.old.slots } }
     {
+        self.holds += 1 - self.places[slot as usize].holds();
         self.places[slot as usize].hold = Some(line);
     }
 

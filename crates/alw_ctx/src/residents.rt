@@ -1,5 +1,6 @@
-ghost use Rattle.std.specs.Prelude.{◌≡◌, ◌↔◌, ◌==◌, None, is_some};
+ghost use Rattle.std.specs.Prelude.{◌≡◌, ◌↔◌, ◌≤◌, ◌==◌, None, is_some};
 ghost use Rattle.alw_num.specs.Maps.{passes};
+ghost use Rattle.alw_num.specs.Weights.{digit};
 ghost use Rattle.sparc_table.specs.Turns.{need_of, turn_of};
 ghost use Rattle.sparc_exec.specs.Runs.{seen, IsRun, IsMissing};
 ghost use Rattle.alw_num.specs.declared.addresses.LineNo.{LineNo};
@@ -57,11 +58,12 @@ impl Resident {
         }
     }
 
-    /// The context has a hold.
-    pub fn has_hold(&self) -> bool
-        ensures { result ≡ is_some (slot_of self.now).hold }
+    /// The number of holds that the context has: one or none.
+    pub fn holds(&self) -> u8
+        ensures count { result ≡ digit (is_some (slot_of self.now).hold) }
+        ensures most { result ≤ 1 }
     {
-        self.hold.is_some()
+        if self.hold.is_some() { 1 } else { 0 }
     }
 
     /// A turn of the context over a port. Its hold ends, and where it misses it waits on the line.

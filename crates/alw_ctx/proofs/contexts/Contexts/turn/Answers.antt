@@ -1,13 +1,15 @@
 -- The slot's place has taken the turn.
-use Rattle.std.proofs.Common.{◌≡◌, ◌↔◌, ◌<◌, length, arith}
+use Rattle.std.proofs.Common.{◌≡◌, ◌↔◌, ◌<◌, length, ap, rules, arith}
 use Rattle.alw_num.specs.declared.addresses.LineNo.{LineNo}
 use Rattle.alw_num.specs.declared.states.Mode.{Mode}
 use Rattle.sparc_table.specs.Turns.{need_of, turn_of}
 use Rattle.sparc_table.specs.declared.registers.Regs.{Regs}
 use Rattle.sparc_table.specs.declared.outcomes.Outcome.TheVariants as ends
 use Rattle.sparc_exec.specs.Runs.{seen, IsRun, IsMissing}
+use Rattle.alw_model.specs.Contexts.{Slot}
 use Rattle.alw_ctx.specs.Residents.{slots_of}
 use Rattle.alw_ctx.proofs.Slots.{length_slots, of_slot, turned, same_contexts}
+use Rattle.alw_ctx.proofs.Holds.{hold_counted, hold_ends}
 use Rattle.alw_ctx.proofs.contexts.Contexts.turn.Goals as goal
 
 pub returns-clause-run : goal.returns-clause-run
@@ -34,3 +36,13 @@ returns-clause-contexts g c =
     let size = length_slots inside.count inside.places (omega (arith, c.self.invariant.1, c.self.invariant.2)) in
     let within : c.args.slot < length (slots_of inside.count inside.places) = rw (← c.self.view_is) at c.requires in
     rw (← c.self.view_is) (same_contexts _ _ _ (turned inside.count inside.places c.args.slot c.turn.new.self c.turn.result (omega (arith, within, size)) (omega (arith, c.self.invariant.1, c.self.invariant.2)) c.turn.ensures.left))
+
+pub overflow_sub-self : goal.overflow_sub-self
+overflow_sub-self g c =
+    let here : c.args.slot < length (slots_of c.self.inside.count c.self.inside.places) = rw (← c.self.view_is) at c.requires in
+    hold_counted _ _ _ _ _ _ c.self.invariant here c.holds.result c.holds.ensures.count
+
+pub invariant_of-self : goal.invariant_of-self
+invariant_of-self g c =
+    let here : c.args.slot < length (slots_of c.self.inside.count c.self.inside.places) = rw (← c.self.view_is) at c.requires in
+    hold_ends _ _ _ _ _ _ c.self.invariant here c.turn.new.self c.holds.result c.holds.ensures.count (ap (λ (s : Slot). s.hold) c.turn.ensures.left)
