@@ -1,7 +1,8 @@
 -- A local run with one event more, what it leaves of a cell, and runs by a node's share of an image.
-use Rattle.std.proofs.Common.{◌≡◌, ℕ, suc, ◌-◌, ◌^◌, ◌≤◌, ◌==◌, nat_lt, Bool, true, false, Option, Some, None, List, [], ◌∷◌, ◌++◌, length, IsTrue, refl, sym, subst, ap, ◌∙◌, append_assoc, append-nil, arith}
+use Rattle.std.proofs.Common.{◌≡◌, ℕ, suc, ◌-◌, ◌^◌, ◌≤◌, ◌<◌, ◌==◌, nat_lt, Bool, true, false, Option, Some, None, List, [], ◌∷◌, ◌++◌, length, IsTrue, refl, sym, subst, ap, ◌∙◌, append_assoc, append-nil, arith}
 use Rattle.std.specs.Prelude.{is_some}
 use Rattle.std.proofs.lemmas.Bool.{true≢false, leb-true}
+use Rattle.std.specs.List.{AllByRecursion}
 use Rattle.std.proofs.lemmas.List.Concat.{flat_map-append}
 use Rattle.alw_num.specs.Maps.{passes}
 use Rattle.alw_msg.specs.declared.messages.Msg.{Msg}
@@ -13,7 +14,7 @@ use Rattle.alw_image.specs.declared.parts.Parts.{Parts}
 use Rattle.alw_image.specs.Images.{node_count}
 use Rattle.alw_image.specs.Parameters.{Parameters}
 use Rattle.alw_model.specs.declared.steps.Did.{Did}
-use Rattle.alw_model.specs.NodeStates.{NodeState, node_start, is_enabled_at, may, may_deliver}
+use Rattle.alw_model.specs.NodeStates.{NodeState, stamp_of, node_start, is_enabled_at, may, may_deliver}
 use Rattle.alw_model.specs.NodeSteps.{node_step}
 use Rattle.alw_model.specs.Threads.{Logged, IsNextLogged, IsRunFrom, IsLocalRun, node_after, sent_to, takes_rightly}
 use Rattle.alw_model.proofs.Journals.{and_parts}
@@ -23,6 +24,11 @@ use Rattle.alw_node.proofs.KeptMembers.{start_same, enabled_same, step_same}
 use Rattle.alw_cells.specs.Cells.{Cell, IsReplayed, IsBack, picked, in_from, dids_from, dids_of}
 use Rattle.alw_cells.specs.Choice.{taken_by, may_happen, logged_by}
 use Rattle.alw_cells.proofs.Receivers.{picked-append}
+
+-- an event's stamp is above its node's clock
+pub stamp_above : (clock : ℕ) (taken : Option Msg) → clock < stamp_of clock taken
+stamp_above clock None = omega arith
+stamp_above clock (Some msg) = omega arith
 
 module _ (parts : Parts) (parameters : Parameters) (number : ℕ) where
   -- one event more
@@ -55,6 +61,20 @@ module _ (parts : Parts) (parameters : Parameters) (number : ℕ) where
 
   pub clock_most : (log : List Logged) → IsLocalRun parts parameters number log → (node_after parts parameters number (node_start parts number) log).clock ≤ parameters.limit
   clock_most log run = clock_within (node_start parts number) log run (omega arith)
+
+-- stamps rise: those of a log are at most the clock that it leaves
+module _ (parts : Parts) (parameters : Parameters) (number : ℕ) where
+  clock_rises : (node : NodeState) (log : List Logged) → IsRunFrom parts parameters number node log → node.clock ≤ (node_after parts parameters number node log).clock
+  clock_rises node [] run = omega arith
+  clock_rises node (first ∷ rest) (is, run) =
+      let deeper = clock_rises (node_step parts parameters number node first.entry.event first.taken).node rest run in
+      omega (arith, deeper, stamp_above node.clock first.taken)
+
+  pub stamps_within : (node : NodeState) (log : List Logged) → IsRunFrom parts parameters number node log → AllByRecursion (λ (logged : Logged). logged.entry.stamp ≤ (node_after parts parameters number node log).clock) log
+  stamps_within node [] run = tt
+  stamps_within node (first ∷ rest) (is, run) =
+      let next = (node_step parts parameters number node first.entry.event first.taken).node in
+      (omega (arith, is.stamp, clock_rises next rest run), stamps_within next rest run)
 
 -- what was sent, and what of it is still to be given out
 sent_push : (to : ℕ) (log : List Logged) (one : Logged) → sent_to to (log ++ one ∷ []) ≡ sent_to to log ++ picked to one.sent

@@ -1,5 +1,6 @@
 -- Records are read back, one behind the other.
 use Rattle.std.proofs.Common.{◌≡◌, ℕ, zero, suc, ◌+◌, ◌≤◌, ◌<◌, ◌^◌, true, false, Option, Some, None, IsTrue, IfSome, List, [], ◌∷◌, ◌++◌, length, drop, flat_map, refl, sym, subst, ap, ◌∙◌, append_assoc, append-nil, arith}
+use Rattle.std.specs.List.{AllByRecursion}
 use Rattle.std.proofs.lemmas.Bool.{true≢false}
 use Rattle.std.proofs.lemmas.List.{length-append, drop-drop, drop_at}
 use Rattle.std.proofs.lemmas.List.Concat.{flat_map-append}
@@ -10,7 +11,7 @@ use Rattle.alw_msg.specs.declared.events.Entry.{Entry}
 use Rattle.alw_msg.specs.Events.{node_of}
 use Rattle.alw_model.specs.Threads.{Logged, takes_rightly}
 use Rattle.alw_cells.specs.Layout.{word, half, tag_of, argument_of, taken_bytes, sent_bytes, front_bytes, back_bytes, record_bytes, log_bytes}
-use Rattle.alw_cells.specs.Records.{IsPlain, IsRecord, FitsMsg, FitsEvent, FitsRecord, AreRecords, word_in, half_in, event_by, event_in, sends_in, behind_sends, HasSends, taken_in, taken_size, record_in, sends_at, behind_record, HasRecord, with_sends, records_in, HasRecords, ArePacked}
+use Rattle.alw_cells.specs.Records.{IsPlain, IsRecord, FitsMsg, FitsEvent, FitsRecord, AreRecords, word_in, half_in, event_by, event_in, sends_in, behind_sends, HasSends, taken_in, taken_size, record_in, sends_at, behind_record, HasRecord, with_sends, records_in, HasRecords, AreBelow, Ascends, ArePacked}
 use Rattle.alw_cells.specs.declared.records.Record.{Record}
 use Rattle.alw_cells.proofs.Packing.{word_back, half_back, word_length, half_length, taken_back, msg_size_is, taken_length, sends_back}
 
@@ -166,9 +167,17 @@ module _ (number events : ℕ) (bytes : List ℕ) (packed : bytes ≡ log_bytes 
 
 -- ---- what each call of a log leaves
 
+ascends_push : (log : List Logged) (logged : Logged) → Ascends log → AreBelow logged.entry.stamp log → Ascends (log ++ logged ∷ [])
+ascends_push [] logged ascends below = (tt, tt)
+ascends_push (first ∷ log) logged ascends below = (push log ascends.0, ascends_push log logged ascends.1 below.1)
+  where
+    push : (rest : List Logged) → AllByRecursion (λ (later : Logged). first.entry.stamp < later.entry.stamp) rest → AllByRecursion (λ (later : Logged). first.entry.stamp < later.entry.stamp) (rest ++ logged ∷ [])
+    push [] all = (below.0, tt)
+    push (later ∷ rest) all = (all.0, push rest all.1)
+
 pub packed_start : (number : ℕ) (bytes : List ℕ) (capacity : ℕ) → bytes ≡ [] → ArePacked number 0 bytes 0 capacity
 unfolding log_bytes
-packed_start number bytes capacity none = record { packed = none; records = tt; few = omega arith; place = omega (arith, ap length none) }
+packed_start number bytes capacity none = record { packed = none; records = tt; ascends = tt; few = omega arith; place = omega (arith, ap length none) }
 
 pub put_all : (logged : Logged) (before front taken back : List ℕ) → front ≡ before ++ front_bytes logged.entry → taken ≡ front ++ taken_bytes logged.taken → back ≡ taken ++ back_bytes logged.sent
     → back ≡ before ++ record_bytes logged
@@ -178,13 +187,14 @@ put_all logged before front taken back front_is taken_is back_is =
     ∙ (append_assoc (before ++ front_bytes logged.entry) (taken_bytes logged.taken) (back_bytes logged.sent) ∙ append_assoc before (front_bytes logged.entry) (taken_bytes logged.taken ++ back_bytes logged.sent)))
 
 pub packed_more : (number events : ℕ) (bytes after : List ℕ) (room capacity grown : ℕ) (logged : Logged) → ArePacked number events bytes room capacity → IsRecord number logged → FitsRecord logged → after ≡ bytes ++ record_bytes logged
-    → 1 ≤ room → length after ≤ grown → ArePacked number (events + 1) after 0 grown
-packed_more number events bytes after room capacity grown logged are is fits put some place =
+    → AreBelow logged.entry.stamp (records_in number events bytes) → 1 ≤ room → length after ≤ grown → ArePacked number (events + 1) after 0 grown
+packed_more number events bytes after room capacity grown logged are is fits put below some place =
     let read = read_more number events bytes are.packed are.records logged after is fits put in
     let log = records_in number events bytes in
     record {
       packed = put ∙ (ap (λ (xs : List ℕ). xs ++ record_bytes logged) are.packed ∙ (sym (log_push log logged) ∙ ap log_bytes (sym read)));
       records = subst (AreRecords number) (sym read) (all_push number log logged are.records (is, fits));
+      ascends = subst Ascends (sym read) (ascends_push log logged are.ascends below);
       few = omega (arith, are.few, some);
       place = omega (arith, place);
     }

@@ -75,6 +75,14 @@ pub record FitsRecord (logged : Logged) : Type 0 where
 abbrev pub AreRecords : ℕ → List Logged → Type 0
 AreRecords number log = AllByRecursion (λ (logged : Logged). IsRecord number logged × FitsRecord logged) log
 
+-- stamps rise: each event has a greater one than those before it
+abbrev pub AreBelow : ℕ → List Logged → Type 0
+AreBelow stamp log = AllByRecursion (λ (logged : Logged). logged.entry.stamp < stamp) log
+
+abbrev pub Ascends : List Logged → Type 0
+Ascends [] = Unit {0}
+Ascends (logged ∷ rest) = AllByRecursion (λ (later : Logged). logged.entry.stamp < later.entry.stamp) rest × Ascends rest
+
 -- ---- fields, each at the front of some bytes
 
 unfoldable pub word_in : List ℕ → ℕ
@@ -185,6 +193,7 @@ HasRecords number (suc n) bytes = HasRecord number bytes × HasRecords number n 
 pub record ArePacked (number events : ℕ) (bytes : List ℕ) (room capacity : ℕ) : Type 0 where
   pub packed : bytes ≡ log_bytes (records_in number events bytes)
   pub records : AreRecords number (records_in number events bytes)
+  pub ascends : Ascends (records_in number events bytes)
   pub few : events + min room 1 < 2 ^ 32
   pub place : length bytes + (15 * min room 1 + 23 * room) ≤ capacity
 

@@ -64,6 +64,14 @@ impl<'a> Cursor<'a> {
         Some(record.entry)
     }
 
+    /// The entry of the event given last. None exactly where the last `next` gave no event or none was asked
+    /// for yet.
+    pub fn entry(&self) -> Option<Entry>
+        ensures { result ≡ option_map entry_of self.now.given }
+    {
+        Some(self.given?.entry)
+    }
+
     /// The message that the event given last took. None exactly where it took none, or where the last
     /// `next` gave no event or none was asked for yet.
     pub fn taken(&self) -> Option<Msg>

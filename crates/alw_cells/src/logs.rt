@@ -2,7 +2,7 @@ ghost use Rattle.std.specs.Prelude.{◌≡◌, ◌<◌, ◌+◌, ◌↔◌, fals
 ghost use Rattle.alw_model.specs.Threads.{took_from, sent_to, IsFront};
 ghost use Rattle.alw_cells.specs.Layout.{log_bytes};
 ghost use Rattle.alw_msg.specs.declared.messages.Msg.{Msg};
-ghost use Rattle.alw_cells.specs.Records.{IsRecord};
+ghost use Rattle.alw_cells.specs.Records.{IsRecord, AreBelow, Ascends};
 ghost use Rattle.alw_cells.specs.Receiving.{took_by};
 ghost use Rattle.alw_cells.specs.Logs.{reading_of};
 
@@ -20,8 +20,8 @@ const MOST_RECORD: usize = 38;
 const MOST_SENT: usize = 23;
 
 /// What a node did: its events in order, each with the message that it took and those that it sent,
-/// with their receivers. It has fewer than 2^32 events, and keeps them as bytes. Contracts see the
-/// node's number, the list, and the room that is kept for one event more.
+/// with their receivers. Stamps rise. It has fewer than 2^32 events, and keeps them as bytes. Contracts
+/// see the node's number, the list, and the room that is kept for one event more.
 #[derive(Debug, Drop)]
 pub struct Log {
     node: NodeNo,
@@ -81,7 +81,8 @@ impl Log {
 
     /// Reads the log from its beginning.
     pub fn cursor(&self) -> Cursor<'_>
-        ensures { result ≡ reading_of self.now.entries }
+        ensures reading { result ≡ reading_of self.now.entries }
+        ensures ascends { Ascends self.now.entries }
     {
         Cursor::over(self.node, self.events, &self.bytes)
     }
@@ -117,10 +118,11 @@ impl Log {
         Ok(())
     }
 
-    /// One event more of the node, with the message that it took and those that it sent. It takes no
-    /// memory.
+    /// One event more of the node, of a greater stamp than those before it, with the message that it took
+    /// and those that it sent. It takes no memory.
     pub fn push(&mut self, entry: Entry, taken: Option<Msg>, sent: &Sends)
         requires record { IsRecord self.old.number (record { entry = entry; taken = taken; sent = sent.now.messages }) }
+        requires stamp { AreBelow entry.stamp self.old.entries }
         requires room { length sent.now.messages < self.old.room }
         ensures { self.new ≡ record { number = self.old.number; entries = self.old.entries ++ record { entry = entry; taken = taken; sent = sent.now.messages } ∷ []; room = 0 } }
     {

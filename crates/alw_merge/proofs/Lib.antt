@@ -1,7 +1,7 @@
 pub mod Fronts
 pub mod Kept
 pub mod Whole
-pub mod Sorting
+pub mod Merging
 pub mod Courses
 pub mod Walking
 pub mod Joining

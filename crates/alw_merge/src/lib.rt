@@ -6,9 +6,11 @@ mod joins;
 mod laws;
 mod merges;
 mod replays;
+mod streams;
 mod walks;
 
 pub use joins::join;
 pub use laws::merges_are_kept;
-pub use merges::merge;
-pub use replays::{Replayed, replay, take};
+pub use merges::{merge, stream};
+pub use replays::{Replayed, replay, replay_logs, take};
+pub use streams::Stream;

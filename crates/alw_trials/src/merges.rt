@@ -1,7 +1,8 @@
-ghost use Rattle.std.specs.Prelude.{◌≡◌, OnOk};
+ghost use Rattle.std.specs.Prelude.{◌≡◌, ◌+◌, OnOk};
+ghost use Rattle.alw_cells.specs.Records.{AreBelow};
 
 use alw_cells::{Log, Logs, links_agree};
-use alw_merge::merge;
+use alw_merge::{merge, stream};
 use alw_msg::{Entry, Event, Kind, Msg, Sends};
 use alw_num::{Line, LineNo, NodeNo};
 use std::alloc::Global;
@@ -32,33 +33,38 @@ const CALL_BACK: Msg = Msg {
     body: Line::ZERO,
 };
 
-// An event more of a node that sends nothing. A delivery takes such a message.
-fn put(alloc: Global, log: &mut Log, node: NodeNo, entry: Entry) -> Result<(), Fail>
-    requires { log.old.number ≡ node.0 }
-    ensures { OnOk result (log.new.number ≡ node.0) }
+// An event more of a node that sends nothing, behind those up to a stamp. A delivery takes such a message.
+fn put(alloc: Global, log: &mut Log, node: NodeNo, last: u32, entry: Entry) -> Result<(), Fail>
+    requires number { log.old.number ≡ node.0 }
+    requires last { AreBelow (last + 1) log.old.entries }
+    ensures number { OnOk result (log.new.number ≡ node.0) }
+    ensures last { OnOk result (AreBelow (entry.stamp + 1) log.new.entries) }
 {
+    if entry.stamp <= last {
+        return Err("stamps don't rise".into());
+    }
+    let taken = match entry.event {
+        Event::Instr { node: own } if own == node => None,
+        Event::Deliver { from, to } if to == node => Some(Msg {
+            src: from,
+            ..CALL_BACK
+        }),
+        _ => return Err("another event".into()),
+    };
     let mut nothing = Sends::room(alloc, 0)?;
     nothing.begin(node, entry.stamp);
     log.reserve(0)?;
-    match entry.event {
-        Event::Instr { node: own } if own == node => log.push(entry, None, &nothing),
-        Event::Deliver { from, to } if to == node => {
-            let taken = Msg {
-                src: from,
-                ..CALL_BACK
-            };
-            log.push(entry, Some(taken), &nothing);
-        }
-        _ => return Err("another event".into()),
-    }
+    log.push(entry, taken, &nothing);
     Ok(())
 }
 
 // The entries of a node's log.
 fn log_of(alloc: Global, node: NodeNo, entries: &[Entry]) -> Result<Log, Fail> {
     let mut log = Log::empty(alloc, node);
+    let mut last = 0;
     for entry in entries {
-        put(alloc, &mut log, node, *entry)?;
+        put(alloc, &mut log, node, last, *entry)?;
+        last = entry.stamp;
     }
     Ok(log)
 }
@@ -122,6 +128,11 @@ fn entries_of_two_writers_merge(rt: HostRuntime) -> Result<(), Fail> {
     ];
     let journal = merge(alloc, &logs)?;
     assert!(rt; journal.members() == merged.as_slice());
+    let mut entries = stream(alloc, &logs)?;
+    for entry in merged {
+        assert_eq!(rt; entries.next(), Some(entry));
+    }
+    assert_eq!(rt; entries.next(), None);
     Ok(())
 }
 

@@ -1,7 +1,11 @@
-use Rattle.std.proofs.Common.{◌≡◌, map, take}
-use Rattle.alw_order.specs.Merges.{entries_of}
+use Rattle.std.proofs.Common.{◌≡◌, ◌++◌, length}
+use Rattle.alw_model.specs.Threads.{merged}
 use Rattle.alw_cells.specs.Logs.{logged}
 use Rattle.alw_merge.proofs.merges.merge.Given as goal
 
-abbrev pub invariant-loop-log : goal.invariant-loop-log
-invariant-loop-log l = l.entries.items ≡ entries_of (logged (take l.log-index l.logs))
+-- what was read, and what is left to be read, is all
+abbrev pub invariant-loop-entry : goal.invariant-loop-entry
+invariant-loop-entry l = l.journal ++ l.entries ≡ merged (logged l.logs)
+
+abbrev pub decreases-loop-entry : goal.decreases-loop-entry
+decreases-loop-entry l = length l.entries

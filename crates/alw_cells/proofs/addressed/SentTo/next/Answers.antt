@@ -1,4 +1,4 @@
-use Rattle.std.proofs.Common.{sym, ap, ◌∙◌, arith}
+use Rattle.std.proofs.Common.{sym, ap, ◌∙◌}
 use Rattle.alw_msg.specs.Lists.{front, behind}
 use Rattle.alw_cells.specs.Receiving.{left_to}
 use Rattle.alw_cells.proofs.Following.{its, passed, fewer, past, ended, stays_ended}

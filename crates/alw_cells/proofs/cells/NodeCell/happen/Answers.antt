@@ -11,7 +11,7 @@ use Rattle.alw_cells.specs.declared.cells.Stepped.TheVariants as result
 use Rattle.alw_cells.proofs.Runs.{dids_length}
 use Rattle.alw_node.specs.Nodes.{Whole}
 use Rattle.alw_cells.proofs.Moves.{kept, happens}
-use Rattle.alw_cells.proofs.Filing.{filed}
+use Rattle.alw_cells.proofs.Filing.{filed, rises}
 use Rattle.alw_cells.proofs.cells.NodeCell.happen.Goals as goal
 
 pub push-requires-clause-room : goal.push-requires-clause-room
@@ -61,3 +61,9 @@ push-requires-clause-record c =
     filed v c.args.event c.take-taken.result c.self.inside.sent c.local-did.new.sent c.local-did.new.self c.local-did.result c.clock.result c.reserve.new.self.number
     (subst (λ (cell : Cell). may_happen cell c.args.event ≡ true) (sym c.self.view_is) c.requires.may) c.take-taken.ensures.message c.take-taken.ensures.plain c.local-did.ensures c.clock.ensures
     (ap (λ (w : Written). w.number) c.in_ok-reserve.ensures.ok ∙ c.self.invariant.own) (omega (arith, same, c.free-fits.ensures, c.self.invariant.kept.room, c.self.invariant.kept.few, c.self.invariant.kept.replayed.ins))
+
+pub push-requires-clause-stamp : goal.push-requires-clause-stamp
+push-requires-clause-stamp c =
+    let v : Cell = record { node = c.self.inside.node; log = c.self.inside.log.entries; come = c.self.inside.come.items; pending = c.self.inside.pending.items; dids = c.self.inside.dids.list } in
+    rises v c.args.event c.take-taken.result c.self.inside.sent c.local-did.new.sent c.local-did.new.self c.local-did.result c.clock.result c.reserve.new.self.entries
+    c.self.invariant.kept.replayed (ap (λ (w : Written). w.entries) c.in_ok-reserve.ensures.ok) c.local-did.ensures c.clock.ensures

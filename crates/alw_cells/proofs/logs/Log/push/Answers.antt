@@ -1,8 +1,7 @@
-use Rattle.std.proofs.Common.{◌≡◌, [], ◌∷◌, ◌++◌, sym, subst, ap, ◌∙◌, arith}
+use Rattle.std.proofs.Common.{[], ◌∷◌, ◌++◌, sym, subst, ap, ◌∙◌, arith}
 use Rattle.alw_model.specs.Threads.{Logged}
-use Rattle.alw_cells.specs.Layout.{record_bytes}
 use Rattle.alw_cells.specs.Logs.{Written}
-use Rattle.alw_cells.specs.Records.{IsRecord, FitsRecord, records_in}
+use Rattle.alw_cells.specs.Records.{IsRecord, AreBelow, FitsRecord}
 use Rattle.alw_cells.proofs.Unpacking.{put_all, packed_more, read_more}
 use Rattle.alw_cells.proofs.logs.Log.push.Goals as goal
 
@@ -13,7 +12,8 @@ invariant_of-self c =
     let fits : FitsRecord one = record { stamp = c.put_entry.ensures.stamp; event = c.put_entry.ensures.event; taken = c.put_taken.ensures.fits; sent = c.put_sends.ensures.fits } in
     let grown = put_all one _ _ _ _ c.put_entry.ensures.items c.put_taken.ensures.items c.put_sends.ensures.items in
     let room = ap (λ (w : Written). w.room) c.self.view_is in
-    packed_more c.self.inside.node.0 c.self.inside.events c.self.inside.bytes.items c.put_sends.new.bytes.items c.self.inside.room _ _ one c.self.invariant is fits grown (omega (arith, room, c.requires.room))
+    packed_more c.self.inside.node.0 c.self.inside.events c.self.inside.bytes.items c.put_sends.new.bytes.items c.self.inside.room _ _ one c.self.invariant is fits grown
+    (subst (λ (w : Written). AreBelow c.args.entry.stamp w.entries) (sym c.self.view_is) c.requires.stamp) (omega (arith, room, c.requires.room))
     (omega (arith, room, c.requires.room, c.self.invariant.place, c.put_entry.ensures.len, c.put_entry.ensures.room, c.put_taken.ensures.len, c.put_taken.ensures.room, c.put_sends.ensures.len, c.put_sends.ensures.room))
 
 pub returns : goal.returns

@@ -1,6 +1,5 @@
-use Rattle.std.proofs.Common.{refl}
 use Rattle.std.proofs.lemmas.Bool.{false≢true}
-use Rattle.alw_cells.proofs.Fronts.{goes_on, goes_wrong, nothing_front}
+use Rattle.alw_cells.proofs.Fronts.{goes_on, goes_wrong}
 use Rattle.alw_cells.proofs.logs.Log.took_front.Goals as goal
 
 pub returns-then-not-follow : goal.returns-then-not-follow
