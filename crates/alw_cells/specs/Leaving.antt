@@ -14,7 +14,12 @@ use Rattle.alw_cells.specs.Logs.{logged}
 
 -- a node of an image after its log
 abbrev pub whole_after : Parts → Parameters → ℕ → List Logged → Whole
-whole_after image parameters n log = record { number = n; parts = share_of image n; parameters = parameters; state = node_after image parameters n (node_start image n) log }
+whole_after image parameters n log = record {
+  number = n;
+  parts = share_of image n;
+  parameters = parameters;
+  state = node_after image parameters n (node_start image n) log;
+}
 
 -- the logs are local runs of this image whose links agree; at each place stands that node after its log, and what the log's events did
 pub record IsWorked (image : Parts) (parameters : Parameters) (worked : Worked) : Type 0 where

@@ -13,7 +13,8 @@ pub record IsClosing (pushed popped : List Msg) (view : View) (count : ℕ) : Ty
   pub counted : length more ≡ count
   pub small : length pushed < 2 ^ 32
 
-pub closing_begins : (v u after : View) → MayPush v → MayPop u → after ≡ view_of v.pushed u.popped → length (known v.pushed) < 2 ^ 32 → IsClosing (known v.pushed) (known u.popped) after 0
+pub closing_begins : (v u after : View) → MayPush v → MayPop u → after ≡ view_of v.pushed u.popped → length (known v.pushed) < 2 ^ 32
+    → IsClosing (known v.pushed) (known u.popped) after 0
 closing_begins v u after may_push may_pop is small = record {
   more = [];
   view_is = is ∙ (λ i. view_of (may_push i) ((may_pop ∙ ap (λ (l : List Msg). Some l) (sym (append-nil (known u.popped)))) i));
@@ -25,7 +26,8 @@ pub closing_may : (pushed popped : List Msg) (v : View) (n : ℕ) → IsClosing 
 closing_may pushed popped v n h = may_both v pushed (popped ++ h.more) h.view_is
 
 -- one more
-pub closing_takes : (pushed popped : List Msg) (v after : View) (boxed : Boxed) (n : ℕ) → IsClosing pushed popped v n → TakesOfPushed v boxed after → IsClosing pushed popped after (n + 1) × (n + 1 < 2 ^ 32)
+pub closing_takes : (pushed popped : List Msg) (v after : View) (boxed : Boxed) (n : ℕ) → IsClosing pushed popped v n → TakesOfPushed v boxed after
+    → IsClosing pushed popped after (n + 1) × (n + 1 < 2 ^ 32)
 closing_takes pushed popped v after boxed n h took =
     let msg = boxed.value in
     let rest = messages took.1.0 in
@@ -40,7 +42,8 @@ closing_takes pushed popped v after boxed n h took =
     (record { more = more; view_is = view_is; counted = counted; small = h.small }, omega (arith, bound, counted, h.small))
 
 -- none is left
-pub closing_ends : (pushed popped : List Msg) (v : View) (n : ℕ) → IsClosing pushed popped v n → Left v [] → (left : List Msg) × (length left ≡ n) × (pushed ≡ popped ++ left)
+pub closing_ends : (pushed popped : List Msg) (v : View) (n : ℕ) → IsClosing pushed popped v n → Left v []
+    → (left : List Msg) × (length left ≡ n) × (pushed ≡ popped ++ left)
 closing_ends pushed popped v n h none =
     let all : pushed ≡ (popped ++ h.more) ++ [] = subst (λ (w : View). known w.pushed ≡ known w.popped ++ []) h.view_is none in
     (h.more, h.counted, all ∙ append-nil (popped ++ h.more))

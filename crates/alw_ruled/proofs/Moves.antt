@@ -31,11 +31,13 @@ changed F views pass after mine others k view at =
     (λ (h : (k ≢ pass) × (get_elem? views k ≡ some view)). others k view h.0 h.1) (at_set views pass k after view at)
 
 -- a view at the end
-at_end : (views : List View) (last view : View) (k : ℕ) → get_elem? (views ++ last ∷ []) k ≡ some view → (get_elem? views k ≡ some view) ⊎ ((last ≡ view) × (k ≡ length views))
+at_end : (views : List View) (last view : View) (k : ℕ) → get_elem? (views ++ last ∷ []) k ≡ some view
+    → (get_elem? views k ≡ some view) ⊎ ((last ≡ view) × (k ≡ length views))
 at_end [] last view zero at = inr (some-injective last view at, refl)
 at_end [] last view (suc k) at = absurd (some-ne-none view (sym at))
 at_end (first ∷ rest) last view zero at = inl at
-at_end (first ∷ rest) last view (suc k) at = ⊎_elim (λ h. inl h) (λ (h : (last ≡ view) × (k ≡ length rest)). inr (h.0, ap suc h.1)) (at_end rest last view k at)
+at_end (first ∷ rest) last view (suc k) at = ⊎_elim (λ h. inl h) (λ (h : (last ≡ view) × (k ≡ length rest)). inr (h.0, ap suc h.1))
+    (at_end rest last view k at)
 
 -- ---- the start
 
@@ -103,7 +105,8 @@ gets pass v may boxed held views h at =
         popped = popped;
         in_order = h.in_order ∙ sym (append_assoc h.popped (msg ∷ []) (messages held));
         each = changed (Fits h.sender h.receiver h.pushed popped) views pass after fits
-            (λ k view other there. not_receiver h.sender h.receiver h.pushed h.popped k view h.receiver popped (λ e. other (e ∙ sym own.0)) (h.each k view there));
+            (λ k view other there. not_receiver h.sender h.receiver h.pushed h.popped k view h.receiver popped (λ e. other (e ∙ sym own.0))
+            (h.each k view there));
       },
       refl,
     )
@@ -119,7 +122,8 @@ forks pass v may_push may_pop held views h at =
     let vs : List View = slice_set views pass left in
     let last = length vs in
     let left_fits : Fits h.sender last h.pushed h.popped pass left = record { pushes = mine.pushes; pops = λ list is. absurd (none-some list is) } in
-    let right_fits : Fits h.sender last h.pushed h.popped last right = record { pushes = λ list is. absurd (none-some list is); pops = λ list is. (refl, (mine.pops list is).1) } in
+    let right_fits : Fits h.sender last h.pushed h.popped last right = record
+    { pushes = λ list is. absurd (none-some list is); pops = λ list is. (refl, (mine.pops list is).1) } in
     let old : EachFits h.sender last h.pushed h.popped vs = changed (Fits h.sender last h.pushed h.popped) views pass left left_fits
     (λ k view other there. not_receiver h.sender h.receiver h.pushed h.popped k view last h.popped (λ e. other (e ∙ sym own.0)) (h.each k view there)) in
     record {
@@ -129,22 +133,26 @@ forks pass v may_push may_pop held views h at =
       popped = h.popped;
       in_order = h.in_order;
       each = λ k view there. ⊎_elim (λ (was : get_elem? vs k ≡ some view). old k view was)
-          (λ (is : (right ≡ view) × (k ≡ last)). subst (λ (y : ℕ × View). Fits h.sender last h.pushed h.popped y.0 y.1) (λ i. (sym is.1 i, is.0 i)) right_fits) (at_end vs right view k there);
+          (λ (is : (right ≡ view) × (k ≡ last)). subst (λ (y : ℕ × View). Fits h.sender last h.pushed h.popped y.0 y.1) (λ i. (sym is.1 i, is.0 i))
+          right_fits) (at_end vs right view k there);
     }
 
-pub merges : (pass : ℕ) (v : View) (other : ℕ) (u : View) → MayPush v → MayPop u → Merges HoldsInOrder pass v other u (view_of v.pushed u.popped) (view_of None None)
+pub merges : (pass : ℕ) (v : View) (other : ℕ) (u : View) → MayPush v → MayPop u
+    → Merges HoldsInOrder pass v other u (view_of v.pushed u.popped) (view_of None None)
 merges pass v other u may_push may_pop held views h at apart at_other =
     let mine = h.each pass v at in
     let own = mine.pushes (known v.pushed) may_push in
     let both = view_of v.pushed u.popped in
     let spent = view_of None None in
-    let was : get_elem? views other ≡ some u = ⊎_elim (λ (x : (other ≡ pass) × (both ≡ u)). absurd (apart x.0)) (λ (x : (other ≢ pass) × (get_elem? views other ≡ some u)). x.1)
+    let was : get_elem? views other ≡ some u = ⊎_elim (λ (x : (other ≡ pass) × (both ≡ u)). absurd (apart x.0))
+    (λ (x : (other ≢ pass) × (get_elem? views other ≡ some u)). x.1)
     (at_set views pass other both u at_other) in
     let theirs = h.each other u was in
     let given = theirs.pops (known u.popped) may_pop in
     let Now : ℕ → View → Type 0 = λ k view. k ≢ other → Fits h.sender pass h.pushed h.popped k view in
     let both_fits : Now pass both = λ _. record { pushes = mine.pushes; pops = λ list is. (refl, (theirs.pops list is).1) } in
-    let spent_fits : Fits h.sender pass h.pushed h.popped other spent = record { pushes = λ list is. absurd (none-some list is); pops = λ list is. absurd (none-some list is) } in
+    let spent_fits : Fits h.sender pass h.pushed h.popped other spent = record
+    { pushes = λ list is. absurd (none-some list is); pops = λ list is. absurd (none-some list is) } in
     let now = changed Now views pass both both_fits
     (λ k view _ there away. not_receiver h.sender h.receiver h.pushed h.popped k view pass h.popped (λ e. away (e ∙ sym given.0)) (h.each k view there)) in
     record {
@@ -158,7 +166,8 @@ merges pass v other u may_push may_pop held views h at apart at_other =
 
 -- ---- what the pass that has both lists knows
 
-left_of : (v : View) (held : List Boxed) (views : List View) (pass : ℕ) → MayPush v → MayPop v → (h : HoldsInOrder held views) → get_elem? views pass ≡ some v → Left v held
+left_of : (v : View) (held : List Boxed) (views : List View) (pass : ℕ) → MayPush v → MayPop v → (h : HoldsInOrder held views)
+    → get_elem? views pass ≡ some v → Left v held
 left_of v held views pass may_push may_pop h at =
     let mine = h.each pass v at in
     (mine.pushes (known v.pushed) may_push).1 ∙ (h.in_order ∙ ap (λ (l : List Msg). l ++ messages held) (sym (mine.pops (known v.popped) may_pop).1))
@@ -166,7 +175,8 @@ left_of v held views pass may_push may_pop h at =
 pub empties : (pass : ℕ) (v : View) → MayPush v → MayPop v → Pops HoldsInOrder pass v (TakesOfPushed v)
 empties pass v may_push may_pop boxed held views h at =
     let got = gets pass v may_pop boxed held views h at in
-    let left : Left got.0 held = rw got.2 (left_of v (boxed ∷ held) views pass may_push may_pop h at ∙ sym (append_assoc (known v.popped) (boxed.value ∷ []) (messages held))) in
+    let left : Left got.0 held = rw got.2
+    (left_of v (boxed ∷ held) views pass may_push may_pop h at ∙ sym (append_assoc (known v.popped) (boxed.value ∷ []) (messages held))) in
     (got.0, got.1, (got.2, (held, left)))
 
 pub totals : (pass : ℕ) (v : View) → MayPush v → MayPop v → Learns HoldsInOrder pass v (Left v)

@@ -19,7 +19,8 @@ use Rattle.alw_work.proofs.Finishing.{get_last, get_left, each_set}
 
 -- ---- one link
 
-pub agrees_one : (links : List LinkName) (nodes from to : ℕ) (one other : Cell) (out : Out) (come : In) (left : List Msg) → SendsPlain one → FitsOut links nodes from one to out
+pub agrees_one : (links : List LinkName) (nodes from to : ℕ) (one other : Cell) (out : Out) (come : In) (left : List Msg) → SendsPlain one
+    → FitsOut links nodes from one to out
     → FitsIn links nodes to other from come → out.end.pushed ≡ come.end.popped ++ left → IsFront (came_of other from) (sent_to to one.log)
 agrees_one links nodes from to one other out come left plain fits_out fits_in closed =
     let came = came_of other from in
@@ -56,7 +57,8 @@ agrees_none least nodes cells all place more less = absurd (lt_irrefl_at place (
     lt_irrefl_at : (a b : ℕ) → b ≤ a → a < b → ⊥
     lt_irrefl_at a b more less = omega (arith, more, less)
 
-pub agrees_next : (least place nodes : ℕ) (cells : List Cell) → least ≡ place + 1 → AgreesFrom least nodes cells → AgreesAt cells (place / nodes) (place % nodes) → AgreesFrom place nodes cells
+pub agrees_next : (least place nodes : ℕ) (cells : List Cell) → least ≡ place + 1 → AgreesFrom least nodes cells
+    → AgreesAt cells (place / nodes) (place % nodes) → AgreesFrom place nodes cells
 agrees_next least place nodes cells is done last k more less = cases_lt_then k place
     (λ above. done k (omega (arith, is, above)) less)
     (λ not_above. subst (λ j. AgreesAt cells (j / nodes) (j % nodes)) (the_same place k more not_above) last)
@@ -74,7 +76,8 @@ agrees_all nodes least cells count none done from to one other at_one at_other =
     let from_below : from < nodes = omega (arith, get_in cells from one at_one, count) in
     let to_below : to < nodes = omega (arith, get_in cells to other at_other, count) in
     let agrees = done (from * nodes + to) (omega (arith, none)) (mul-add-lt from nodes to nodes from_below to_below) in
-    subst (λ (y : ℕ × ℕ). AgreesAt cells y.0 y.1) (λ i. (div-mul-add from nodes to to_below i, mod-mul-add from nodes to to_below i)) agrees one other at_one at_other
+    subst (λ (y : ℕ × ℕ). AgreesAt cells y.0 y.1) (λ i. (div-mul-add from nodes to to_below i, mod-mul-add from nodes to to_below i)) agrees one other
+    at_one at_other
 
 -- ---- one link more is closed
 
@@ -85,11 +88,13 @@ pub record AreClosed (all : List LinkName) (nodes : ℕ) (start : List Left) (li
   pub tied : AreTied all nodes lefts
   pub done : AgreesFrom (length links) nodes (cells_in start)
 
-pub closed_none : (all : List LinkName) (nodes : ℕ) (start : List Left) → length all ≡ nodes * nodes → AreTied all nodes start → AreClosed all nodes start all start
+pub closed_none : (all : List LinkName) (nodes : ℕ) (start : List Left) → length all ≡ nodes * nodes → AreTied all nodes start
+    → AreClosed all nodes start all start
 closed_none all nodes start count tied =
     record { keeps = λ place link at. at; cells = refl; tied = tied; done = agrees_none (length all) nodes (cells_in start) count }
 
-pub closed_all : (all : List LinkName) (nodes : ℕ) (start : List Left) (links : List LinkName) (lefts : List Left) → AreClosed all nodes start links lefts → length start ≡ nodes
+pub closed_all : (all : List LinkName) (nodes : ℕ) (start : List Left) (links : List LinkName) (lefts : List Left) → AreClosed all nodes start links lefts
+    → length start ≡ nodes
     → length links ≡ 0 → AllAgree (cells_in start)
 closed_all all nodes start links lefts closed count none =
     agrees_all nodes (length links) (cells_in start) (length-map start (λ (l : Left). l.cell) ∙ count) none closed.done
@@ -126,7 +131,8 @@ module _ (all : List LinkName) (nodes : ℕ) (start : List Left) (links rest : L
       let cells = cells_in start in
       let at_one : slice_get cells from ≡ Some fits_out.0 = ap (λ (cs : List Cell). slice_get cs from) (sym closed.cells) ∙ fits_out.1 in
       let at_other : slice_get cells to ≡ Some fits_in.0 = ap (λ (cs : List Cell). slice_get cs to) (sym (takes.cells ∙ closed.cells)) ∙ fits_in.1 in
-      let agrees : AgreesAt cells from to = agrees_found all nodes from to cells out come left plain fits_out.0 at_one fits_out.2 fits_in.0 at_other fits_in.2 ends in
+      let agrees : AgreesAt cells from to = agrees_found all nodes from to cells out come left plain fits_out.0 at_one fits_out.2 fits_in.0 at_other
+      fits_in.2 ends in
       let more : length links ≡ length rest + 1 = ap length popped ∙ length-append rest (link ∷ []) in
       record {
         keeps = λ place one at. keeps place one (get_left rest link one place at);
@@ -138,7 +144,8 @@ module _ (all : List LinkName) (nodes : ℕ) (start : List Left) (links rest : L
 
 -- ---- an end is taken off
 
-cells_set : (lefts : List Left) (k : ℕ) (was now : Left) → slice_get lefts k ≡ Some was → now.cell ≡ was.cell → cells_in (slice_set lefts k now) ≡ cells_in lefts
+cells_set : (lefts : List Left) (k : ℕ) (was now : Left) → slice_get lefts k ≡ Some was → now.cell ≡ was.cell
+    → cells_in (slice_set lefts k now) ≡ cells_in lefts
 cells_set [] k was now at same = refl
 cells_set (first ∷ rest) zero was now at same = ap (λ (c : Cell). c ∷ cells_in rest) (same ∙ ap (λ (l : Left). l.cell) (sym (same_Some first was at)))
 cells_set (first ∷ rest) (suc k) was now at same = ap (λ (cs : List Cell). first.cell ∷ cs) (cells_set rest k was now at same)
@@ -146,7 +153,8 @@ cells_set (first ∷ rest) (suc k) was now at same = ap (λ (cs : List Cell). fi
 cell_at : (lefts : List Left) (k : ℕ) (left : Left) → slice_get lefts k ≡ Some left → slice_get (cells_in lefts) k ≡ Some left.cell
 cell_at lefts k left at = slice_get-map (λ (l : Left). l.cell) lefts k ∙ ap (λ (o : Option Left). option_map (λ (l : Left). l.cell) o) at
 
-pub takes_out : (from to : ℕ) (lefts : List Left) (was now : Left) (found : Option Out) → slice_get lefts from ≡ Some was → now.cell ≡ was.cell → now.ins.items ≡ was.ins.items
+pub takes_out : (from to : ℕ) (lefts : List Left) (was now : Left) (found : Option Out) → slice_get lefts from ≡ Some was → now.cell ≡ was.cell
+    → now.ins.items ≡ was.ins.items
     → TakesLast to was.outs.items now.outs.items found → TakesOut from to lefts (slice_set lefts from now) found
 takes_out from to lefts was now found here cell same takes = record {
   cells = cells_set lefts from was now here cell;
@@ -159,7 +167,8 @@ takes_out from to lefts was now found here cell same takes = record {
   fits = λ links nodes out tied is. (was.cell, cell_at lefts from was here, (tied from was here).outs to out (takes.last out is));
 }
 
-pub takes_in : (from to : ℕ) (lefts : List Left) (was now : Left) (found : Option In) → slice_get lefts to ≡ Some was → now.cell ≡ was.cell → now.outs.items ≡ was.outs.items
+pub takes_in : (from to : ℕ) (lefts : List Left) (was now : Left) (found : Option In) → slice_get lefts to ≡ Some was → now.cell ≡ was.cell
+    → now.outs.items ≡ was.outs.items
     → TakesLast from was.ins.items now.ins.items found → TakesIn from to lefts (slice_set lefts to now) found
 takes_in from to lefts was now found here cell same takes = record {
   cells = cells_set lefts to was now here cell;
@@ -187,5 +196,8 @@ still_agree before after agree are from to one other at_one at_other =
     let was_other = are.each to other at_other in
     let front = agree from to was_one.0 was_other.0 was_one.1.0 was_other.1.0 in
     let came = was_other.1.1.works.came from in
-    let more = was_one.1.1.works.sent to in
-    (front.0 ++ more.0, sym (append_assoc (came_of other from) front.0 more.0) ∙ ((λ i. (came i ++ front.0) ++ more.0) ∙ (ap (λ (xs : List Msg). xs ++ more.0) front.1 ∙ sym more.1)))
+    let more = was_one.1.1.works.sent to in (
+      front.0 ++ more.0,
+      sym (append_assoc (came_of other from) front.0 more.0)
+          ∙ ((λ i. (came i ++ front.0) ++ more.0) ∙ (ap (λ (xs : List Msg). xs ++ more.0) front.1 ∙ sym more.1)),
+    )

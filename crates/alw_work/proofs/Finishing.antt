@@ -118,13 +118,15 @@ module _ {X : Type 0} where
   set_length (first ∷ rest) (suc n) x = omega (arith, set_length rest n x)
 
   -- a place of a list in which one place was written
-  pub at_place : (xs : List X) (n : ℕ) (x : X) (k : ℕ) (y : X) → slice_get (slice_set xs n x) k ≡ Some y → ((k ≡ n) × (x ≡ y)) ⊎ ((k ≢ n) × (slice_get xs k ≡ Some y))
+  pub at_place : (xs : List X) (n : ℕ) (x : X) (k : ℕ) (y : X) → slice_get (slice_set xs n x) k ≡ Some y
+      → ((k ≡ n) × (x ≡ y)) ⊎ ((k ≢ n) × (slice_get xs k ≡ Some y))
   at_place [] n x k y is = absurd (cc)
   at_place (first ∷ rest) zero x zero y is = inl (refl, same_Some x y is)
   at_place (first ∷ rest) zero x (suc k) y is = inr ((λ same. omega (arith, same)), is)
   at_place (first ∷ rest) (suc n) x zero y is = inr ((λ same. omega (arith, same)), is)
   at_place (first ∷ rest) (suc n) x (suc k) y is =
-      ⊎_elim (λ (h : (k ≡ n) × (x ≡ y)). inl (ap suc h.0, h.1)) (λ (h : (k ≢ n) × (slice_get rest k ≡ Some y)). inr ((λ same. h.0 (omega (arith, same))), h.1)) (at_place rest n x k y is)
+      ⊎_elim (λ (h : (k ≡ n) × (x ≡ y)). inl (ap suc h.0, h.1))
+      (λ (h : (k ≢ n) × (slice_get rest k ≡ Some y)). inr ((λ same. h.0 (omega (arith, same))), h.1)) (at_place rest n x k y is)
 
   -- no member
   pub each_none : (P : ℕ → X → Type 0) (xs : List X) → xs ≡ [] → EachAt P xs

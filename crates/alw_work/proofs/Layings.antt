@@ -19,7 +19,8 @@ use Rattle.alw_work.proofs.Finishing.{get_last, get_left, get_within, set_length
 pub keeps_push : (links : List LinkName) (link : LinkName) → Keeps links (links ++ link ∷ [])
 keeps_push links link place one at = get_left links link one place at
 
-outs_keep : (before after : List LinkName) (nodes number : ℕ) (row : List Out) → Keeps before after → EachAt (IsNewOut before nodes number) row → EachAt (IsNewOut after nodes number) row
+outs_keep : (before after : List LinkName) (nodes number : ℕ) (row : List Out) → Keeps before after → EachAt (IsNewOut before nodes number) row
+    → EachAt (IsNewOut after nodes number) row
 outs_keep before after nodes number row keeps each k out at =
     let is = each k out at in
     record { name = keeps (number * nodes + k) out.end.link is.name; empty = is.empty }
@@ -31,19 +32,22 @@ ins_keep before after nodes number column keeps each k come at =
     record { name = keeps (k * nodes + number) come.end.link is.name; empty = is.empty }
 
 -- the link stands behind the others
-name_last : (links : List LinkName) (link : LinkName) (place : ℕ) (end : LinkName) → length links ≡ place → end ≡ link → slice_get (links ++ link ∷ []) place ≡ Some end
+name_last : (links : List LinkName) (link : LinkName) (place : ℕ) (end : LinkName) → length links ≡ place → end ≡ link
+    → slice_get (links ++ link ∷ []) place ≡ Some end
 name_last links link place end here is =
     subst (λ (y : ℕ × LinkName). slice_get (links ++ link ∷ []) y.0 ≡ Some y.1) (λ i. (here i, sym is i)) (get_last links link)
 
 pub row_next : (links : List LinkName) (nodes from : ℕ) (row : List Out) (link : LinkName) (out : Out) → length links ≡ from * nodes + length row
-    → out.end ≡ sender_at_start link → out.kept ≡ None → EachAt (IsNewOut links nodes from) row → EachAt (IsNewOut (links ++ link ∷ []) nodes from) (row ++ out ∷ [])
+    → out.end ≡ sender_at_start link → out.kept ≡ None → EachAt (IsNewOut links nodes from) row → EachAt (IsNewOut (links ++ link ∷ []) nodes from)
+    (row ++ out ∷ [])
 row_next links nodes from row link out here is none each =
     each_push (IsNewOut (links ++ link ∷ []) nodes from) row out (outs_keep links (links ++ link ∷ []) nodes from row (keeps_push links link) each) (record {
       name = name_last links link (from * nodes + length row) out.end.link here (ap (λ e. e.link) is);
       empty = λ i. (is i).pushed ++ option_to_list (none i);
     })
 
-pub columns_next : (links : List LinkName) (nodes from to : ℕ) (ins : List (Vec In)) (link : LinkName) (column more : Vec In) (come : In) → length links ≡ from * nodes + to
+pub columns_next : (links : List LinkName) (nodes from to : ℕ) (ins : List (Vec In)) (link : LinkName) (column more : Vec In) (come : In)
+    → length links ≡ from * nodes + to
     → slice_get ins to ≡ Some column → more.items ≡ column.items ++ come ∷ [] → come.end ≡ receiver_at_start link → come.kept ≡ None
     → AreColumns links nodes from to ins → AreColumns (links ++ link ∷ []) nodes from (to + 1) (slice_set ins to more)
 columns_next links nodes from to ins link column more come here at_to more_is is none are =
@@ -60,7 +64,8 @@ columns_next links nodes from to ins link column more come here at_to more_is is
           (λ number c at. ins_keep links all nodes number c.items (keeps_push links link) (are.each number c at))
           (subst (λ (xs : List In). EachAt (IsNewIn all nodes to) xs) (sym more_is) mine);
       below = λ number c at less. ⊎_elim
-          (λ (h : (number ≡ to) × (more ≡ c)). ap (λ (v : Vec In). length v.items) (sym h.1) ∙ (ap length more_is ∙ (length-append column.items (come ∷ []) ∙ ap (λ k. k + 1) before)))
+          (λ (h : (number ≡ to) × (more ≡ c)). ap (λ (v : Vec In). length v.items) (sym h.1)
+          ∙ (ap length more_is ∙ (length-append column.items (come ∷ []) ∙ ap (λ k. k + 1) before)))
           (λ (h : (number ≢ to) × (slice_get ins number ≡ Some c)). are.below number c h.1 (omega (arith, less, h.0))) (at_place ins to more number c at);
       above = λ number c at not_less. ⊎_elim
           (λ (h : (number ≡ to) × (more ≡ c)). absurd (omega (arith, not_less, h.0)))
@@ -69,7 +74,8 @@ columns_next links nodes from to ins link column more come here at_to more_is is
 
 -- ---- a row more
 
-pub columns_turn : (links : List LinkName) (nodes from : ℕ) (ins : List (Vec In)) → AreColumns links nodes from nodes ins → AreColumns links nodes (from + 1) 0 ins
+pub columns_turn : (links : List LinkName) (nodes from : ℕ) (ins : List (Vec In)) → AreColumns links nodes from nodes ins
+    → AreColumns links nodes (from + 1) 0 ins
 columns_turn links nodes from ins are = record {
   count = are.count;
   each = are.each;
@@ -84,7 +90,8 @@ rows_next before after nodes from outs row keeps here new each =
     (λ number r at. outs_keep before after nodes number r.items keeps (each number r at))
     (subst (λ (k : ℕ). EachAt (IsNewOut after nodes k) row.items) here new)
 
-pub columns_start : (nodes : ℕ) (ins : List (Vec In)) → length ins ≡ nodes → EachAt (λ number (column : Vec In). column.items ≡ []) ins → AreColumns [] nodes 0 0 ins
+pub columns_start : (nodes : ℕ) (ins : List (Vec In)) → length ins ≡ nodes → EachAt (λ number (column : Vec In). column.items ≡ []) ins
+    → AreColumns [] nodes 0 0 ins
 columns_start nodes ins count empty = record {
   count = count;
   each = λ number column at. each_none (IsNewIn [] nodes number) column.items (empty number column at);
@@ -94,18 +101,24 @@ columns_start nodes ins count empty = record {
 
 -- ---- the ends are handed out
 
-pub outs_start : (links : List LinkName) (nodes number : ℕ) (parts : Parts) (parameters : Parameters) (cell : Cell) (outs : List Out) → cell ≡ cell_start parts parameters number
+pub outs_start : (links : List LinkName) (nodes number : ℕ) (parts : Parts) (parameters : Parameters) (cell : Cell) (outs : List Out)
+    → cell ≡ cell_start parts parameters number
     → EachAt (IsNewOut links nodes number) outs → AreTiedOuts links nodes number cell outs
 outs_start links nodes number parts parameters cell outs is each = subst (λ (c : Cell). AreTiedOuts links nodes number c outs) (sym is) at_start
   where
     at_start : AreTiedOuts links nodes number (cell_start parts parameters number) outs
     at_start k out at = record { name = (each k out at).name; words = ap (λ (xs : List Msg). xs ++ []) (each k out at).empty }
 
-pub ins_start : (links : List LinkName) (nodes number : ℕ) (parts : Parts) (parameters : Parameters) (cell : Cell) (ins : List In) → cell ≡ cell_start parts parameters number
+pub ins_start : (links : List LinkName) (nodes number : ℕ) (parts : Parts) (parameters : Parameters) (cell : Cell) (ins : List In)
+    → cell ≡ cell_start parts parameters number
     → EachAt (IsNewIn links nodes number) ins → AreTiedIns links nodes number cell ins
 ins_start links nodes number parts parameters cell ins is each = subst (λ (c : Cell). AreTiedIns links nodes number c ins) (sym is) at_start
   where
     at_start : AreTiedIns links nodes number (cell_start parts parameters number) ins
     at_start k come at =
         let new = each k come at in
-        record { name = new.name; words = ap all_carried new.empty.0 ∙ sym (λ i. none_come (node_count parts) k i ++ all_carried (option_to_list (new.empty.1 i))) }
+        record {
+          name = new.name;
+          words = ap all_carried new.empty.0 ∙ sym
+              (λ i. none_come (node_count parts) k i ++ all_carried (option_to_list (new.empty.1 i)));
+        }

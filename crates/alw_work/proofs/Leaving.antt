@@ -103,10 +103,12 @@ logs_agree cells agree logs is = subst (λ (ls : Logs). LinksAgree ls) (sym is) 
 -- ---- what is handed over
 
 -- a part of the cell at a place
-part_at : {X : Type 0} (f : Cell → X) (cells : List Cell) (n : ℕ) (cell : Cell) (x : X) → slice_get cells n ≡ Some cell → f cell ≡ x → slice_get (map f cells) n ≡ Some x
+part_at : {X : Type 0} (f : Cell → X) (cells : List Cell) (n : ℕ) (cell : Cell) (x : X) → slice_get cells n ≡ Some cell → f cell ≡ x
+    → slice_get (map f cells) n ≡ Some x
 part_at f cells n cell x at is = slice_get-map f cells n ∙ (ap (λ (o : Option Cell). option_map f o) at ∙ ap (λ y. Some y) is)
 
-pub worked_by : (parts : Parts) (parameters : Parameters) (cells : List Cell) (worked : Worked) → length cells ≡ node_count parts → EachAt (StandsAt parts parameters) cells
+pub worked_by : (parts : Parts) (parameters : Parameters) (cells : List Cell) (worked : Worked) → length cells ≡ node_count parts
+    → EachAt (StandsAt parts parameters) cells
     → AllAgree cells → AreParts cells worked → IsWorked parts parameters worked
 worked_by parts parameters cells worked count each agree are = record {
   runs = subst (λ (ls : Logs). AreLocalRuns parts parameters ls) (sym are.logs) (record {
@@ -118,13 +120,15 @@ worked_by parts parameters cells worked count each agree are = record {
   nodes_are = λ n below.
       let one = log_of cells n (omega (arith, below, count)) in
       let is : one.0.node ≡ whole_after parts parameters n (log_at (logged worked.logs) n) =
-      whole_of parts parameters n one.0 (each n one.0 one.1.0) ∙ ap (λ (log : List Logged). whole_after parts parameters n log) (sym (ap (λ (ls : Logs). log_at ls n) are.logs ∙ one.1.1)) in
+      whole_of parts parameters n one.0 (each n one.0 one.1.0) ∙ ap (λ (log : List Logged). whole_after parts parameters n log)
+      (sym (ap (λ (ls : Logs). log_at ls n) are.logs ∙ one.1.1)) in
       ap (λ (nodes : List Whole). slice_get nodes n) are.nodes ∙ part_at (λ (cell : Cell). cell.node) cells n one.0 _ one.1.0 is;
   did_places = ap length are.dids ∙ (length-map cells (λ (cell : Cell). cell.dids) ∙ count);
   dids_are = λ n below.
       let one = log_of cells n (omega (arith, below, count)) in
       let is : one.0.dids ≡ dids_of parts parameters n (log_at (logged worked.logs) n) =
-      dids_are parts parameters n one.0 (each n one.0 one.1.0) ∙ ap (λ (log : List Logged). dids_of parts parameters n log) (sym (ap (λ (ls : Logs). log_at ls n) are.logs ∙ one.1.1)) in
+      dids_are parts parameters n one.0 (each n one.0 one.1.0) ∙ ap (λ (log : List Logged). dids_of parts parameters n log)
+      (sym (ap (λ (ls : Logs). log_at ls n) are.logs ∙ one.1.1)) in
       ap (λ (dids : List (List Did)). slice_get dids n) are.dids ∙ part_at (λ (cell : Cell). cell.dids) cells n one.0 _ one.1.0 is;
 }
 
@@ -157,10 +161,12 @@ pub record AreTaken (parts : Parts) (parameters : Parameters) (cells : List Cell
   pub agree : AllAgree cells
   pub marked : trapped ≡ true → (k : ℕ) × ((cell : Cell) × ((slice_get cells k ≡ Some cell) × HasTrapped cell))
 
-pub taken : (parts : Parts) (parameters : Parameters) (nodes : ℕ) (gathered closed cells : List Cell) (trapped : Bool) → AreGathered parts parameters nodes gathered trapped → nodes ≡ node_count parts
+pub taken : (parts : Parts) (parameters : Parameters) (nodes : ℕ) (gathered closed cells : List Cell) (trapped : Bool)
+    → AreGathered parts parameters nodes gathered trapped → nodes ≡ node_count parts
     → closed ≡ gathered → AllAgree gathered → cells ≡ closed → AreTaken parts parameters cells trapped
 taken parts parameters nodes gathered closed cells trapped are count same agree too =
-    subst (λ (cs : List Cell). AreTaken parts parameters cs trapped) (sym (too ∙ same)) (record { count = are.count ∙ count; each = are.each; agree = agree; marked = are.marked })
+    subst (λ (cs : List Cell). AreTaken parts parameters cs trapped) (sym (too ∙ same))
+    (record { count = are.count ∙ count; each = are.each; agree = agree; marked = are.marked })
 
 module _ (parts : Parts) (parameters : Parameters) (cells : List Cell) (trapped : Bool) (are : AreTaken parts parameters cells trapped) where
   pub left_at_trap : (worked : Worked) → trapped ≡ true → AreParts cells worked → IsLeft parts parameters worked
@@ -197,7 +203,8 @@ module _ {X : Type 0} (f : Cell → X) where
   made_all made [] all none are = sym (append-nil made) ∙ are
   made_all made (cell ∷ rest) all none are = absurd (omega (arith, none))
 
-pub logs_next : (logs : List Written) (log : Written) (cell : Cell) (rest all : List Cell) → IsMade (λ (c : Cell). c.log) (logged logs) (cell ∷ rest) all → log.entries ≡ cell.log
+pub logs_next : (logs : List Written) (log : Written) (cell : Cell) (rest all : List Cell) → IsMade (λ (c : Cell). c.log) (logged logs) (cell ∷ rest) all
+    → log.entries ≡ cell.log
     → IsMade (λ (c : Cell). c.log) (logged (logs ++ log ∷ [])) rest all
 logs_next logs log cell rest all are is =
     subst (λ (ls : Logs). IsMade (λ (c : Cell). c.log) ls rest all) (sym (map-append (λ (one : Written). one.entries) logs (log ∷ [])))

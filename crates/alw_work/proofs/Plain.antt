@@ -27,7 +27,8 @@ picked_plain to n stamp (send ∷ rest) are = go (send.0 == to) (picked_plain to
     go true more = λ i. same_msg send.1 are.0.plain i ∷ more i
     go false more = more
 
-run_plain : (parts : Parts) (parameters : Parameters) (n : ℕ) (node : NodeState) (log : List Logged) (to : ℕ) → IsRunFrom parts parameters n node log → all_carried (sent_to to log) ≡ sent_to to log
+run_plain : (parts : Parts) (parameters : Parameters) (n : ℕ) (node : NodeState) (log : List Logged) (to : ℕ) → IsRunFrom parts parameters n node log
+    → all_carried (sent_to to log) ≡ sent_to to log
 run_plain parts parameters n node [] to run = refl
 run_plain parts parameters n node (logged ∷ rest) to run =
     let step = node_step parts parameters n node logged.entry.event logged.taken in

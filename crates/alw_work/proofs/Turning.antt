@@ -16,17 +16,20 @@ use Rattle.alw_work.proofs.Tying.{outs_same, ins_same, outs_work, ins_work}
 
 module _ (image : Parts) (parameters : Parameters) (number : ℕ) (before after : Cell) where
   -- node and log are the same
-  seat_same : (trapped : Bool) → after.node ≡ before.node → after.log ≡ before.log → IsSeat image parameters number before trapped → IsSeat image parameters number after trapped
+  seat_same : (trapped : Bool) → after.node ≡ before.node → after.log ≡ before.log → IsSeat image parameters number before trapped
+      → IsSeat image parameters number after trapped
   seat_same trapped node log is = record {
     cell_is = record {
       number_is = ap (λ (w : Whole). w.number) node ∙ is.cell_is.number_is;
       share = ap (λ (w : Whole). w.parts) node ∙ is.cell_is.share;
       parameters_are = ap (λ (w : Whole). w.parameters) node ∙ is.cell_is.parameters_are;
     };
-    marked = subst (λ (y : Whole × List Logged). trapped ≡ true → holds_trap y.0.parts y.0.parameters y.0.number y.1 ≡ true) (λ i. (sym node i, sym log i)) is.marked;
+    marked = subst (λ (y : Whole × List Logged). trapped ≡ true → holds_trap y.0.parts y.0.parameters y.0.number y.1 ≡ true) (λ i. (sym node i, sym log i))
+        is.marked;
   }
 
-  seat_work : (was now : Bool) → IsOfNode before after → (IsMarked was before → IsMarked now after) → IsSeat image parameters number before was → IsSeat image parameters number after now
+  seat_work : (was now : Bool) → IsOfNode before after → (IsMarked was before → IsMarked now after) → IsSeat image parameters number before was
+      → IsSeat image parameters number after now
   seat_work was now same marks is = record {
     cell_is = record {
       number_is = same.number ∙ is.cell_is.number_is;
@@ -39,7 +42,8 @@ module _ (image : Parts) (parameters : Parameters) (number : ℕ) (before after 
 -- a cell with its mark and its ends
 abbrev pub IsHeld : Parts → Parameters → List LinkName → ℕ → ℕ → Cell → Bool → List Out → List In → Type 0
 IsHeld image parameters links nodes number cell trapped outs ins =
-    (nodes ≡ node_count image) × IsSeat image parameters number cell trapped × AreTiedOuts links nodes number cell outs × AreTiedIns links nodes number cell ins
+    (nodes ≡ node_count image) × IsSeat image parameters number cell trapped × AreTiedOuts links nodes number cell outs × AreTiedIns links nodes number
+    cell ins
 
 module _ (image : Parts) (parameters : Parameters) (links : List LinkName) (nodes number : ℕ) (before after : Cell) (outs : List Out) (ins : List In) where
   pub held_fetch : (trapped : Bool) (now : List In) → IsHeld image parameters links nodes number before trapped outs ins → IsSameButCome before after
@@ -47,7 +51,8 @@ module _ (image : Parts) (parameters : Parameters) (links : List LinkName) (node
   held_fetch trapped now is same tied =
       (is.0, seat_same image parameters number before after trapped same.node same.log is.1, outs_same links nodes number before after outs same is.2, tied)
 
-  pub held_step : (was now : Bool) → IsHeld image parameters links nodes number before was outs ins → IsOfNode before after → (IsMarked was before → IsMarked now after)
+  pub held_step : (was now : Bool) → IsHeld image parameters links nodes number before was outs ins → IsOfNode before after
+      → (IsMarked was before → IsMarked now after)
       → Works before after → IsHeld image parameters links nodes number after now outs ins
   held_step was now is same marks works = (
     is.0,

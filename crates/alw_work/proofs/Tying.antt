@@ -15,20 +15,24 @@ use Rattle.alw_work.specs.Ties.{given, all_carried, FitsOut, FitsIn, AreTiedOuts
 use Rattle.alw_work.proofs.Finishing.{at_place}
 
 -- two links at one place are one
-pub same_link : (links : List LinkName) (place other : ℕ) (x y : LinkName) → place ≡ other → slice_get links place ≡ Some x → slice_get links other ≡ Some y → x ≡ y
+pub same_link : (links : List LinkName) (place other : ℕ) (x y : LinkName) → place ≡ other → slice_get links place ≡ Some x
+    → slice_get links other ≡ Some y → x ≡ y
 same_link links place other x y is first second = same_Some x y (sym first ∙ (ap (λ k. slice_get links k) is ∙ second))
 
 module _ (links : List LinkName) (nodes number : ℕ) (before after : Cell) where
-  pub tied_fetch : (from : ℕ) (ins : List In) (old new : In) → AreTiedIns links nodes number before ins → slice_get ins from ≡ Some old → Fetches from before after old new
+  pub tied_fetch : (from : ℕ) (ins : List In) (old new : In) → AreTiedIns links nodes number before ins → slice_get ins from ≡ Some old
+      → Fetches from before after old new
       → AreTiedIns links nodes number after (slice_set ins from new)
   tied_fetch from ins old new tied here fetches k come at =
       let fit = tied from old here in
-      let mine : FitsIn links nodes number after from new = record { name = fit.name ∙ ap (λ l. Some l) (sym fetches.link); words = fetches.words fit.words } in
+      let mine : FitsIn links nodes number after from new = record
+      { name = fit.name ∙ ap (λ l. Some l) (sym fetches.link); words = fetches.words fit.words } in
       ⊎_elim (λ (h : (k ≡ from) × (new ≡ come)). subst (λ (y : ℕ × In). FitsIn links nodes number after y.0 y.1) (λ i. (sym h.0 i, h.1 i)) mine)
       (λ (h : (k ≢ from) × (slice_get ins k ≡ Some come)).
       let was = tied k come h.1 in
       let same : came_of before k ≡ came_of after k = λ i. took_from k (sym fetches.same.log i) ++ sym (fetches.others k h.0) i in
-      record { name = was.name; words = was.words ∙ ap (λ (xs : List Msg). xs ++ all_carried (option_to_list come.kept)) same }) (at_place ins from new k come at)
+      record { name = was.name; words = was.words ∙ ap (λ (xs : List Msg). xs ++ all_carried (option_to_list come.kept)) same })
+      (at_place ins from new k come at)
 
   pub outs_same : (outs : List Out) → IsSameButCome before after → AreTiedOuts links nodes number before outs → AreTiedOuts links nodes number after outs
   outs_same outs same tied k out at =
@@ -60,7 +64,8 @@ module _ (links : List LinkName) (nodes number : ℕ) (before after : Cell) wher
 
   -- ---- messages that are given out
 
-  pub tied_offer : (to : ℕ) (outs : List Out) (old new : Out) → AreTiedOuts links nodes number before outs → slice_get outs to ≡ Some old → Offers to before after old new
+  pub tied_offer : (to : ℕ) (outs : List Out) (old new : Out) → AreTiedOuts links nodes number before outs → slice_get outs to ≡ Some old
+      → Offers to before after old new
       → AreTiedOuts links nodes number after (slice_set outs to new)
   tied_offer to outs old new tied here offers k out at =
       let fit = tied to old here in
@@ -94,7 +99,8 @@ offers_empty to cell old new link same none = record {
   words = λ i. same i ++ (picked_behind to cell.pending ∙ none_left (picked to cell.pending) none) i;
 }
 
-pub offers_one : (to : ℕ) (cell : Cell) (old mid new : Out) (msg : Msg) → mid.end.link ≡ old.end.link → given mid ≡ given old → mid.kept ≡ None → Some msg ≡ front (picked to cell.pending)
+pub offers_one : (to : ℕ) (cell : Cell) (old mid new : Out) (msg : Msg) → mid.end.link ≡ old.end.link → given mid ≡ given old → mid.kept ≡ None
+    → Some msg ≡ front (picked to cell.pending)
     → new.end.link ≡ mid.end.link → given new ≡ mid.end.pushed ++ msg ∷ [] → Offers to cell (after_giving cell to) old new
 offers_one to cell old mid new msg link flushed empty is link_too sent =
     let rest = behind (picked to cell.pending) in

@@ -40,11 +40,14 @@ in_order come (Instr at) k = refl
 in_order come (Handle at) k = refl
 in_order come (Evict at set) k = refl
 in_order come (Deliver from to) k = is_node _ k from.0
-    (λ same. ap (λ j. cond (from.0 == j) (option_to_list (front (in_from come from.0))) [] ++ in_from (slice_set come from.0 (behind (in_from come from.0))) j) same
-    ∙ (ap (λ b. cond b (option_to_list (front (in_from come from.0))) [] ++ in_from (slice_set come from.0 (behind (in_from come from.0))) from.0) (eq-eqb from.0 from.0 refl)
+    (λ same. ap (λ j. cond (from.0 == j) (option_to_list (front (in_from come from.0))) [] ++ in_from (slice_set come from.0 (behind (in_from come from.0)))
+    j) same
+    ∙ (ap (λ b. cond b (option_to_list (front (in_from come from.0))) [] ++ in_from (slice_set come from.0 (behind (in_from come from.0))) from.0)
+    (eq-eqb from.0 from.0 refl)
     ∙ (ap (λ (xs : List Msg). option_to_list (front (in_from come from.0)) ++ xs) (behind_set come from.0)
     ∙ (front_behind (in_from come from.0) ∙ sym (ap (λ j. in_from come j) same)))))
-    (λ other. ap (λ b. cond b (option_to_list (front (in_from come from.0))) [] ++ in_from (slice_set come from.0 (behind (in_from come from.0))) k) (ne_eqb from.0 k (λ same. other (sym same)))
+    (λ other. ap (λ b. cond b (option_to_list (front (in_from come from.0))) [] ++ in_from (slice_set come from.0 (behind (in_from come from.0))) k)
+    (ne_eqb from.0 k (λ same. other (sym same)))
     ∙ get_or-set_other come from.0 k (behind (in_from come from.0)) [] other)
 
 came_step : (cell : Cell) (event : Event) (k : ℕ) → came_of (after_event cell event) k ≡ came_of cell k
@@ -68,7 +71,12 @@ works_none cell = record { came = λ k. refl; sent = λ k. ([], sym (append-nil 
 pub works_step : (cell : Cell) (event : Event) → Works cell (after_event cell event)
 works_step cell event = record {
   came = came_step cell event;
-  sent = λ k. (picked k (stepped_by cell event).sends, sent_push k cell.log (logged_by cell event), picked-append k cell.pending (stepped_by cell event).sends);
+  sent = λ k. (
+    picked k (stepped_by cell event).sends,
+    sent_push k cell.log (logged_by cell event),
+    picked-append k cell.pending
+        (stepped_by cell event).sends,
+  );
 }
 
 pub works_trans : (one two three : Cell) → Works one two → Works two three → Works one three

@@ -42,7 +42,8 @@ AreTiedIns links nodes number cell ins = EachAt (FitsIn links nodes number cell)
 pub record Receives (before after : In) (msg : Option Msg) : Type 0 where
   pub link : after.end.link ≡ before.end.link
   pub empty : after.kept ≡ None
-  pub words : (came : List Msg) → all_carried before.end.popped ≡ came ++ all_carried (option_to_list before.kept) → all_carried after.end.popped ≡ came ++ all_carried (option_to_list msg)
+  pub words : (came : List Msg) → all_carried before.end.popped ≡ came ++ all_carried (option_to_list before.kept)
+      → all_carried after.end.popped ≡ came ++ all_carried (option_to_list msg)
 
 -- messages have come into in lists alone
 pub record IsSameButCome (before after : Cell) : Type 0 where
@@ -61,7 +62,8 @@ pub record Fetches (from : ℕ) (before after : Cell) (old new : In) : Type 0 wh
   pub same : IsSameButCome before after
   pub link : new.end.link ≡ old.end.link
   pub others : (k : ℕ) → k ≢ from → in_from after.come k ≡ in_from before.come k
-  pub words : all_carried old.end.popped ≡ came_of before from ++ all_carried (option_to_list old.kept) → all_carried new.end.popped ≡ came_of after from ++ all_carried (option_to_list new.kept)
+  pub words : all_carried old.end.popped ≡ came_of before from ++ all_carried (option_to_list old.kept)
+      → all_carried new.end.popped ≡ came_of after from ++ all_carried (option_to_list new.kept)
 
 -- a message to a node went from the out list to the end
 pub record Offers (to : ℕ) (before after : Cell) (old new : Out) : Type 0 where
@@ -81,7 +83,8 @@ SendPlain cells = EachAt (λ k. SendsPlain) cells
 
 -- what has come to one cell of another is a front of what that one sent it
 abbrev pub AgreesAt : List Cell → ℕ → ℕ → Type 0
-AgreesAt cells from to = (one other : Cell) → slice_get cells from ≡ Some one → slice_get cells to ≡ Some other → IsFront (came_of other from) (sent_to to one.log)
+AgreesAt cells from to = (one other : Cell) → slice_get cells from ≡ Some one → slice_get cells to ≡ Some other → IsFront (came_of other from)
+    (sent_to to one.log)
 
 abbrev pub AllAgree : List Cell → Type 0
 AllAgree cells = (from to : ℕ) → AgreesAt cells from to

@@ -14,4 +14,10 @@ loop-preserved c = let steps = rw c.in-Did.is at c.in_ok-step.ensures in rw step
 pub returns-in-Idle : goal.returns-in-Idle
 returns-in-Idle c =
     let steps = rw c.in-Idle.is at c.in_ok-step.ensures in
-    rw steps.2 (record { same = c.loop.invariant.same; stands = c.log-stands.ensures.stands; spent = steps.1; alone = c.loop.invariant.alone; works = c.loop.invariant.works })
+    rw steps.2 (record {
+      same = c.loop.invariant.same;
+      stands = c.log-stands.ensures.stands;
+      spent = steps.1;
+      alone = c.loop.invariant.alone;
+      works = c.loop.invariant.works;
+    })

@@ -8,7 +8,8 @@ use Rattle.alw_work.proofs.cells.split_all.Goals as goal
 
 pub loop-cell-init : goal.loop-cell-init
 loop-cell-init c =
-    rw (c.empty-logs.ensures, c.empty-nodes.ensures, c.empty-did_lists.ensures, c.into_iter-cell-iterator.ensures.into_iter_gives.0) (record { logs = refl; nodes = refl; dids = refl })
+    rw (c.empty-logs.ensures, c.empty-nodes.ensures, c.empty-did_lists.ensures, c.into_iter-cell-iterator.ensures.into_iter_gives.0)
+    (record { logs = refl; nodes = refl; dids = refl })
 
 pub push-requires : goal.push-requires
 push-requires c =
@@ -20,12 +21,14 @@ push-requires c =
 pub push-requires-in-loop-cell : goal.push-requires-in-loop-cell
 push-requires-in-loop-cell c =
     let are = rw c.in-Some.ensures.steps.0 at c.loop-cell.invariant in
-    made_few (λ (cell : Cell). cell.node) c.loop-cell.nodes c.in-Some.cell c.next.new.self.rest.items c.args.cells.items are.nodes (omega (arith, c.requires, c.args.cells.ok.0))
+    made_few (λ (cell : Cell). cell.node) c.loop-cell.nodes c.in-Some.cell c.next.new.self.rest.items c.args.cells.items are.nodes
+    (omega (arith, c.requires, c.args.cells.ok.0))
 
 pub push-requires-in-loop-cell-2 : goal.push-requires-in-loop-cell-2
 push-requires-in-loop-cell-2 c =
     let are = rw c.in-Some.ensures.steps.0 at c.loop-cell.invariant in
-    made_few (λ (cell : Cell). cell.dids) c.loop-cell.did_lists c.in-Some.cell c.next.new.self.rest.items c.args.cells.items are.dids (omega (arith, c.requires, c.args.cells.ok.0))
+    made_few (λ (cell : Cell). cell.dids) c.loop-cell.did_lists c.in-Some.cell c.next.new.self.rest.items c.args.cells.items are.dids
+    (omega (arith, c.requires, c.args.cells.ok.0))
 
 pub loop-cell-preserved : goal.loop-cell-preserved
 loop-cell-preserved c =

@@ -10,22 +10,28 @@ pub close-requires-clause-sender : goal.close-requires-clause-sender
 close-requires-clause-sender g c =
     let here : length c.pop.new.self.items ≡ c.len-place.result = omega (arith, c.len-place.ensures, c.pop.new.self.ok.0) in
     sender_is c.args.links.items c.args.nodes c.args.lefts.now.items c.loop-link.links.items c.pop.new.self.items c.in-Some.link _ _ c.loop-link.lefts.items
-    c.take_out.new.lefts.items c.take_in.new.lefts.items c.take_out.result c.take_in.result c.in-Some-take_out.out c.in-Some-take_in.come c.in-Some.ensures.items
-    (λ i. sym here i / c.from-nodes.ensures i) (λ i. sym here i % c.from-nodes.ensures i) c.loop-link.invariant c.take_out.ensures c.in-Some-take_out.is c.take_in.ensures c.in-Some-take_in.is
+    c.take_out.new.lefts.items c.take_in.new.lefts.items c.take_out.result c.take_in.result c.in-Some-take_out.out c.in-Some-take_in.come
+    c.in-Some.ensures.items
+    (λ i. sym here i / c.from-nodes.ensures i) (λ i. sym here i % c.from-nodes.ensures i) c.loop-link.invariant c.take_out.ensures c.in-Some-take_out.is
+    c.take_in.ensures c.in-Some-take_in.is
 
 pub close-requires-clause-receiver : goal.close-requires-clause-receiver
 close-requires-clause-receiver g c =
     let here : length c.pop.new.self.items ≡ c.len-place.result = omega (arith, c.len-place.ensures, c.pop.new.self.ok.0) in
     receiver_is c.args.links.items c.args.nodes c.args.lefts.now.items c.loop-link.links.items c.pop.new.self.items c.in-Some.link _ _ c.loop-link.lefts.items
-    c.take_out.new.lefts.items c.take_in.new.lefts.items c.take_out.result c.take_in.result c.in-Some-take_out.out c.in-Some-take_in.come c.in-Some.ensures.items
-    (λ i. sym here i / c.from-nodes.ensures i) (λ i. sym here i % c.from-nodes.ensures i) c.loop-link.invariant c.take_out.ensures c.in-Some-take_out.is c.take_in.ensures c.in-Some-take_in.is
+    c.take_out.new.lefts.items c.take_in.new.lefts.items c.take_out.result c.take_in.result c.in-Some-take_out.out c.in-Some-take_in.come
+    c.in-Some.ensures.items
+    (λ i. sym here i / c.from-nodes.ensures i) (λ i. sym here i % c.from-nodes.ensures i) c.loop-link.invariant c.take_out.ensures c.in-Some-take_out.is
+    c.take_in.ensures c.in-Some-take_in.is
 
 pub loop-link-preserved : goal.loop-link-preserved
 loop-link-preserved g c =
     let here : length c.pop.new.self.items ≡ c.len-place.result = omega (arith, c.len-place.ensures, c.pop.new.self.ok.0) in
     closed_next c.args.links.items c.args.nodes c.args.lefts.now.items c.loop-link.links.items c.pop.new.self.items c.in-Some.link _ _ c.loop-link.lefts.items
-    c.take_out.new.lefts.items c.take_in.new.lefts.items c.take_out.result c.take_in.result c.in-Some-take_out.out c.in-Some-take_in.come c.in-Some.ensures.items
-    (λ i. sym here i / c.from-nodes.ensures i) (λ i. sym here i % c.from-nodes.ensures i) c.loop-link.invariant c.take_out.ensures c.in-Some-take_out.is c.take_in.ensures c.in-Some-take_in.is c.requires.plain c.close.ensures.0 c.close.ensures.2
+    c.take_out.new.lefts.items c.take_in.new.lefts.items c.take_out.result c.take_in.result c.in-Some-take_out.out c.in-Some-take_in.come
+    c.in-Some.ensures.items
+    (λ i. sym here i / c.from-nodes.ensures i) (λ i. sym here i % c.from-nodes.ensures i) c.loop-link.invariant c.take_out.ensures c.in-Some-take_out.is
+    c.take_in.ensures c.in-Some-take_in.is c.requires.plain c.close.ensures.0 c.close.ensures.2
 
 pub returns-clause-agree : goal.returns-clause-agree
 returns-clause-agree g c = λ _.

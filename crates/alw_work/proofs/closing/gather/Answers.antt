@@ -18,9 +18,11 @@ loop-lock-preserved g c =
     let left : Left = record { cell = opened.1; outs = opened.3; ins = opened.4 } in
     let here : opened.0.0 ≡ length lefts = omega (arith, c.if-from-len.false, c.from.ensures, c.len.ensures, c.loop-lock.lefts.ok.0) in
     let place : opened.0.0 ≡ length (cells_in lefts) = omega (arith, here, length-map lefts (λ (l : Left). l.cell)) in
-    let so_far = so_far_push image parameters (cells_in lefts) c.loop-lock.trapped opened.0.0 opened.1 opened.2 c.loop-lock.invariant.so_far place c.open-cell.ensures.cell c.open-cell.ensures.trapped in
+    let so_far = so_far_push image parameters (cells_in lefts) c.loop-lock.trapped opened.0.0 opened.1 opened.2 c.loop-lock.invariant.so_far place
+    c.open-cell.ensures.cell c.open-cell.ensures.trapped in
     rw c.in_ok-push.ensures.items (record {
-      so_far = subst (λ (cells : List Cell). AreSoFar image parameters cells (c.loop-lock.trapped || opened.2)) (sym (map-append (λ (l : Left). l.cell) lefts (left ∷ []))) so_far;
+      so_far = subst (λ (cells : List Cell). AreSoFar image parameters cells (c.loop-lock.trapped || opened.2))
+          (sym (map-append (λ (l : Left). l.cell) lefts (left ∷ []))) so_far;
       tied = each_push (IsTied links (node_count image)) lefts left c.loop-lock.invariant.tied
           (subst (λ k. IsTied links (node_count image) k left) here (record { outs = c.open-cell.ensures.outs; ins = c.open-cell.ensures.ins }));
     })

@@ -9,4 +9,5 @@ returns c =
     let lefts = c.args.lefts.now.items in
     let left = c.index_mut.result.now in
     let below : c.args.from < length lefts = omega (arith, c.if-from-len.false, c.len.ensures, c.args.lefts.now.ok.0) in
-    takes_out c.args.from c.args.to lefts left _ c.take_last.result (slice_get_read lefts _ c.args.from left refl below c.index_mut.ensures.value) refl refl c.take_last.ensures
+    takes_out c.args.from c.args.to lefts left _ c.take_last.result (slice_get_read lefts _ c.args.from left refl below c.index_mut.ensures.value) refl refl
+    c.take_last.ensures

@@ -24,7 +24,8 @@ loop-to-preserved g c =
       count = omega (arith, was.count, length-append links (link ∷ []));
       many = omega (arith, was.many, length-append {A = Out} row (record { end = c.in_ok-link.field-0.sender; kept = None } ∷ []));
       row_is = row_next links nodes from row link _ (was.count ∙ ap (λ k. from * nodes + k) (sym was.many)) c.in_ok-link.ensures.sender refl was.row_is;
-      ins_are = rw c.from.ensures (columns_next links nodes from to ins link column _ _ was.count here c.in_ok-push-3.ensures.items c.in_ok-link.ensures.receiver refl was.ins_are);
+      ins_are = rw c.from.ensures (columns_next links nodes from to ins link column _ _ was.count here c.in_ok-push-3.ensures.items
+          c.in_ok-link.ensures.receiver refl was.ins_are);
     })
 
 pub returns : goal.returns

@@ -20,4 +20,5 @@ returns-clause-tied g c =
     let come = c.index_mut.result.now in
     let below : c.from-at.result < length ins = omega (arith, c.if-at-len.false, c.len.ensures, c.args.ins.now.ok.0) in
     let here = subst (λ k. slice_get ins k ≡ Some come) c.from-at.ensures (slice_get_read ins _ c.from-at.result come refl below c.index_mut.ensures.value) in
-    rw c.from-at.ensures (tied_fetch c.args.links.now c.args.nodes c.args.number.0 c.args.cell.now c.fetch_from.new.cell c.args.from.0 ins come c.fetch_from.new.come c.requires.tied here c.fetch_from.ensures)
+    rw c.from-at.ensures (tied_fetch c.args.links.now c.args.nodes c.args.number.0 c.args.cell.now c.fetch_from.new.cell c.args.from.0 ins come
+    c.fetch_from.new.come c.requires.tied here c.fetch_from.ensures)

@@ -20,4 +20,5 @@ returns-clause-tied g c =
     let out = c.index_mut.result.now in
     let below : c.from-at.result < length outs = omega (arith, c.if-at-len.false, c.len.ensures, c.args.outs.now.ok.0) in
     let here = subst (λ k. slice_get outs k ≡ Some out) c.from-at.ensures (slice_get_read outs _ c.from-at.result out refl below c.index_mut.ensures.value) in
-    rw c.from-at.ensures (tied_offer c.args.links.now c.args.nodes c.args.number.0 c.args.cell.now c.offer_to.new.cell c.args.to.0 outs out c.offer_to.new.out c.requires here c.offer_to.ensures)
+    rw c.from-at.ensures (tied_offer c.args.links.now c.args.nodes c.args.number.0 c.args.cell.now c.offer_to.new.cell c.args.to.0 outs out
+    c.offer_to.new.out c.requires here c.offer_to.ensures)

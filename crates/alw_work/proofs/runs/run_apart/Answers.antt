@@ -13,4 +13,5 @@ returns c =
     let cells = c.in_ok-cells.cells.items in
     let taken : AreTaken image params cells false =
     record { count = start.count; each = start.each; agree = alone_agree cells c.in_ok-cells.ensures.alone; marked = λ is. absurd (cc) } in
-    IfOk-weaker c.split_all.result _ _ (λ worked are. left_at_end image params cells false taken c.finish_all.new.cells.items worked c.in_ok-finish_all.ensures are) c.split_all.ensures
+    IfOk-weaker c.split_all.result _ _
+    (λ worked are. left_at_end image params cells false taken c.finish_all.new.cells.items worked c.in_ok-finish_all.ensures are) c.split_all.ensures

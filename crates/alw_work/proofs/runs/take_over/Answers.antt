@@ -22,20 +22,24 @@ returns-then-trapped g c =
     let image = g.I.Naming.image in
     let parameters = g.I.Naming.parameters in
     let cells = c.in_ok-cells.cells.items in
-    let over = taken image parameters c.count_nodes-nodes.result (cells_in c.in-Some.lefts.items) (cells_in c.close_all.new.lefts.items) cells c.in-Some.trapped
+    let over = taken image parameters c.count_nodes-nodes.result (cells_in c.in-Some.lefts.items) (cells_in c.close_all.new.lefts.items) cells
+    c.in-Some.trapped
     (rw c.in-Some.is at c.in_ok-lefts.ensures.cells) (c.count_nodes-nodes.ensures.count ∙ ap node_count c.requires.image) c.close_all.ensures.cells
     (c.close_all.ensures.agree c.if-not-close_all.false) c.in_ok-cells.ensures in
     rw (c.requires.image, c.requires.parameters)
-    (IfOk-weaker c.split_all.result _ _ (λ worked are. left_at_trap image parameters cells c.in-Some.trapped over worked c.if-trapped.true are) c.split_all.ensures)
+    (IfOk-weaker c.split_all.result _ _ (λ worked are. left_at_trap image parameters cells c.in-Some.trapped over worked c.if-trapped.true are)
+    c.split_all.ensures)
 
 pub returns : goal.returns
 returns g c =
     let image = g.I.Naming.image in
     let parameters = g.I.Naming.parameters in
     let cells = c.in_ok-cells.cells.items in
-    let over = taken image parameters c.count_nodes-nodes.result (cells_in c.in-Some.lefts.items) (cells_in c.close_all.new.lefts.items) cells c.in-Some.trapped
+    let over = taken image parameters c.count_nodes-nodes.result (cells_in c.in-Some.lefts.items) (cells_in c.close_all.new.lefts.items) cells
+    c.in-Some.trapped
     (rw c.in-Some.is at c.in_ok-lefts.ensures.cells) (c.count_nodes-nodes.ensures.count ∙ ap node_count c.requires.image) c.close_all.ensures.cells
     (c.close_all.ensures.agree c.if-not-close_all.false) c.in_ok-cells.ensures in
     rw (c.requires.image, c.requires.parameters)
     (IfOk-weaker c.split_all-2.result _ _
-    (λ worked are. left_at_end image parameters cells c.in-Some.trapped over c.finish_all.new.cells.items worked c.in_ok-finish_all.ensures are) c.split_all-2.ensures)
+    (λ worked are. left_at_end image parameters cells c.in-Some.trapped over c.finish_all.new.cells.items worked c.in_ok-finish_all.ensures are)
+    c.split_all-2.ensures)

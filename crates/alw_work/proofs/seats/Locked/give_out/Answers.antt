@@ -15,5 +15,6 @@ invariant_of-self g c =
     let s = c.self.inside in
     let offer = c.offer-self-inside in
     let given = subst (λ (ls : List LinkName). AreTiedOuts ls s.nodes s.number.0 offer.new.cell offer.new.outs.items) c.requires offer.ensures.tied in
-    held_offer g.I.Naming.image g.I.Naming.parameters g.I.Naming.links s.nodes s.number.0 s.cell offer.new.cell s.outs.items s.ins.items s.trapped offer.new.outs.items
+    held_offer g.I.Naming.image g.I.Naming.parameters g.I.Naming.links s.nodes s.number.0 s.cell offer.new.cell s.outs.items s.ins.items s.trapped
+    offer.new.outs.items
     c.self.invariant offer.ensures.same given

@@ -14,5 +14,6 @@ pub invariant_of-self : goal.invariant_of-self
 invariant_of-self g c =
     let s = c.self.inside in
     let come = subst (λ (ls : List LinkName). AreTiedIns ls s.nodes s.number.0 c.fetch.new.cell c.fetch.new.ins.items) c.requires c.fetch.ensures.tied in
-    held_fetch g.I.Naming.image g.I.Naming.parameters g.I.Naming.links s.nodes s.number.0 s.cell c.fetch.new.cell s.outs.items s.ins.items s.trapped c.fetch.new.ins.items
+    held_fetch g.I.Naming.image g.I.Naming.parameters g.I.Naming.links s.nodes s.number.0 s.cell c.fetch.new.cell s.outs.items s.ins.items s.trapped
+    c.fetch.new.ins.items
     c.self.invariant c.fetch.ensures.same come
