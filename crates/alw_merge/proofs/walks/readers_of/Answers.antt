@@ -8,7 +8,7 @@ use Rattle.alw_merge.proofs.walks.readers_of.Goals as goal
 
 pub loop-n-preserved : goal.loop-n-preserved
 loop-n-preserved c =
-    let left = ap (λ (reading : Reading). reading.left) c.cursor.ensures in
+    let left = ap (λ (reading : Reading). reading.left) c.cursor.ensures.reading in
     let reader : ◌≡◌ {A = Course} (record { left = c.cursor.result.left; dids = c.members.result.now }) (record { left = c.at_ref.result.now.entries; dids = c.at_ref-in-loop-n.result.now }) =
     λ x. record { left = left x; dids = c.members.ensures x } in
     c.in_ok-push.ensures.items ∙ (ap (λ (course : Course). c.loop-n.readers.items ++ course ∷ []) reader ∙ course_more c.args.logs.now c.args.dids.now c.loop-n.n c.at_ref.result.now c.at_ref-in-loop-n.result.now (omega (arith, c.loop-n-test.true, c.len-n-end.ensures)) c.requires
