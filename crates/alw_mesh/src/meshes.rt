@@ -266,6 +266,7 @@ impl Mesh {
     }
 
     /// A line's entry at its home.
+    #[inline(always)]
     pub fn home(&self, line: LineNo) -> HomeView
         requires { line.0 < line_count self.now.image }
         ensures { IsViewOf result (entry_of self.now.image self.now.machine line.0) }
