@@ -1,8 +1,10 @@
 ghost use Rattle.std.specs.Prelude.{◌≡◌, ◌+◌, OnOk};
 ghost use Rattle.alw_cells.specs.Records.{AreBelow};
 
+use crate::images::{LINK_TO_ITSELF, ONE_NODE, image_of};
 use alw_cells::{Log, Logs, links_agree};
-use alw_merge::{merge, stream};
+use alw_image::{Params, Starts};
+use alw_merge::{merge, replay_logs, stream};
 use alw_msg::{Entry, Event, Kind, Msg, Sends};
 use alw_num::{Line, LineNo, NodeNo};
 use std::alloc::Global;
@@ -188,5 +190,18 @@ fn messages_are_packed(rt: HostRuntime) -> Result<(), Fail> {
         0, 0, 0, 5, 1, 0, 0, 0, 0, 7, 0, 0, 0, 0, 0, 0, 0, 0, 0, 2, 0, 0,
     ];
     assert!(rt; receiver(alloc, 2)?.bytes() == taken.as_slice());
+    Ok(())
+}
+
+#[test]
+fn logs_are_replayed(rt: HostRuntime) -> Result<(), Fail> {
+    let alloc = rt.alloc();
+    let starts = Starts::from_slice(alloc, &[(ONE, 0, 0)])?;
+    let image = image_of(alloc, ONE_NODE, &LINK_TO_ITSELF, starts, &[])?;
+    let params = Params::new(4, 64, 100, 0).ok_or("no parameters")?;
+    let entries = [turn(1, ONE), turn(2, ONE), turn(3, ONE), turn(5, ONE)];
+    let mut logs = Logs::empty(alloc);
+    logs.push(log_of(alloc, ONE, &entries)?)?;
+    assert_eq!(rt; replay_logs(alloc, &image, &params, &logs)?.kept, 3);
     Ok(())
 }
