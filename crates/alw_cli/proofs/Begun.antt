@@ -1,9 +1,8 @@
 -- A run that workers began, and the schedule of seed 0 took to an end.
 use Rattle.std.proofs.Common.{◌≡◌, ℕ, ◌<◌, ◌≤◌, Bool, true, false, cond, List, [], ◌∷◌, ◌++◌, map, length, take, refl, sym, ap, subst, ◌∙◌, arith, suc}
-use Rattle.std.specs.Prelude.{Err}
 use Rattle.std.specs.List.{AllByRecursion}
 use Rattle.std.proofs.lemmas.Bool.{true≢false}
-use Rattle.std.proofs.lemmas.List.{take_all, take_at, length-append}
+use Rattle.std.proofs.lemmas.List.{take_at, length-append}
 use Rattle.alw_msg.specs.declared.events.Entry.{Entry}
 use Rattle.alw_msg.specs.Events.{is_evict}
 use Rattle.alw_image.specs.declared.parts.Parts.{Parts}
@@ -20,18 +19,14 @@ use Rattle.alw_order.proofs.Merging.{merged_legal, merged_ascends, merged_nodes}
 use Rattle.alw_cells.specs.Cells.{IsSpent}
 use Rattle.alw_tally.specs.Remaining.{trapped_in}
 use Rattle.alw_work.specs.Works.{holds_trap}
-use Rattle.alw_mesh.specs.Histories.{History}
-use Rattle.alw_mesh.specs.declared.errors.FitErr.{FitErr}
-use Rattle.alw_mesh.specs.declared.errors.FitErr.TheVariants as fits
-use Rattle.alw_merge.specs.Replays.{IsReplayed, Replays}
+use Rattle.alw_mesh.specs.Histories.{History, joined_of}
 use Rattle.alw_sched.specs.Schedules.{IsSeeded, IsFinished}
 use Rattle.alw_sched.proofs.Seeded.{seeded_front, seeded_stays, seeded_evicts}
 use Rattle.alw_config.specs.declared.commands.Form.{Form}
 use Rattle.alw_cli.specs.declared.runs.Run.{Run}
 use Rattle.alw_cli.specs.declared.working.Worked.{Worked}
 use Rattle.alw_cli.specs.Runs.{IsMade, IsToldOf}
-use Rattle.alw_cli.specs.Working.{IsMergeOf, IsBegun, KeepsCopies, IsRunByWorkers, RanByWorkers}
-use Rattle.alw_cli.specs.Statuses.{cause_of_fit}
+use Rattle.alw_cli.specs.Working.{IsJoinedByWorkers, IsBegun, KeepsCopies, IsRunByWorkers}
 use Rattle.alw_cli.proofs.Reached.{made}
 use Rattle.alw_cli.proofs.Trapped.{trapped_after, any_of}
 
@@ -68,81 +63,64 @@ all_logs (log ∷ rest) each =
 
 -- ---- what workers left
 
-module _ (image : Parts) (params : Parameters) (entries : List Entry) (merge : IsMergeOf image params entries) where
+module _ (image : Parts) (params : Parameters) (machine : History) (left : IsJoinedByWorkers image params machine) where
+  abbrev entries : List Entry
+  entries = merged left.logs
+
   legal : IsLegal image params entries
-  legal = subst (λ (es : List Entry). IsLegal image params es) (sym merge.same) (merged_legal image params merge.logs merge.runs)
+  legal = merged_legal image params left.logs left.runs
 
   main : KeepsCopies params entries
   unfolding merged
-  main none = subst (AllByRecursion IsMain) (sym merge.same)
-      (all_in_order (entries_of merge.logs) (all_logs merge.logs (λ k below.
-      run_main image params k (node_start image k) (log_at merge.logs k) none (merge.runs.runs k (omega (arith, below, merge.runs.count))))))
+  main none = all_in_order (entries_of left.logs) (all_logs left.logs (λ k below.
+      run_main image params k (node_start image k) (log_at left.logs k) none (left.runs.runs k (omega (arith, below, left.runs.count)))))
 
-  node_is : (n : ℕ) → n < node_count image → node_at (state image params entries) n ≡ node_after image params n (node_start image n) (log_at merge.logs n)
-  node_is n below = ap (λ (es : List Entry). node_at (state image params es) n) merge.same ∙ merged_nodes image params merge.logs merge.runs n below
+  node_is : (n : ℕ) → n < node_count image → node_at (state image params entries) n ≡ node_after image params n (node_start image n) (log_at left.logs n)
+  node_is n below = merged_nodes image params left.logs left.runs n below
 
   -- a log with a trapping turn leaves a trapped context
-  untrapped : any_trapped (state image params entries) ≡ false → (n : ℕ) → n < node_count image → holds_trap image params n (log_at merge.logs n) ≡ false
-  untrapped none n below = go (holds_trap image params n (log_at merge.logs n)) refl
+  untrapped : any_trapped (state image params entries) ≡ false → (n : ℕ) → n < node_count image → holds_trap image params n (log_at left.logs n) ≡ false
+  untrapped none n below = go (holds_trap image params n (log_at left.logs n)) refl
     where
-      go : (b : Bool) → holds_trap image params n (log_at merge.logs n) ≡ b → holds_trap image params n (log_at merge.logs n) ≡ false
+      go : (b : Bool) → holds_trap image params n (log_at left.logs n) ≡ b → holds_trap image params n (log_at left.logs n) ≡ false
       go false is = is
       go true is = absurd (true≢false (sym (any_of image params entries legal n below
           (subst (λ (node : NodeState). 1 ≤ trapped_in node) (sym (node_is n below))
-          (trapped_after image params n (node_start image n) (log_at merge.logs n) (merge.runs.runs n below) is))) ∙ none))
+          (trapped_after image params n (node_start image n) (log_at left.logs n) (left.runs.runs n below) is))) ∙ none))
 
   spent : any_trapped (state image params entries) ≡ false → (n : ℕ) → n < node_count image → IsSpent params (node_at (state image params entries) n)
-  spent none n below = subst (IsSpent params) (sym (node_is n below)) (merge.spent (untrapped none) n below)
-
-  -- all of them were taken
-  kept_all : (machine : History) (kept : ℕ) → IsReplayed image params entries machine kept → length entries ≤ kept
-  kept_all machine kept replayed =
-      replayed.longest (length entries) (omega arith) (subst (λ (es : List Entry). IsLegal image params es) (sym (take_all (length entries) entries (omega arith))) legal)
-
-  machine_is : (machine : History) (kept : ℕ) → IsReplayed image params entries machine kept → machine ≡ record { image = image; parameters = params; journal = entries; joined = 0 }
-  machine_is machine kept replayed =
-      replayed.is ∙ ap (λ (j : List Entry). record { image = image; parameters = params; journal = j; joined = 0 }) (take_all kept entries (kept_all machine kept replayed))
-
-  kept_is : (machine : History) (kept : ℕ) → IsReplayed image params entries machine kept → kept ≡ length entries
-  kept_is machine kept replayed = omega (arith, kept_all machine kept replayed, replayed.few)
+  spent none n below = subst (IsSpent params) (sym (node_is n below)) (left.spent (untrapped none) n below)
 
   -- the schedule of seed 0 went on from there
-  module _ (machine after : History) (kept : ℕ) (replayed : IsReplayed image params entries machine kept) (e : Ended) (finished : IsFinished machine 0 after e) where
-    from_all : IsSeeded (record { image = image; parameters = params; journal = entries; joined = 0 }) 0 after
-    from_all = subst (λ (h : History). IsSeeded h 0 after) (machine_is machine kept replayed) finished.seeded
+  module _ (after : History) (e : Ended) (finished : IsFinished machine 0 after e) where
+    from_all : IsSeeded (joined_of image params entries) 0 after
+    from_all = subst (λ (h : History). IsSeeded h 0 after) left.is finished.seeded
 
-    after_is : after ≡ record { image = image; parameters = params; journal = after.journal; joined = 0 }
+    after_is : after ≡ record { image = image; parameters = params; journal = after.journal; joined = length entries }
     after_is = seeded_stays _ 0 after from_all
 
-    front_is : take kept after.journal ≡ entries
+    front_is : take (length entries) after.journal ≡ entries
     front_is =
         let more = seeded_front _ 0 after from_all in
-        ap (λ (n : ℕ). take n after.journal) (kept_is machine kept replayed) ∙ ap (take (length entries)) more.1 ∙ take_at entries more.0 (length entries) refl
+        ap (take (length entries)) more.1 ∙ take_at entries more.0 (length entries) refl
 
-    begun_so : IsBegun image params after.journal kept
+    begun_so : IsBegun image params after.journal (length entries)
     begun_so =
         let more = seeded_front _ 0 after from_all in
         record {
-          few = omega (arith, ap length more.1, length-append entries more.0, kept_is machine kept replayed);
-          ascends = subst Ascends (sym front_is) (subst Ascends (sym merge.same) (merged_ascends image params merge.logs merge.runs));
+          few = omega (arith, ap length more.1, length-append entries more.0);
+          ascends = subst Ascends (sym front_is) (merged_ascends image params left.logs left.runs);
           spent = subst (λ (es : List Entry). any_trapped (state image params es) ≡ false → (n : ℕ) → n < node_count image → IsSpent params (node_at (state image params es) n))
               (sym front_is) spent;
-          later = subst (λ (h : History). IsSeeded (record { image = image; parameters = params; journal = take kept after.journal; joined = 0 }) 0 h) after_is
-              (subst (λ (es : List Entry). IsSeeded (record { image = image; parameters = params; journal = es; joined = 0 }) 0 after) (sym front_is) from_all);
+          later = subst (λ (h : History). IsSeeded (record { image = image; parameters = params; journal = take (length entries) after.journal; joined = length entries }) 0 h) after_is
+              (subst (λ (es : List Entry). IsSeeded (record { image = image; parameters = params; journal = es; joined = length entries }) 0 after) (sym front_is) from_all);
         }
 
     pub run_by_workers : (workers : ℕ) (form : Form) (run : Run) (worked : Worked) → workers ≤ node_count image → IsToldOf after e form run →
-        worked ≡ record { run = run; merged = kept } → IsRunByWorkers workers image params form worked
-    run_by_workers workers form run worked few told same = rw same (record {
+        worked ≡ record { run = run; merged = length machine.journal } → IsRunByWorkers workers image params form worked
+    run_by_workers workers form run worked few told same = rw (same, ap (λ (h : History). length h.journal) left.is) (record {
       few = few;
       made = subst (λ (h : History). IsMade h.image h.parameters form run) after_is (made after e form run finished.run finished.end told);
       evicts = λ none. subst (λ (j : List Entry). AllByRecursion IsMain j) (sym told.journal) (seeded_evicts _ 0 after from_all none (main none));
-      begun = subst (λ (j : List Entry). IsBegun image params j kept) (sym told.journal) begun_so;
+      begun = subst (λ (j : List Entry). IsBegun image params j (length entries)) (sym told.journal) begun_so;
     })
-
--- a machine that doesn't start
-pub refits : (image : Parts) (params : Parameters) (entries : List Entry) (workers : ℕ) (form : Form) (fit : FitErr) → Replays image params entries (Err fit) →
-    RanByWorkers workers image params form (Err (cause_of_fit fit))
-refits image params entries workers form (fits.DoesNotFit number most) refused =
-    record { most_is = refused.2; number_is = refused.1; above = omega (arith, refused.0, refused.1) }
-refits image params entries workers form fits.NoMemory refused = tt

@@ -14,7 +14,7 @@ use Rattle.alw_order.specs.Orders.{Ascends}
 use Rattle.alw_order.specs.Merges.{AreLocalRuns}
 use Rattle.alw_work.specs.Works.{AreSpent}
 use Rattle.alw_cells.specs.Cells.{IsSpent}
-use Rattle.alw_mesh.specs.Histories.{stamps_of}
+use Rattle.alw_mesh.specs.Histories.{History, stamps_of, joined_of}
 use Rattle.alw_mesh.specs.declared.errors.TheConstants.{MOST_STEPS}
 use Rattle.alw_sched.specs.Schedules.{IsSeeded}
 use Rattle.alw_config.specs.declared.commands.Form.{Form}
@@ -35,8 +35,8 @@ pub record IsBegun (image : Parts) (parameters : Parameters) (journal : List Ent
   pub ascends : Ascends (take merged journal)
   pub spent : any_trapped (state image parameters (take merged journal)) ≡ false → (n : ℕ) → n < node_count image →
       IsSpent parameters (node_at (state image parameters (take merged journal)) n)
-  pub later : IsSeeded (record { image = image; parameters = parameters; journal = take merged journal; joined = 0 }) 0
-      (record { image = image; parameters = parameters; journal = journal; joined = 0 })
+  pub later : IsSeeded (record { image = image; parameters = parameters; journal = take merged journal; joined = merged }) 0
+      (record { image = image; parameters = parameters; journal = journal; joined = merged })
 
 -- no entry is an eviction where none is to be tried
 abbrev pub KeepsCopies : Parameters → List Entry → Type 0
@@ -105,9 +105,9 @@ RanByWorkers workers image parameters form (Err (cause.Input (reason.WorkersDoNo
 RanByWorkers workers image parameters form (Err cause.NoMemory) = Unit {0}
 RanByWorkers workers image parameters form (Err _) = ⊥
 
--- some entries are the merge of logs that workers left of an image
-pub record IsMergeOf (image : Parts) (parameters : Parameters) (entries : List Entry) : Type 0 where
+-- a machine was joined from logs that workers left of an image
+pub record IsJoinedByWorkers (image : Parts) (parameters : Parameters) (machine : History) : Type 0 where
   pub logs : Logs
   pub runs : AreLocalRuns image parameters logs
   pub spent : AreSpent image parameters logs
-  pub same : entries ≡ merged logs
+  pub is : machine ≡ joined_of image parameters (merged logs)

@@ -3,7 +3,7 @@ ghost use Rattle.alw_image.specs.Images.{node_count};
 ghost use Rattle.alw_mesh.specs.Histories.{stamps_of};
 ghost use Rattle.alw_mesh.specs.declared.errors.TheConstants.{MOST_STEPS};
 ghost use Rattle.alw_cli.specs.Runs.{IsWritten};
-ghost use Rattle.alw_cli.specs.Working.{WorkAnswer, WorkMerges, RanByWorkers, IsMergeOf};
+ghost use Rattle.alw_cli.specs.Working.{WorkAnswer, WorkMerges, RanByWorkers, IsJoinedByWorkers};
 ghost use Rattle.alw_cli.specs.Streams.{stream_of};
 
 use crate::answers::{Cause, Done, InputErr, MOST_INPUT};
@@ -11,9 +11,8 @@ use crate::runs::{Run, told, write_run};
 use alw_config::Form;
 use alw_image::{Image, ImageErr, Params, read_image};
 use alw_io::Sink;
-use alw_merge::{Replayed, merge, replay};
-use alw_mesh::fit;
-use alw_msg::Journal;
+use alw_merge::join;
+use alw_mesh::{Machine, fit};
 use alw_num::NoMemory;
 use alw_sched::finish;
 use alw_work::{Gate, run_workers};
@@ -76,29 +75,29 @@ fn work_image<R: Threads + Wait + Sync, G: Gate>(
         let fault = InputErr::WorkersDoNotFit(u64::from(workers), u64::from(nodes));
         return Err(Cause::Input(fault));
     }
-    let entries = merged::<R, G>(rt, alloc, image, params, workers, gate)?;
-    let Replayed { mut machine, kept } = replay(alloc, image, params, &entries)?;
+    let mut machine = joined::<R, G>(rt, alloc, image, params, workers, gate)?;
+    let merged = machine.journal().len();
     let ended = finish(&mut machine, 0)?;
     let run = told(alloc, machine, ended, form)?;
-    Ok(Worked { run, merged: kept })
+    Ok(Worked { run, merged })
 }
 
-// The merge of what workers did.
-fn merged<R: Threads + Wait + Sync, G: Gate>(
+// The machine that is joined from what workers left.
+fn joined<R: Threads + Wait + Sync, G: Gate>(
     rt: &R,
     alloc: Global,
     image: &Image,
     params: &Params,
     workers: u32,
     gate: &G,
-) -> Result<Journal, NoMemory>
+) -> Result<Machine, NoMemory>
     requires some { 1 ≤ workers }
     requires few { workers ≤ node_count image.now }
     requires fits { stamps_of image.now params.now ≤ MOST_STEPS }
-    ensures { IfOk result (λ entries. IsMergeOf image.now params.now entries) }
+    ensures { IfOk result (λ machine. IsJoinedByWorkers image.now params.now machine) }
 {
     let worked = run_workers::<R, G>(rt, alloc, image, params, workers, gate)?;
-    merge(alloc, &worked.logs)
+    join(alloc, image, params, worked)
 }
 
 // Writes a run that workers began.

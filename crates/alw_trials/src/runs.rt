@@ -4,8 +4,10 @@ use alw_mesh::{FitErr, MOST_STEPS, Machine, MachineParts, StepErr};
 use alw_model::{Counts, Ended};
 use alw_msg::{Entry, Event, Msg, Status};
 use alw_node::HomeView;
-use alw_num::{Line, LineNo, Meta, Mode, NodeNo, SHARED_BASE, State};
+use alw_num::{Draws, Line, LineNo, Meta, Mode, NoMemory, NodeNo, SHARED_BASE, State};
 use alw_sched::finish;
+use alw_text::Text;
+use alw_trace::{Trace, write_trace};
 use sparc_table::Regs;
 use std::alloc::Global;
 use std::test::Fail;
@@ -170,6 +172,119 @@ fn full_tables(rt: HostRuntime) -> Result<(), Fail> {
         goes(&mut machine, FOUR_LINES.rows)?;
         assert!(rt; are_spilled(&machine));
     }
+    Ok(())
+}
+
+// What seed 7 makes of it, as an independent program writes it.
+const SEED_7: &[u8] = b"ALEWIFE TRACE 1
+image 76
+414c455700010301010000040000000600000000000000030000000003100000
+d0004000d0006010d0006020d000603091d02000000000000000000000010000
+000000000002000000000000
+params pointers 1 sets 256 limit 32768
+entries 58
+1 I 2
+2 I 2
+1 I 0
+1 I 1
+3 D 2 0
+4 D 0 2
+2 I 1
+4 I 0
+5 D 1 0
+6 H 0
+7 D 0 1
+7 D 0 0
+5 I 2
+6 I 2
+8 D 0 0
+9 D 2 0
+10 I 0
+11 I 0
+12 D 0 0
+10 D 0 2
+8 I 1
+9 I 1
+13 H 0
+14 D 0 0
+11 I 2
+15 I 0
+12 I 2
+16 D 2 0
+17 I 0
+18 D 1 0
+19 D 0 1
+20 I 1
+17 D 0 2
+21 I 1
+18 I 2
+19 I 2
+19 D 0 0
+20 D 2 0
+21 H 0
+22 D 0 0
+23 D 1 0
+21 D 0 2
+24 D 0 1
+22 I 2
+23 I 2
+24 I 0
+25 I 0
+26 D 0 0
+27 H 0
+28 D 0 0
+29 I 0
+30 I 0
+25 I 1
+26 I 1
+31 D 1 0
+32 D 0 1
+33 I 1
+34 I 1
+end
+";
+
+// The state of the draws after so many of a seed.
+fn state_after(seed: u64, count: u32) -> u64 {
+    let mut draws = Draws { state: seed };
+    for _ in 0..count {
+        draws.draw();
+    }
+    draws.state
+}
+
+// Takes a machine to an end by a seed. Where memory is refused on the way it goes on with the draws that are
+// left: each event took one.
+fn finish_on(machine: &mut Machine, seed: u64) -> Result<Ended, NoMemory> {
+    match finish(machine, seed) {
+        Ok(ended) => Ok(ended),
+        Err(NoMemory) => finish(machine, state_after(seed, machine.journal().len())),
+    }
+}
+
+// The trace of what a machine did.
+fn trace_of(alloc: Global, machine: Machine) -> Result<Text, NoMemory> {
+    let MachineParts {
+        image,
+        params,
+        journal,
+        ..
+    } = machine.into_parts();
+    let trace = Trace {
+        image,
+        params,
+        journal,
+    };
+    write_trace(alloc, &trace)
+}
+
+// A run that was refused memory comes to the journal and the end of the undisturbed one.
+#[test]
+fn a_refused_run_goes_on(rt: HostRuntime) -> Result<(), Fail> {
+    let mut machine = started(rt.alloc(), &FOUR_LINES)?;
+    assert!(rt; finish_on(&mut machine, 7)? == Ended::Halted);
+    let text = trace_of(rt.alloc(), machine)?;
+    assert!(rt; text.bytes() == SEED_7);
     Ok(())
 }
 
