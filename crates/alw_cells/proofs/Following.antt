@@ -1,5 +1,6 @@
 -- Messages to a node that are read one by one.
-use Rattle.std.proofs.Common.{◌≡◌, ℕ, zero, suc, ◌+◌, ◌<◌, ◌==◌, cond, Some, None, List, [], ◌∷◌, ◌++◌, length, drop, map, filter, slice_get, refl, sym, ap, ◌∙◌, arith}
+use Rattle.std.proofs.Common.{◌≡◌, ℕ, zero, suc, ◌+◌, ◌<◌, ◌==◌, cond, Some, None, List, [], ◌∷◌, ◌++◌, length, drop, map, filter, slice_get, refl, sym, ap}
+use Rattle.std.proofs.Common.{◌∙◌, arith}
 use Rattle.std.specs.Option.{option_map}
 use Rattle.std.proofs.lemmas.Bool.{eq-eqb, ne_eqb}
 use Rattle.std.proofs.lemmas.Option.{same_Some}
@@ -23,20 +24,24 @@ nothing_there (first ∷ rest) (suc at) is = nothing_there rest at is
 
 picked_first : (number : ℕ) (send : ℕ × Msg) (rest : List (ℕ × Msg)) → send.0 ≡ number → picked number (send ∷ rest) ≡ send.1 ∷ picked number rest
 picked_first number send rest is =
-    ap (λ b. map (λ (s : ℕ × Msg). s.1) (cond b (send ∷ filter (λ (s : ℕ × Msg). s.0 == number) rest) (filter (λ (s : ℕ × Msg). s.0 == number) rest))) (eq-eqb send.0 number is)
+    ap (λ b. map (λ (s : ℕ × Msg). s.1) (cond b (send ∷ filter (λ (s : ℕ × Msg). s.0 == number) rest) (filter (λ (s : ℕ × Msg). s.0 == number) rest)))
+    (eq-eqb send.0 number is)
 
 picked_passed : (number : ℕ) (send : ℕ × Msg) (rest : List (ℕ × Msg)) → (send.0 ≡ number → ⊥) → picked number (send ∷ rest) ≡ picked number rest
 picked_passed number send rest other =
-    ap (λ b. map (λ (s : ℕ × Msg). s.1) (cond b (send ∷ filter (λ (s : ℕ × Msg). s.0 == number) rest) (filter (λ (s : ℕ × Msg). s.0 == number) rest))) (ne_eqb send.0 number other)
+    ap (λ b. map (λ (s : ℕ × Msg). s.1) (cond b (send ∷ filter (λ (s : ℕ × Msg). s.0 == number) rest) (filter (λ (s : ℕ × Msg). s.0 == number) rest)))
+    (ne_eqb send.0 number other)
 
 module _ (number at : ℕ) (reading : Reading) where
   -- a message at the place, to the node or to another
-  pub its : (send : ℕ × Msg) → Some send ≡ slice_get (sent_of reading.given) at → send.0 ≡ number → left_to number at reading ≡ send.1 ∷ left_to number (at + 1) reading
+  pub its : (send : ℕ × Msg) → Some send ≡ slice_get (sent_of reading.given) at → send.0 ≡ number
+      → left_to number at reading ≡ send.1 ∷ left_to number (at + 1) reading
   its send is goes =
       ap (λ (sends : List (ℕ × Msg)). picked number sends ++ sent_to number reading.left) (there (sent_of reading.given) at send is)
       ∙ ap (λ (msgs : List Msg). msgs ++ sent_to number reading.left) (picked_first number send (drop (at + 1) (sent_of reading.given)) goes)
 
-  pub passed : (send : ℕ × Msg) → Some send ≡ slice_get (sent_of reading.given) at → (send.0 ≡ number → ⊥) → left_to number at reading ≡ left_to number (at + 1) reading
+  pub passed : (send : ℕ × Msg) → Some send ≡ slice_get (sent_of reading.given) at → (send.0 ≡ number → ⊥)
+      → left_to number at reading ≡ left_to number (at + 1) reading
   passed send is other =
       ap (λ (sends : List (ℕ × Msg)). picked number sends ++ sent_to number reading.left) (there (sent_of reading.given) at send is)
       ∙ ap (λ (msgs : List Msg). msgs ++ sent_to number reading.left) (picked_passed number send (drop (at + 1) (sent_of reading.given)) other)
@@ -63,7 +68,8 @@ module _ (number at : ℕ) (reading : Reading) where
   pub stays_ended : None ≡ option_map entry_of (front reading.left) → left_to number at (after_next reading) ≡ []
   stays_ended none = go at reading.left none
     where
-      go : (at : ℕ) (left : List Logged) → None ≡ option_map entry_of (front left) → picked number (drop at (sent_of (front left))) ++ sent_to number (behind left) ≡ []
+      go : (at : ℕ) (left : List Logged) → None ≡ option_map entry_of (front left)
+          → picked number (drop at (sent_of (front left))) ++ sent_to number (behind left) ≡ []
       go zero [] none = refl
       go (suc at) [] none = refl
       go at (first ∷ rest) none = absurd (cc)

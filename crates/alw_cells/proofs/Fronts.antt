@@ -22,20 +22,25 @@ behind_both some took sent = (
 )
 
 -- what is left before an event is read, and after
-took_next : (number : ℕ) (before after : Reading) (entry : Entry) (taken : Option Msg) → Some entry ≡ option_map entry_of (front before.left) → after ≡ after_next before → taken ≡ taken_of after.given
+took_next : (number : ℕ) (before after : Reading) (entry : Entry) (taken : Option Msg) → Some entry ≡ option_map entry_of (front before.left)
+    → after ≡ after_next before → taken ≡ taken_of after.given
     → took_from number before.left ≡ took_by number entry.event taken ++ took_from number after.left
 took_next number before after entry taken entry_is after_is taken_is =
-    go before.left entry_is (taken_is ∙ ap (λ (r : Reading). taken_of r.given) after_is) ∙ ap (λ (r : Reading). took_by number entry.event taken ++ took_from number r.left) (sym after_is)
+    go before.left entry_is (taken_is ∙ ap (λ (r : Reading). taken_of r.given) after_is)
+    ∙ ap (λ (r : Reading). took_by number entry.event taken ++ took_from number r.left) (sym after_is)
   where
-    go : (left : List Logged) → Some entry ≡ option_map entry_of (front left) → taken ≡ taken_of (front left) → took_from number left ≡ took_by number entry.event taken ++ took_from number (behind left)
+    go : (left : List Logged) → Some entry ≡ option_map entry_of (front left) → taken ≡ taken_of (front left)
+        → took_from number left ≡ took_by number entry.event taken ++ took_from number (behind left)
     go [] none same = absurd (cc)
     go (first ∷ rest) is same =
         let first_is : entry ≡ first.entry = same_Some entry first.entry is in
         λ x. took_by number (sym first_is x).event (sym same x) ++ took_from number rest
 
 -- an event is read, and what it took is the next that was sent: what is left agrees where all agrees
-pub goes_on : (Whole : Type 0) (number : ℕ) (before after : Reading) (entry : Entry) (taken : Option Msg) (sent left : List Msg) → Whole ↔ IsFront (took_from number before.left) sent
-    → Some entry ≡ option_map entry_of (front before.left) → after ≡ after_next before → taken ≡ taken_of after.given → sent ≡ took_by number entry.event taken ++ left
+pub goes_on : (Whole : Type 0) (number : ℕ) (before after : Reading) (entry : Entry) (taken : Option Msg) (sent left : List Msg)
+    → Whole ↔ IsFront (took_from number before.left) sent
+    → Some entry ≡ option_map entry_of (front before.left) → after ≡ after_next before → taken ≡ taken_of after.given
+    → sent ≡ took_by number entry.event taken ++ left
     → Whole ↔ IsFront (took_from number after.left) left
 goes_on Whole number before after entry taken sent left so_far entry_is after_is taken_is sent_is =
     let own = took_by number entry.event taken in
@@ -45,14 +50,17 @@ goes_on Whole number before after entry taken sent left so_far entry_is after_is
     (λ whole. both.0 (subst (λ (P : Type 0). P) here (so_far.0 whole)), λ agrees. so_far.1 (subst (λ (P : Type 0). P) (sym here) (both.1 agrees)))
 
 -- or it isn't
-pub goes_wrong : (Whole : Type 0) (number : ℕ) (before after : Reading) (entry : Entry) (taken : Option Msg) (sent : List Msg) → Whole ↔ IsFront (took_from number before.left) sent
+pub goes_wrong : (Whole : Type 0) (number : ℕ) (before after : Reading) (entry : Entry) (taken : Option Msg) (sent : List Msg)
+    → Whole ↔ IsFront (took_from number before.left) sent
     → Some entry ≡ option_map entry_of (front before.left) → after ≡ after_next before → taken ≡ taken_of after.given
     → ((took : List Msg) → IsFront (took_by number entry.event taken ++ took) sent → ⊥) → Whole → ⊥
 goes_wrong Whole number before after entry taken sent so_far entry_is after_is taken_is other whole =
-    other (took_from number after.left) (subst (λ (xs : List Msg). IsFront xs sent) (took_next number before after entry taken entry_is after_is taken_is) (so_far.0 whole))
+    other (took_from number after.left) (subst (λ (xs : List Msg). IsFront xs sent) (took_next number before after entry taken entry_is after_is taken_is)
+    (so_far.0 whole))
 
 -- nothing is a front of anything
-pub nothing_front : (number : ℕ) (reading : Reading) (sent : List Msg) → None ≡ option_map entry_of (front reading.left) → IsFront (took_from number reading.left) sent
+pub nothing_front : (number : ℕ) (reading : Reading) (sent : List Msg) → None ≡ option_map entry_of (front reading.left)
+    → IsFront (took_from number reading.left) sent
 nothing_front number reading sent none = go reading.left none
   where
     go : (left : List Logged) → None ≡ option_map entry_of (front left) → IsFront (took_from number left) sent

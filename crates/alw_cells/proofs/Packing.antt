@@ -1,5 +1,6 @@
 -- What is written of a record is read back.
-use Rattle.std.proofs.Common.{◌≡◌, ℕ, zero, suc, ◌+◌, ◌≤◌, ◌<◌, ◌^◌, Bool, true, false, cond, Option, Some, None, IsTrue, IfSome, List, [], ◌∷◌, ◌++◌, length, drop, flat_map, refl, sym, subst, ap, ◌∙◌, append_assoc, append-nil, arith}
+use Rattle.std.proofs.Common.{◌≡◌, ℕ, zero, suc, ◌+◌, ◌≤◌, ◌<◌, ◌^◌, Bool, true, false, cond, Option, Some, None, IsTrue, IfSome, List, [], ◌∷◌, ◌++◌, length}
+use Rattle.std.proofs.Common.{drop, flat_map, refl, sym, subst, ap, ◌∙◌, append_assoc, append-nil, arith}
 use Rattle.std.specs.List.{AllByRecursion}
 use Rattle.std.proofs.lemmas.List.{length-append, drop-drop, drop_at}
 use Rattle.byteorder.specs.Numbers.{big_number-reads_back}
@@ -15,7 +16,8 @@ use Rattle.alw_msg.specs.Kinds.{has_body, kind_number}
 use Rattle.alw_msg.specs.Sending.{carried_body}
 use Rattle.alw_model.specs.Threads.{Logged, takes_rightly}
 use Rattle.alw_cells.specs.Layout.{word, half, body_bytes, taken_bytes, sent_bytes}
-use Rattle.alw_cells.specs.Records.{IsPlain, IsOfEvent, AreOfEvent, FitsLine, FitsMsg, FitsSend, word_in, half_in, kind_by, body_size, body_in, taken_msg, msg_size, sent_msg, sent_size, sends_in, behind_sends, HasSends}
+use Rattle.alw_cells.specs.Records.{IsPlain, IsOfEvent, AreOfEvent, FitsLine, FitsMsg, FitsSend, word_in, half_in, kind_by, body_size, body_in, taken_msg}
+use Rattle.alw_cells.specs.Records.{msg_size, sent_msg, sent_size, sends_in, behind_sends, HasSends}
 
 -- ---- numbers
 
@@ -58,7 +60,13 @@ unfolding body_in body_bytes word
 body_back kind body rest plain fits = go (has_body kind) plain
   where
     go : (b : Bool) → cond b body (record { a = 0; b = 0; c = 0; d = 0 }) ≡ body
-        → cond b (record { a = word_in (lined body rest b); b = word_in (drop 4 (lined body rest b)); c = word_in (drop 8 (lined body rest b)); d = word_in (drop 12 (lined body rest b)) }) (record { a = 0; b = 0; c = 0; d = 0 }) ≡ body
+        → cond b (record {
+          a = word_in (lined body rest b);
+          b = word_in (drop 4 (lined body rest b));
+          c = word_in (drop 8 (lined body rest b));
+          d =
+              word_in (drop 12 (lined body rest b));
+        }) (record { a = 0; b = 0; c = 0; d = 0 }) ≡ body
     go true plain = λ x. record {
       a = word_back body.a ((word body.b ++ (word body.c ++ word body.d)) ++ rest) fits.a x;
       b = word_back body.b ((word body.c ++ word body.d) ++ rest) fits.b x;
@@ -112,7 +120,8 @@ module _ (number stamp : ℕ) (send : ℕ × Msg) (rest : List ℕ) where
   sent_behind : drop (sent_size (sent_bytes send ++ rest)) (sent_bytes send ++ rest) ≡ rest
   sent_behind =
       ap (λ n. drop n (sent_bytes send ++ rest)) sent_size_is
-      ∙ (sym (drop-drop (body_size send.1.kind) 7 (sent_bytes send ++ rest)) ∙ (ap (drop (body_size send.1.kind)) sent_body ∙ drop_at its_body rest (body_size send.1.kind) (body_length send.1.kind send.1.body)))
+      ∙ (sym (drop-drop (body_size send.1.kind) 7 (sent_bytes send ++ rest))
+      ∙ (ap (drop (body_size send.1.kind)) sent_body ∙ drop_at its_body rest (body_size send.1.kind) (body_length send.1.kind send.1.body)))
 
   sent_fits : sent_size (sent_bytes send ++ rest) ≤ length (sent_bytes send ++ rest)
   sent_fits = omega (arith, sent_size_is, whole, half_length send.0, word_length send.1.line.0, body_length send.1.kind send.1.body)
@@ -127,14 +136,16 @@ pub record AreBack (number stamp : ℕ) (sent : List (ℕ × Msg)) (bytes rest :
   pub behind : behind_sends (length sent) bytes ≡ rest
   pub has : HasSends (length sent) bytes
 
-pub sends_back : (number stamp : ℕ) (sent : List (ℕ × Msg)) (rest : List ℕ) → AreOfEvent number stamp sent → AllByRecursion FitsSend sent → AreBack number stamp sent (flat_map sent_bytes sent ++ rest) rest
+pub sends_back : (number stamp : ℕ) (sent : List (ℕ × Msg)) (rest : List ℕ) → AreOfEvent number stamp sent → AllByRecursion FitsSend sent
+    → AreBack number stamp sent (flat_map sent_bytes sent ++ rest) rest
 sends_back number stamp [] rest are fit = record { read = refl; behind = refl; has = tt }
 sends_back number stamp (send ∷ sent) rest are fit =
     let more = flat_map sent_bytes sent ++ rest in
     let deeper = sends_back number stamp sent rest are.1 fit.1 in
     let gone = sent_behind number stamp send more in
     subst (λ (bytes : List ℕ). AreBack number stamp (send ∷ sent) bytes rest) (sym (append_assoc (sent_bytes send) (flat_map sent_bytes sent) rest)) (record {
-      read = (λ x. sent_back number stamp send more are.0 fit.0 x ∷ sends_in number stamp (length sent) (gone x)) ∙ ap (λ (sends : List (ℕ × Msg)). send ∷ sends) deeper.read;
+      read = (λ x. sent_back number stamp send more are.0 fit.0 x ∷ sends_in number stamp (length sent) (gone x))
+          ∙ ap (λ (sends : List (ℕ × Msg)). send ∷ sends) deeper.read;
       behind = ap (behind_sends (length sent)) gone ∙ deeper.behind;
       has = (sent_fits number stamp send more, subst (HasSends (length sent)) (sym gone) deeper.has);
     })

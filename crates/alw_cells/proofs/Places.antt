@@ -15,7 +15,8 @@ has_place zero i bytes few has = absurd (omega arith)
 has_place (suc n) zero bytes few has = has.0
 has_place (suc n) (suc i) bytes few has = has_place n i (drop (sent_size bytes) bytes) (omega arith) has.1
 
-pub at_place : (number stamp n i : ℕ) (bytes : List ℕ) → i < n → slice_get (sends_in number stamp n bytes) i ≡ Some (sent_msg number stamp (behind_sends i bytes))
+pub at_place : (number stamp n i : ℕ) (bytes : List ℕ) → i < n → slice_get (sends_in number stamp n bytes) i ≡ Some
+    (sent_msg number stamp (behind_sends i bytes))
 at_place number stamp zero i bytes few = absurd (omega arith)
 at_place number stamp (suc n) zero bytes few = refl
 at_place number stamp (suc n) (suc i) bytes few = at_place number stamp n i (drop (sent_size bytes) bytes) (omega arith)

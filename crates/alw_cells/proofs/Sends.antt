@@ -70,7 +70,8 @@ module _ (parts : Parts) (parameters : Parameters) (n stamp : ℕ) where
     delivery_so None = tt
     delivery_so (Some msg) = message_so msg (content msg)
 
-    packet_so : (rest : List Msg) (packet : Msg) (said : Content) → AreOfEvent n stamp (handle_by parts parameters n stamp (record node { packets = rest }) packet said).sends
+    packet_so : (rest : List Msg) (packet : Msg) (said : Content) → AreOfEvent n stamp
+        (handle_by parts parameters n stamp (record node { packets = rest }) packet said).sends
     packet_so rest packet (ForCache said) = tt
     packet_so rest packet (ForMemory said) = told_so packet.line.0 (handle (home_at parts (record node { packets = rest }) packet.line.0) packet.src.0 said).1
 
@@ -84,5 +85,6 @@ module _ (parts : Parts) (parameters : Parameters) (n stamp : ℕ) where
     event_so (Deliver from to) taken = delivery_so taken
     event_so (Evict at set) taken = asked_so (evict node.cache set).1
 
-pub step_so : (parts : Parts) (parameters : Parameters) (n : ℕ) (node : NodeState) (event : Event) (taken : Option Msg) → AreOfEvent n (stamp_of node.clock taken) (node_step parts parameters n node event taken).sends
+pub step_so : (parts : Parts) (parameters : Parameters) (n : ℕ) (node : NodeState) (event : Event) (taken : Option Msg)
+    → AreOfEvent n (stamp_of node.clock taken) (node_step parts parameters n node event taken).sends
 step_so parts parameters n node event taken = event_so parts parameters n (stamp_of node.clock taken) node event taken

@@ -1,5 +1,6 @@
 -- Records are read back, one behind the other.
-use Rattle.std.proofs.Common.{◌≡◌, ℕ, zero, suc, ◌+◌, ◌≤◌, ◌<◌, ◌^◌, true, false, Option, Some, None, IsTrue, IfSome, List, [], ◌∷◌, ◌++◌, length, drop, flat_map, refl, sym, subst, ap, ◌∙◌, append_assoc, append-nil, arith}
+use Rattle.std.proofs.Common.{◌≡◌, ℕ, zero, suc, ◌+◌, ◌≤◌, ◌<◌, ◌^◌, true, false, Option, Some, None, IsTrue, IfSome, List, [], ◌∷◌, ◌++◌, length, drop}
+use Rattle.std.proofs.Common.{flat_map, refl, sym, subst, ap, ◌∙◌, append_assoc, append-nil, arith}
 use Rattle.std.specs.List.{AllByRecursion}
 use Rattle.std.proofs.lemmas.Bool.{true≢false}
 use Rattle.std.proofs.lemmas.List.{length-append, drop-drop, drop_at}
@@ -11,7 +12,9 @@ use Rattle.alw_msg.specs.declared.events.Entry.{Entry}
 use Rattle.alw_msg.specs.Events.{node_of}
 use Rattle.alw_model.specs.Threads.{Logged, takes_rightly}
 use Rattle.alw_cells.specs.Layout.{word, half, tag_of, argument_of, taken_bytes, sent_bytes, front_bytes, back_bytes, record_bytes, log_bytes}
-use Rattle.alw_cells.specs.Records.{IsPlain, IsRecord, FitsMsg, FitsEvent, FitsRecord, AreRecords, word_in, half_in, event_by, event_in, sends_in, behind_sends, HasSends, taken_in, taken_size, record_in, sends_at, behind_record, HasRecord, with_sends, records_in, HasRecords, AreBelow, Ascends, ArePacked}
+use Rattle.alw_cells.specs.Records.{IsPlain, IsRecord, FitsMsg, FitsEvent, FitsRecord, AreRecords, word_in, half_in, event_by, event_in, sends_in}
+use Rattle.alw_cells.specs.Records.{behind_sends, HasSends, taken_in, taken_size, record_in, sends_at, behind_record, HasRecord, with_sends, records_in}
+use Rattle.alw_cells.specs.Records.{HasRecords, AreBelow, Ascends, ArePacked}
 use Rattle.alw_cells.specs.declared.records.Record.{Record}
 use Rattle.alw_cells.proofs.Packing.{word_back, half_back, word_length, half_length, taken_back, msg_size_is, taken_length, sends_back}
 
@@ -33,7 +36,8 @@ stamp_back : (entry : Entry) (behind : List ℕ) → entry.stamp < 2 ^ 32 → wo
 unfolding front_bytes word
 stamp_back entry behind fits = word_back entry.stamp ((tag_of entry.event ∷ word (argument_of entry.event)) ++ behind) fits
 
-event_back : (number stamp : ℕ) (event : Event) (behind : List ℕ) → node_of event ≡ number → FitsEvent event → event_in number (whole (record { stamp = stamp; event = event }) behind) ≡ event
+event_back : (number stamp : ℕ) (event : Event) (behind : List ℕ) → node_of event ≡ number → FitsEvent event
+    → event_in number (whole (record { stamp = stamp; event = event }) behind) ≡ event
 unfolding event_in event_by front_bytes word half
 event_back number stamp (Instr node) behind is fits = λ x. Instr (record { 0 = sym is x })
 event_back number stamp (Deliver from to) behind is fits = λ x. Deliver (record { 0 = half_back from.0 behind fits.0 x }) (record { 0 = sym is x })
@@ -75,7 +79,8 @@ back_is : (sent : List (ℕ × Msg)) (rest : List ℕ) → back_bytes sent ++ re
 unfolding back_bytes
 back_is sent rest = append_assoc (half (length sent)) (flat_map sent_bytes sent) rest
 
-record_back : (number : ℕ) (logged : Logged) (rest : List ℕ) → IsRecord number logged → FitsRecord logged → IsBack number logged (record_bytes logged ++ rest) rest
+record_back : (number : ℕ) (logged : Logged) (rest : List ℕ) → IsRecord number logged → FitsRecord logged
+    → IsBack number logged (record_bytes logged ++ rest) rest
 unfolding record_in sends_at record_bytes
 record_back number logged rest is fits =
     let sends = flat_map sent_bytes logged.sent in
@@ -86,12 +91,18 @@ record_back number logged rest is fits =
     sym (drop-drop (taken_size bytes) 9 bytes) ∙ (ap (drop (taken_size bytes)) (whole_tail logged.entry behind)
     ∙ (drop_at (taken_bytes logged.taken) (back_bytes logged.sent ++ rest) (taken_size bytes) (sym taken.size) ∙ back_is logged.sent rest)) in
     let last : drop (11 + taken_size bytes) bytes ≡ sends ++ rest =
-    ap (λ n. drop n bytes) (omega arith) ∙ (sym (drop-drop 2 (9 + taken_size bytes) bytes) ∙ (ap (drop 2) tail ∙ drop_at (half (length logged.sent)) (sends ++ rest) 2 (half_length (length logged.sent)))) in
+    ap (λ n. drop n bytes) (omega arith) ∙ (sym (drop-drop 2 (9 + taken_size bytes) bytes)
+    ∙ (ap (drop 2) tail ∙ drop_at (half (length logged.sent)) (sends ++ rest) 2 (half_length (length logged.sent)))) in
     let place : record_bytes logged ++ rest ≡ bytes =
-    append_assoc (front_bytes logged.entry) (taken_bytes logged.taken ++ back_bytes logged.sent) rest ∙ ap (λ (xs : List ℕ). front_bytes logged.entry ++ xs) (append_assoc (taken_bytes logged.taken) (back_bytes logged.sent) rest) in
+    append_assoc (front_bytes logged.entry) (taken_bytes logged.taken ++ back_bytes logged.sent) rest
+    ∙ ap (λ (xs : List ℕ). front_bytes logged.entry ++ xs) (append_assoc (taken_bytes logged.taken) (back_bytes logged.sent) rest) in
     subst (λ (xs : List ℕ). IsBack number logged xs rest) (sym place) (record {
       head = λ x. record {
-        entry = record { stamp = stamp_back logged.entry behind fits.stamp x; event = event_back number logged.entry.stamp logged.entry.event behind is.node fits.event x };
+        entry = record {
+          stamp = stamp_back logged.entry behind fits.stamp x;
+          event =
+              event_back number logged.entry.stamp logged.entry.event behind is.node fits.event x;
+        };
         taken = taken.read x;
         sends = (ap half_in tail ∙ half_back (length logged.sent) (sends ++ rest) is.few) x;
       };
@@ -124,9 +135,11 @@ records_back number (logged ∷ log) rest are =
     let one = record_back number logged more are.0.0 are.0.1 in
     let sends = sends_back number logged.entry.stamp logged.sent more are.0.0.sent are.0.1.sent in
     let given : with_sends number (record_in number bytes) (sends_at bytes) ≡ logged =
-    (λ x. with_sends number (one.head x) (one.sends x)) ∙ ap (λ (sent : List (ℕ × Msg)). record { entry = logged.entry; taken = logged.taken; sent = sent }) sends.read in
+    (λ x. with_sends number (one.head x) (one.sends x)) ∙ ap (λ (sent : List (ℕ × Msg)). record { entry = logged.entry; taken = logged.taken; sent = sent })
+    sends.read in
     let gone : behind_record number bytes ≡ more = (λ x. behind_sends (one.head x).sends (one.sends x)) ∙ sends.behind in
-    let has : HasSends (record_in number bytes).sends (sends_at bytes) = subst (λ (P : Type 0). P) (λ x. HasSends (sym one.head x).sends (sym one.sends x)) sends.has in
+    let has : HasSends (record_in number bytes).sends (sends_at bytes) =
+    subst (λ (P : Type 0). P) (λ x. HasSends (sym one.head x).sends (sym one.sends x)) sends.has in
     subst (λ (xs : List ℕ). AreBackAll number (logged ∷ log) xs) (sym (append_assoc (record_bytes logged) (log_bytes log) rest)) (record {
       read = (λ x. given x ∷ records_in number (length log) (gone x)) ∙ ap (λ (logs : List Logged). logged ∷ logs) deeper.read;
       has = (record { front = one.front; sends = has }, subst (HasRecords number (length log)) (sym gone) deeper.has);
@@ -142,11 +155,13 @@ pub log_push : (log : List Logged) (logged : Logged) → log_bytes (log ++ logge
 unfolding log_bytes
 log_push log logged = flat_map-append record_bytes log (logged ∷ []) ∙ ap (λ (xs : List ℕ). log_bytes log ++ xs) (append-nil (record_bytes logged))
 
-pub all_push : (number : ℕ) (log : List Logged) (logged : Logged) → AreRecords number log → IsRecord number logged × FitsRecord logged → AreRecords number (log ++ logged ∷ [])
+pub all_push : (number : ℕ) (log : List Logged) (logged : Logged) → AreRecords number log → IsRecord number logged × FitsRecord logged
+    → AreRecords number (log ++ logged ∷ [])
 all_push number [] logged are is = (is, tt)
 all_push number (first ∷ log) logged are is = (are.0, all_push number log logged are.1 is)
 
-module _ (number events : ℕ) (bytes : List ℕ) (packed : bytes ≡ log_bytes (records_in number events bytes)) (are : AreRecords number (records_in number events bytes)) where
+module _ (number events : ℕ) (bytes : List ℕ) (packed : bytes ≡ log_bytes (records_in number events bytes))
+    (are : AreRecords number (records_in number events bytes)) where
   -- all of it can be read
   pub readable : HasRecords number events bytes
   readable =
@@ -155,7 +170,8 @@ module _ (number events : ℕ) (bytes : List ℕ) (packed : bytes ≡ log_bytes 
       subst (λ (P : Type 0). P) (λ x. HasRecords number (length_read number events bytes x) ((append-nil (log_bytes log) ∙ sym packed) x)) back.has
 
   -- one record more
-  pub read_more : (logged : Logged) (after : List ℕ) → IsRecord number logged → FitsRecord logged → after ≡ bytes ++ record_bytes logged → records_in number (events + 1) after ≡ records_in number events bytes ++ logged ∷ []
+  pub read_more : (logged : Logged) (after : List ℕ) → IsRecord number logged → FitsRecord logged → after ≡ bytes ++ record_bytes logged
+      → records_in number (events + 1) after ≡ records_in number events bytes ++ logged ∷ []
   read_more logged after is fits grown =
       let log = records_in number events bytes in
       let longer = log ++ logged ∷ [] in
@@ -171,7 +187,8 @@ ascends_push : (log : List Logged) (logged : Logged) → Ascends log → AreBelo
 ascends_push [] logged ascends below = (tt, tt)
 ascends_push (first ∷ log) logged ascends below = (push log ascends.0, ascends_push log logged ascends.1 below.1)
   where
-    push : (rest : List Logged) → AllByRecursion (λ (later : Logged). first.entry.stamp < later.entry.stamp) rest → AllByRecursion (λ (later : Logged). first.entry.stamp < later.entry.stamp) (rest ++ logged ∷ [])
+    push : (rest : List Logged) → AllByRecursion (λ (later : Logged). first.entry.stamp < later.entry.stamp) rest
+        → AllByRecursion (λ (later : Logged). first.entry.stamp < later.entry.stamp) (rest ++ logged ∷ [])
     push [] all = (below.0, tt)
     push (later ∷ rest) all = (all.0, push rest all.1)
 
@@ -179,14 +196,17 @@ pub packed_start : (number : ℕ) (bytes : List ℕ) (capacity : ℕ) → bytes 
 unfolding log_bytes
 packed_start number bytes capacity none = record { packed = none; records = tt; ascends = tt; few = omega arith; place = omega (arith, ap length none) }
 
-pub put_all : (logged : Logged) (before front taken back : List ℕ) → front ≡ before ++ front_bytes logged.entry → taken ≡ front ++ taken_bytes logged.taken → back ≡ taken ++ back_bytes logged.sent
+pub put_all : (logged : Logged) (before front taken back : List ℕ) → front ≡ before ++ front_bytes logged.entry → taken ≡ front ++ taken_bytes logged.taken
+    → back ≡ taken ++ back_bytes logged.sent
     → back ≡ before ++ record_bytes logged
 unfolding record_bytes
 put_all logged before front taken back front_is taken_is back_is =
     back_is ∙ (ap (λ (xs : List ℕ). xs ++ back_bytes logged.sent) (taken_is ∙ ap (λ (xs : List ℕ). xs ++ taken_bytes logged.taken) front_is)
-    ∙ (append_assoc (before ++ front_bytes logged.entry) (taken_bytes logged.taken) (back_bytes logged.sent) ∙ append_assoc before (front_bytes logged.entry) (taken_bytes logged.taken ++ back_bytes logged.sent)))
+    ∙ (append_assoc (before ++ front_bytes logged.entry) (taken_bytes logged.taken) (back_bytes logged.sent)
+    ∙ append_assoc before (front_bytes logged.entry) (taken_bytes logged.taken ++ back_bytes logged.sent)))
 
-pub packed_more : (number events : ℕ) (bytes after : List ℕ) (room capacity grown : ℕ) (logged : Logged) → ArePacked number events bytes room capacity → IsRecord number logged → FitsRecord logged → after ≡ bytes ++ record_bytes logged
+pub packed_more : (number events : ℕ) (bytes after : List ℕ) (room capacity grown : ℕ) (logged : Logged) → ArePacked number events bytes room capacity
+    → IsRecord number logged → FitsRecord logged → after ≡ bytes ++ record_bytes logged
     → AreBelow logged.entry.stamp (records_in number events bytes) → 1 ≤ room → length after ≤ grown → ArePacked number (events + 1) after 0 grown
 packed_more number events bytes after room capacity grown logged are is fits put below some place =
     let read = read_more number events bytes are.packed are.records logged after is fits put in

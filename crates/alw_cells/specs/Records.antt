@@ -1,5 +1,6 @@
 -- A log read off its bytes, and what makes them readable: a record's event is of the log's node, and so are the messages sent, with the event's stamp.
-use Rattle.std.specs.Prelude.{◌≡◌, ℕ, zero, suc, ◌+◌, ◌*◌, ◌≤◌, ◌<◌, ◌^◌, ◌==◌, min, Option, Some, None, List, [], ◌∷◌, length, drop, slice_index, cond, IsTrue, IfSome}
+use Rattle.std.specs.Prelude.{◌≡◌, ℕ, zero, suc, ◌+◌, ◌*◌, ◌≤◌, ◌<◌, ◌^◌, ◌==◌, min, Option, Some, None, List, [], ◌∷◌, length, drop, slice_index, cond}
+use Rattle.std.specs.Prelude.{IsTrue, IfSome}
 use Rattle.std.specs.List.{AllByRecursion}
 use Rattle.byteorder.specs.Endian.{big_number}
 use Rattle.alw_num.specs.declared.addresses.Line.{Line}
@@ -111,7 +112,14 @@ body_in kind bytes = carried_body kind (record { a = word_in bytes; b = word_in 
 unfoldable pub taken_msg : List ℕ → Msg
 taken_msg bytes =
     let kind = kind_by (slice_index bytes 0) in
-    record { kind = kind; line = record { 0 = word_in (drop 1 bytes) }; src = record { 0 = half_in (drop 5 bytes) }; stamp = word_in (drop 7 bytes); body = body_in kind (drop 11 bytes) }
+    record {
+      kind = kind;
+      line = record { 0 = word_in (drop 1 bytes) };
+      src = record { 0 = half_in (drop 5 bytes) };
+      stamp = word_in (drop 7 bytes);
+      body =
+          body_in kind (drop 11 bytes);
+    }
 
 unfoldable pub msg_size : List ℕ → ℕ
 msg_size bytes = 11 + body_size (kind_by (slice_index bytes 0))
@@ -119,8 +127,17 @@ msg_size bytes = 11 + body_size (kind_by (slice_index bytes 0))
 -- a message that was sent, in how many bytes
 unfoldable pub sent_msg : ℕ → ℕ → List ℕ → ℕ × Msg
 sent_msg number stamp bytes =
-    let kind = kind_by (slice_index bytes 2) in
-    (half_in bytes, record { kind = kind; line = record { 0 = word_in (drop 3 bytes) }; src = record { 0 = number }; stamp = stamp; body = body_in kind (drop 7 bytes) })
+    let kind = kind_by (slice_index bytes 2) in (
+      half_in bytes,
+      record {
+        kind = kind;
+        line = record { 0 = word_in (drop 3 bytes) };
+        src = record { 0 = number };
+        stamp = stamp;
+        body =
+            body_in kind (drop 7 bytes);
+      },
+    )
 
 unfoldable pub sent_size : List ℕ → ℕ
 sent_size bytes = 7 + body_size (kind_by (slice_index bytes 2))

@@ -1,5 +1,6 @@
 -- Logs that are read side by side: what is left of each, and the heads, which are the next entries of all.
-use Rattle.std.specs.Prelude.{◌≡◌, ℕ, suc, ◌≤◌, ◌<◌, ◌+◌, ◌^◌, ◌==◌, ◌&&◌, ◌||◌, nat_lt, Bool, Option, Some, None, option_to_list, List, [], ◌∷◌, ◌++◌, map, flat_map, length}
+use Rattle.std.specs.Prelude.{◌≡◌, ℕ, suc, ◌≤◌, ◌<◌, ◌+◌, ◌^◌, ◌==◌, ◌&&◌, ◌||◌, nat_lt, Bool, Option, Some, None, option_to_list, List, [], ◌∷◌, ◌++◌, map}
+use Rattle.std.specs.Prelude.{flat_map, length}
 use Rattle.std.specs.List.{AllByRecursion, sum_by}
 use Rattle.std.specs.BinaryHeap.{IsHeap}
 use Rattle.std.specs.Ordering.{nat_cmp, ordering_then}
@@ -36,7 +37,8 @@ heads_from log (reading ∷ rest) = head_in log reading.given ++ heads_from (suc
 
 -- a head comes before another: by stamp, by node, and by place
 abbrev pub head_before : Head → Head → Bool
-head_before one other = nat_lt one.stamp other.stamp || (one.stamp == other.stamp && (nat_lt one.node other.node || (one.node == other.node && nat_lt one.log other.log)))
+head_before one other = nat_lt one.stamp other.stamp || (one.stamp == other.stamp &&
+    (nat_lt one.node other.node || (one.node == other.node && nat_lt one.log other.log)))
 
 -- a log is at its end where it has no head, and its stamps ascend
 pub record IsRead (reading : Reading) : Type 0 where

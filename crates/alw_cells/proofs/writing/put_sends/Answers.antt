@@ -19,7 +19,8 @@ put_sent-requires c = omega (arith, c.requires.room, c.loop-i.invariant.len, c.l
 
 pub loop-i-preserved : goal.loop-i-preserved
 loop-i-preserved c = record {
-  items = packed _ _ _ (half (length c.args.sent.now.messages)) c.args.sent.now.messages c.loop-i.i (c.at.result.0.0, c.at.result.1) c.loop-i.invariant.items c.at.ensures c.put_sent.ensures.items;
+  items = packed _ _ _ (half (length c.args.sent.now.messages)) c.args.sent.now.messages c.loop-i.i
+      (c.at.result.0.0, c.at.result.1) c.loop-i.invariant.items c.at.ensures c.put_sent.ensures.items;
   len = omega (arith, c.loop-i.invariant.len, c.put_sent.ensures.len);
   room = omega (arith, c.loop-i.invariant.room, c.put_sent.ensures.room);
   fits = more_fit c.args.sent.now.messages c.loop-i.i (c.at.result.0.0, c.at.result.1) c.at.ensures c.loop-i.invariant.fits c.put_sent.ensures.fits;
@@ -29,4 +30,5 @@ pub returns-clause-items : goal.returns-clause-items
 returns-clause-items c = whole _ _ c.args.sent.now.messages c.loop-i.i (omega (arith, c.loop-i-test.false, c.len-i-end.ensures)) c.loop-i.invariant.items
 
 pub returns-clause-fits : goal.returns-clause-fits
-returns-clause-fits c = subst (λ sends. AllByRecursion FitsSend sends) (take_all c.loop-i.i c.args.sent.now.messages (omega (arith, c.loop-i-test.false, c.len-i-end.ensures))) c.loop-i.invariant.fits
+returns-clause-fits c = subst (λ sends. AllByRecursion FitsSend sends)
+    (take_all c.loop-i.i c.args.sent.now.messages (omega (arith, c.loop-i-test.false, c.len-i-end.ensures))) c.loop-i.invariant.fits

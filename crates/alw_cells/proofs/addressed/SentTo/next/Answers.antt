@@ -24,7 +24,8 @@ loop-receiver-smaller-else-from-self c =
 pub loop-receiver-preserved-else-from-self : goal.loop-receiver-preserved-else-from-self
 loop-receiver-preserved-else-from-self c =
     let inside = c.loop-receiver.self-inside in
-    let one = passed inside.to inside.at inside.reading (c.in-Some.receiver.0, c.in-Some.msg) c.in-Some.ensures.sent (λ same. c.if-from-self.false (c.from.ensures ∙ same)) in
+    let one = passed inside.to inside.at inside.reading (c.in-Some.receiver.0, c.in-Some.msg) c.in-Some.ensures.sent
+    (λ same. c.if-from-self.false (c.from.ensures ∙ same)) in
     sym one ∙ c.loop-receiver.invariant
 
 pub returns-in_err-next-clause-message : goal.returns-in_err-next-clause-message
@@ -37,9 +38,11 @@ pub returns-in_err-next-clause-left : goal.returns-in_err-next-clause-left
 returns-in_err-next-clause-left c =
     let inside = c.loop-receiver.self-inside in
     let none = ended inside.to inside.at inside.reading c.in_default.ensures.sent c.in_err-next.ensures.entry in
-    ap (left_to inside.to inside.at) c.in_err-next.ensures.reading ∙ (stays_ended inside.to inside.at inside.reading c.in_err-next.ensures.entry ∙ ap behind (sym none ∙ c.loop-receiver.invariant))
+    ap (left_to inside.to inside.at) c.in_err-next.ensures.reading ∙ (stays_ended inside.to inside.at inside.reading c.in_err-next.ensures.entry
+    ∙ ap behind (sym none ∙ c.loop-receiver.invariant))
 
 pub loop-receiver-preserved : goal.loop-receiver-preserved
 loop-receiver-preserved c =
     let inside = c.loop-receiver.self-inside in
-    ap (left_to inside.to 0) c.in_ok-next.ensures.reading ∙ (sym (past inside.to inside.at inside.reading c.in_default.ensures.sent) ∙ c.loop-receiver.invariant)
+    ap (left_to inside.to 0) c.in_ok-next.ensures.reading ∙ (sym (past inside.to inside.at inside.reading c.in_default.ensures.sent)
+    ∙ c.loop-receiver.invariant)

@@ -15,13 +15,18 @@ loop-at-preserved c =
     let log = c.at_ref.result.now in
     let reading : c.next.new.self ≡ after_next (reading_of log.entries) = c.next.ensures.reading ∙ ap after_next c.cursor-reading.ensures.reading in
     let entry = c.next.ensures.entry ∙ ap (λ (r : Reading). option_map entry_of (front r.left)) c.cursor-reading.ensures.reading in
-    let joins = subst (λ n. Joins (heap_items c.loop-at.heads) (heads_of n c.next.result) (heap_items c.add.new.heads)) (sym so_far.place) c.in_ok-add.ensures.joins in
+    let joins = subst (λ n. Joins (heap_items c.loop-at.heads) (heads_of n c.next.result) (heap_items c.add.new.heads))
+    (sym so_far.place) c.in_ok-add.ensures.joins in
     let grown = length_push readings c.next.new.self in
     record {
-      under = subst (λ items. IsUnderWay items (heap_items c.add.new.heads) (heap_len c.add.new.heads) (heap_capacity c.add.new.heads)) (sym c.push_reserved.ensures.items)
-          (one_more readings (heap_items c.loop-at.heads) (heap_items c.add.new.heads) _ _ _ _ log.entries c.next.new.self c.next.result so_far.under c.cursor-reading.ensures.ascends reading entry joins c.in_ok-add.ensures.len
-          (omega (arith, so_far.place, so_far.heads, c.loop-at-test.true, c.in_ok-add.ensures.capacity)) (omega (arith, so_far.place, c.loop-at-test.true, c.len-count.type_inv)));
-      lefts = ap (map left_of) c.push_reserved.ensures.items ∙ lefts_more readings c.args.logs.now c.loop-at.at log c.next.new.self so_far.lefts c.at_ref.ensures reading;
+      under = subst (λ items. IsUnderWay items (heap_items c.add.new.heads) (heap_len c.add.new.heads) (heap_capacity c.add.new.heads))
+          (sym c.push_reserved.ensures.items)
+          (one_more readings (heap_items c.loop-at.heads) (heap_items c.add.new.heads) _ _ _ _ log.entries c.next.new.self c.next.result so_far.under
+          c.cursor-reading.ensures.ascends reading entry joins c.in_ok-add.ensures.len
+          (omega (arith, so_far.place, so_far.heads, c.loop-at-test.true, c.in_ok-add.ensures.capacity))
+          (omega (arith, so_far.place, c.loop-at-test.true, c.len-count.type_inv)));
+      lefts = ap (map left_of) c.push_reserved.ensures.items ∙ lefts_more readings c.args.logs.now c.loop-at.at log c.next.new.self so_far.lefts
+          c.at_ref.ensures reading;
       place = ap length c.push_reserved.ensures.items ∙ omega (arith, grown, so_far.place);
       room = omega (arith, so_far.room, c.push_reserved.ensures.capacity);
       heads = omega (arith, so_far.heads, c.in_ok-add.ensures.capacity);
