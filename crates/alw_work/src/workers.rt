@@ -12,8 +12,11 @@ use std::sync::{Mutex, Wait};
 use std::thread;
 use std::thread::Threads;
 
-// A worker ends after so many idle steps in a row.
+// A worker ends after so many visits in a row at nodes that were idle.
 const MOST_IDLE: u32 = 1024;
+
+// The most turns that a worker takes at a node before it gives the node back.
+const MOST_TURNS: u32 = 64;
 
 /// Steps so many nodes on so many threads, until each worker has ended. Where a thread can't be made its
 /// worker works when the others have ended.
@@ -47,8 +50,8 @@ pub fn work<I: Naming + Counting + Send + Sync, R: Threads + Wait + Sync, G: Gat
     Ok(())
 }
 
-// Worker number k. It takes a node that no worker has, takes a turn at it with a pick of its own draws, and
-// gives it back. It ends after enough idle steps in a row, where no node is left to it, after a trap, and
+// Worker number k. It takes a node that no worker has, takes turns at it with picks of its own draws, and
+// gives it back. It ends after enough visits in a row at idle nodes, where no node is left to it, after a trap, and
 // where memory is refused.
 fn worker<I: Naming + Counting, R: Wait, G: Gate>(
     rt: &R,
@@ -76,14 +79,43 @@ fn worker<I: Naming + Counting, R: Wait, G: Gate>(
         let Some(lock) = locks.get(usize::from(node.0)) else {
             return Ok(());
         };
-        gate.pass(k, u32::from(node.0));
-        match turn(rt, lock, links, signs, draws.draw())? {
-            Stepped::Did { .. } => idle = 0,
-            Stepped::Idle => idle += 1,
+        let place = (k, u32::from(node.0));
+        if visit(rt, lock, links, signs, gate, place, &mut draws)? {
+            idle = 0;
+        } else {
+            idle += 1;
         }
         ready.give(rt, &mut pass);
     }
     Ok(())
+}
+
+// Turns of a worker at a node, one after the other: until one is idle, or there were enough of them, or all
+// are to stop. Answers whether the node did anything.
+fn visit<I: Naming, R: Wait, G: Gate>(
+    rt: &R,
+    lock: &Mutex<Locked<I>>,
+    links: &[Link],
+    signs: &Signs,
+    gate: &G,
+    place: (u32, u32),
+    draws: &mut Draws,
+) -> Result<bool, NoMemory>
+    requires { links.now ≡ I.links }
+{
+    let (worker, node) = place;
+    let mut has_acted = false;
+    for _ in 0..MOST_TURNS {
+        gate.pass(worker, node);
+        match turn(rt, lock, links, signs, draws.draw())? {
+            Stepped::Did { .. } => has_acted = true,
+            Stepped::Idle => return Ok(has_acted),
+        }
+        if signs.has_stopped() {
+            return Ok(has_acted);
+        }
+    }
+    Ok(has_acted)
 }
 
 // One turn at a node. A trapping turn and want of memory stop all workers.
