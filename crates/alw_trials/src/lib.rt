@@ -12,6 +12,8 @@ mod claims;
 #[cfg(test)]
 mod images;
 #[cfg(test)]
+mod joins;
+#[cfg(test)]
 mod machines;
 #[cfg(test)]
 mod merges;

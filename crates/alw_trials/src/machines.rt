@@ -20,7 +20,7 @@ fn link_to_itself(rt: HostRuntime) -> Result<(), Fail> {
 // One node stores, loads and prints; the other stores.
 const STORES: &str = "03100000 d2204000 d0004000 91d02001 91d02000 03100000 d0204000 91d02000";
 
-const TWO_WRITERS: Play = Play {
+pub const TWO_WRITERS: Play = Play {
     sizes: "2 1 1 4 256 32768",
     code: STORES,
     starts: "0 0 0, 1 0 20",
