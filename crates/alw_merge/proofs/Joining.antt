@@ -1,7 +1,7 @@
 -- What workers leave is what the merge of their logs leaves and tells.
 use Rattle.std.proofs.Common.{◌≡◌, ℕ, zero, suc, ◌+◌, ◌*◌, ◌-◌, ◌<◌, ◌≤◌, is_some, Some, List, [], ◌∷◌, ◌++◌, take, length, map, get_or, slice_get, refl, sym, ap, subst, ◌∙◌, arith}
 use Rattle.std.proofs.lemmas.List.{length-map, take_more, ext_get_or}
-use Rattle.std.proofs.lemmas.Option.{same_Some, get_or_from_slice_get}
+use Rattle.std.proofs.lemmas.Option.{get_or_from_slice_get}
 use Rattle.alw_num.specs.Weights.{digit, weigh}
 use Rattle.alw_num.proofs.Weigh.{weigh_push}
 use Rattle.alw_msg.specs.declared.messages.Msg.{Msg}
@@ -31,7 +31,7 @@ use Rattle.alw_cells.specs.declared.parts.Worked.{Worked}
 use Rattle.alw_cells.specs.Cells.{dids_of}
 use Rattle.alw_cells.specs.Leaving.{whole_after, IsWorked}
 use Rattle.alw_cells.specs.Logs.{Written, logged}
-use Rattle.alw_merge.specs.Joins.{holds_at, Course, no_course, course_at, courses_of, AreOf, unheld}
+use Rattle.alw_merge.specs.Joins.{holds_at, course_at, courses_of, AreOf, unheld}
 use Rattle.alw_merge.proofs.Courses.{dids_are}
 
 -- ---- courses
@@ -46,6 +46,9 @@ courses_counted logs dids same =
     let long = length-map logs (λ (log : Written). log.entries) in
     courses_long (logged logs) dids (same ∙ sym long) ∙ long
 
+pub lists_same : (logs : List Written) (dids : List (List Did)) → length dids ≡ length logs → length dids ≡ length (logged logs)
+lists_same logs dids same = same ∙ sym (length-map logs (λ (log : Written). log.entries))
+
 pub courses_read : (logs : List (List Logged)) (dids : List (List Did)) (n : ℕ) → length dids ≡ length logs
     → course_at (courses_of logs dids) n ≡ record { left = log_at logs n; dids = get_or dids n [] }
 courses_read [] [] zero same = refl
@@ -54,24 +57,6 @@ courses_read [] (some ∷ dids) n same = absurd (omega arith)
 courses_read (log ∷ logs) [] n same = absurd (omega arith)
 courses_read (log ∷ logs) (some ∷ dids) zero same = refl
 courses_read (log ∷ logs) (some ∷ dids) (suc n) same = courses_read logs dids n (omega arith)
-
--- a course by its place
-pub course_there : (logs : List Written) (dids : List (List Did)) (n : ℕ) (log : Written) (some : List Did) → slice_get logs n ≡ Some log → slice_get dids n ≡ Some some
-    → slice_get (courses_of (logged logs) dids) n ≡ Some (record { left = log.entries; dids = some })
-course_there [] dids n log some is also = absurd (cc)
-course_there (first ∷ logs) [] n log some is also = absurd (cc)
-course_there (first ∷ logs) (one ∷ dids) zero log some is also = λ x. Some (record { left = (same_Some first log is x).entries; dids = same_Some one some also x })
-course_there (first ∷ logs) (one ∷ dids) (suc n) log some is also = course_there logs dids n log some is also
-
--- the readers of the first so many logs, and of one more
-pub course_more : (logs : List Written) (dids : List (List Did)) (n : ℕ) (log : Written) (some : List Did) → n < length logs → length dids ≡ length logs → slice_get logs n ≡ Some log
-    → slice_get dids n ≡ Some some → (readers : List Course) → readers ≡ take n (courses_of (logged logs) dids)
-    → readers ++ record { left = log.entries; dids = some } ∷ [] ≡ take (n + 1) (courses_of (logged logs) dids)
-course_more logs dids n log some here same is also readers so_far =
-    let all = courses_of (logged logs) dids in
-    let there = get_or_from_slice_get all n _ no_course (course_there logs dids n log some is also) in
-    ap (λ (first : List Course). first ++ record { left = log.entries; dids = some } ∷ []) so_far
-    ∙ sym (take_more all n no_course (omega (arith, here, courses_counted logs dids same)) ∙ ap (λ (course : Course). take n all ++ course ∷ []) there)
 
 -- ---- holds
 

@@ -2,6 +2,7 @@ pub mod Fronts
 pub mod Kept
 pub mod Whole
 pub mod Merging
+pub mod Stepping
 pub mod Courses
 pub mod Walking
 pub mod Joining

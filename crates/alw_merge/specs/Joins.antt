@@ -1,5 +1,5 @@
 -- What workers leave, as it is read in the order of the merge.
-use Rattle.std.specs.Prelude.{◌≡◌, ℕ, ◌<◌, ◌≤◌, false, None, List, [], ◌∷◌, map, filter, ◌==◌, is_some, length, slice_index_or, slice_set}
+use Rattle.std.specs.Prelude.{◌≡◌, ℕ, ◌<◌, ◌≤◌, false, Option, None, List, [], ◌∷◌, map, filter, ◌==◌, is_some, length, slice_index_or, slice_set}
 use Rattle.std.specs.List.{All}
 use Rattle.alw_num.specs.declared.node_sets.TheConstants.{MOST_NODES}
 use Rattle.alw_num.specs.Weights.{digit, weigh}
@@ -24,6 +24,7 @@ use Rattle.alw_tally.specs.Tallies.{told_logged}
 use Rattle.alw_node.specs.Nodes.{Whole}
 use Rattle.alw_mesh.specs.Keeping.{after_taking, IsWithin}
 use Rattle.alw_cells.specs.Logs.{sent_of, taken_of}
+use Rattle.alw_merge.specs.declared.streams.Read.{Read}
 
 -- the slots with a hold, at all of some nodes
 abbrev pub holds_at : List Whole → ℕ
@@ -57,9 +58,16 @@ next_did (did ∷ rest) = did
 abbrev pub next_sent : Course → List (ℕ × Msg)
 next_sent course = sent_of (front course.left)
 
+-- what is left of what a node's events did
+abbrev pub dids_at : List (List Did) → ℕ → List Did
+dids_at rest n = slice_index_or rest n []
+
 -- what a tally is told of the next event of a node, but for what it sent, where no turn counts as having ended a hold
+abbrev pub happened_at : ℕ → List Did → Option Msg → Happened
+happened_at n dids taken = record { node = record { 0 = n }; did = next_did dids; taken = taken; used = false; pc = 0 }
+
 abbrev pub next_of : ℕ → Course → Happened
-next_of n course = record { node = record { 0 = n }; did = next_did course.dids; taken = taken_of (front course.left); used = false; pc = 0 }
+next_of n course = happened_at n course.dids (taken_of (front course.left))
 
 -- the next event has been read
 abbrev pub read_on : Course → Course
@@ -87,17 +95,17 @@ pub record IsWalked (image : Parts) (parameters : Parameters) (journal : List En
   pub links_are : traffic.links ≡ (state image parameters journal).links
   pub told_is : told ≡ unheld (told_of image (moments image parameters journal))
 
--- an event may be read off its node's course: it is there, and it names nodes that exist, as its messages do
-pub record MayFollow (nodes : ℕ) (event : Event) (course : Course) : Type 0 where
+-- an event may be read off its node's log: what it did is there, and it names nodes that exist, as its messages do
+pub record MayFollow (nodes : ℕ) (event : Event) (sends : List (ℕ × Msg)) (dids : List Did) : Type 0 where
   pub sender : node_of event < nodes
   pub within : IsWithin nodes event
-  pub did : 1 ≤ length course.dids
-  pub few : length (next_sent course) ≤ MOST_NODES
-  pub go : All (λ (send : ℕ × Msg). send.0 < nodes) (next_sent course)
+  pub did : 1 ≤ length dids
+  pub few : length sends ≤ MOST_NODES
+  pub go : All (λ (send : ℕ × Msg). send.0 < nodes) sends
 
 -- it has been read, its messages are moved, and it is told
-pub record Follows (image : Parts) (event : Event) (courses courses' : List Course) (traffic traffic' : Traffic) (told told' : Told) : Type 0 where
-  pub courses_are : courses' ≡ slice_set courses (node_of event) (read_on (course_at courses (node_of event)))
+pub record Follows (image : Parts) (read : Read) (sends : List (ℕ × Msg)) (rest rest' : List (List Did)) (traffic traffic' : Traffic) (told told' : Told) : Type 0 where
+  pub rest_is : rest' ≡ slice_set rest (node_of read.entry.event) (behind (dids_at rest (node_of read.entry.event)))
   pub nodes_are : traffic'.nodes ≡ traffic.nodes
-  pub links_are : traffic'.links ≡ links_with_all traffic.nodes (after_taking traffic event).links (node_of event) (next_sent (course_at courses (node_of event)))
-  pub told_is : told' ≡ told_logged image told (next_of (node_of event) (course_at courses (node_of event))) (next_sent (course_at courses (node_of event)))
+  pub links_are : traffic'.links ≡ links_with_all traffic.nodes (after_taking traffic read.entry.event).links (node_of read.entry.event) sends
+  pub told_is : told' ≡ told_logged image told (happened_at (node_of read.entry.event) (dids_at rest (node_of read.entry.event)) read.taken) sends

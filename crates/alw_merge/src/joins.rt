@@ -6,7 +6,6 @@ ghost use Rattle.alw_mesh.specs.declared.errors.TheConstants.{MOST_STEPS};
 ghost use Rattle.alw_mesh.specs.Histories.{stamps_of, joined_of};
 ghost use Rattle.alw_merge.specs.Joins.{holds_at};
 
-use crate::merges::merge;
 use crate::walks::{lists_of, walk};
 use alw_cells::Worked;
 use alw_image::{Image, Params};
@@ -32,8 +31,7 @@ pub fn join(
     let _allowed = image.parts();
     let _read = params.limit();
     let Worked { logs, nodes, dids } = worked;
-    let journal = merge(alloc, &logs)?;
-    let walked = walk(alloc, image, params, &journal, &logs, &dids)?;
+    let walked = walk(alloc, image, params, &logs, &dids)?;
     let links = lists_of(alloc, &walked.links, nodes.len())?;
     let holds = holds_of(&nodes);
     let told = walked.tally.counts();
@@ -43,7 +41,15 @@ pub fn join(
     };
     let (turns, prints) = walked.tally.into_parts();
     Machine::joined(
-        alloc, image, params, journal, nodes, links, turns, prints, counts,
+        alloc,
+        image,
+        params,
+        walked.journal,
+        nodes,
+        links,
+        turns,
+        prints,
+        counts,
     )
 }
 

@@ -9,9 +9,10 @@ use alw_num::NoMemory;
 use std::alloc::Global;
 
 /// The merge of all logs, to be read entry by entry: by stamp and then by node number (Lamport 1978). It
-/// takes memory for a head of each log alone.
+/// takes memory for a reader and a head of each log alone. More logs than 65,536, the number of node
+/// numbers, are refused as too much memory is.
 pub fn stream(alloc: Global, logs: &Logs) -> Result<Stream<'_>, NoMemory>
-    ensures { IfOk result (λ stream. stream ≡ merged (logged logs.now)) }
+    ensures { IfOk result (λ stream. stream ≡ logged logs.now) }
 {
     Stream::over(alloc, logs)
 }

@@ -52,7 +52,7 @@ pub fn replay_logs(
 
 // Takes the entries of a stream one by one, up to the first that isn't the next.
 fn take_each(machine: &mut Machine, mut entries: Stream<'_>) -> Result<(), NoMemory>
-    ensures { OnOk result (machine.new ≡ taken_on machine.old entries.entry) }
+    ensures { OnOk result (machine.new ≡ taken_on machine.old (merged entries.entry)) }
 {
     while let Some(entry) = entries.next() {
         if !take(machine, entry)? {

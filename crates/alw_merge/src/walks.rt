@@ -2,164 +2,150 @@ ghost use Rattle.std.specs.Prelude.{◌≡◌, ◌≤◌, ◌<◌, ◌*◌, ◌+
 ghost use Rattle.std.specs.List.{All};
 ghost use Rattle.alw_num.specs.declared.node_sets.TheConstants.{MOST_NODES};
 ghost use Rattle.alw_msg.specs.Events.{node_of};
-ghost use Rattle.alw_msg.specs.Lists.{front};
-ghost use Rattle.alw_cells.specs.Logs.{logged, sent_of, taken_of};
+ghost use Rattle.alw_model.specs.Threads.{merged};
+ghost use Rattle.alw_cells.specs.Logs.{logged};
 ghost use Rattle.alw_links.specs.Traffic.{link_in, links_with_all};
 ghost use Rattle.alw_mesh.specs.Keeping.{IsWithin, after_taking};
-ghost use Rattle.alw_merge.specs.Joins.{courses_of, course_at, next_did, next_sent, read_on, AreOf, IsWalked, MayFollow, Follows};
+ghost use Rattle.alw_msg.specs.Lists.{behind};
+ghost use Rattle.alw_merge.specs.Joins.{courses_of, next_did, dids_at, AreOf, IsWalked, MayFollow, Follows};
 
-use alw_cells::{Cursor, DidLists, Logs};
+use crate::merges::stream;
+use crate::streams::Read;
+use alw_cells::{DidLists, Logs};
 use alw_image::{Image, Params};
 use alw_links::Links;
 use alw_mesh::LinkLists;
 use alw_model::Did;
-use alw_msg::{Entry, Event, Journal, Msg, MsgList};
+use alw_msg::{Event, Journal, Msg, MsgList};
 use alw_num::{MOST_NODES, NoMemory, NodeNo};
 use alw_tally::{Happened, Tally};
 use std::alloc::Global;
 use std::marker::Model;
 
-/// A node's log that is read, beside what its events did. Contracts see what is left of both.
+// What the events of a node did, from the next one on.
 #[derive(Debug, Drop)]
-struct Reader<'a> {
-    log: Cursor<'a>,
+struct Rest<'a> {
     dids: &'a [Did],
 }
 
-impl<'a> Model for Reader<'a> {
-    ghost use Rattle.alw_merge.specs.Joins.{Course};
+impl<'a> Model for Rest<'a> {
+    ghost use Rattle.std.specs.Prelude.{List};
+    ghost use Rattle.alw_model.specs.declared.steps.Did.{Did};
 
-    ghost Value = { Course };
+    ghost Value = { List Did };
 
-    ghost view = { λ r. record { left = r.log.left; dids = r.dids.now } };
+    ghost view = { λ r. r.dids.now };
 }
 
-impl<'a> Reader<'a> {
-    // What the next event did, and the message that it took; what it sent goes into a list.
-    fn next(&mut self, sends: &mut Vec<(u16, Msg)>) -> Result<(Did, Option<Msg>), NoMemory>
-        requires did { 1 ≤ length self.old.dids }
-        requires few { length (next_sent self.old) ≤ MOST_NODES }
-        ensures rest { self.new ≡ read_on self.old }
-        ensures did { IfOk result (λ event. event.0 ≡ next_did self.old.dids) }
-        ensures taken { IfOk result (λ event. event.1 ≡ taken_of (front self.old.left)) }
-        ensures sends { OnOk result (sends.new.items ≡ next_sent self.old) }
+impl<'a> Rest<'a> {
+    // What the next event did, which then isn't left any longer.
+    fn next(&mut self) -> Did
+        requires { 1 ≤ length self.old }
+        ensures did { result ≡ next_did self.old }
+        ensures rest { self.new ≡ behind self.old }
     {
         let Some((did, rest)) = self.dids.split_first() else {
             unreachable!();
         };
         self.dids = rest;
-        let _entry = self.log.next();
-        collect(&self.log, sends)?;
-        Ok((*did, self.log.taken()))
+        *did
     }
 }
 
-// The messages that the event given last sent, each with its receiver, in place of others.
-fn collect(log: &Cursor<'_>, sends: &mut Vec<(u16, Msg)>) -> Result<(), NoMemory>
-    requires { length (sent_of log.now.given) ≤ MOST_NODES }
-    ensures { OnOk result (sends.new.items ≡ sent_of log.now.given) }
-{
-    sends.clear();
-    for i in 0..u32::from(MOST_NODES) {
-        let Some((to, msg)) = log.sent(i) else {
-            return Ok(());
-        };
-        sends.push((to.0, msg))?;
-    }
-    Ok(())
-}
-
-/// What a journal's events leave and tell, as logs say it: what is on the links, and turns, prints and
-/// counts, where no turn counts as having ended a hold.
+/// The journal that logs merge to, and what its events leave and tell, as the logs say it: what is on the
+/// links, and turns, prints and counts, where no turn counts as having ended a hold.
 #[derive(Debug, Drop)]
 pub struct Walked {
+    pub journal: Journal,
     pub links: Links,
     pub tally: Tally,
 }
 
-/// Goes through a journal in its order, and reads off its nodes' logs what each event took, sent and did.
+/// Goes through the merge of logs, and reads off them what each event took, sent and did. More entries than
+/// a journal can have are refused as too much memory is.
 pub fn walk(
     alloc: Global,
     image: &Image,
     params: &Params,
-    journal: &Journal,
     logs: &Logs,
     dids: &DidLists,
 ) -> Result<Walked, NoMemory>
     requires counted { length dids.now ≡ length logs.now }
-    requires read { AreOf image.now params.now journal.now (courses_of (logged logs.now) dids.now) }
-    ensures { IfOk result (λ walked. IsWalked image.now params.now journal.now walked.links walked.tally.told) }
+    requires read { AreOf image.now params.now (merged (logged logs.now)) (courses_of (logged logs.now) dids.now) }
+    ensures journal { IfOk result (λ walked. walked.journal ≡ merged (logged logs.now)) }
+    ensures walked { IfOk result (λ walked. IsWalked image.now params.now (merged (logged logs.now)) walked.links walked.tally.told) }
 {
     let _allowed = image.parts();
-    let mut readers = readers_of(alloc, logs, dids)?;
+    let mut events = stream(alloc, logs)?;
+    let mut rests = rests_of(alloc, dids)?;
     let mut sends = Vec::new(alloc);
     let mut walked = Walked {
+        journal: Journal::empty(alloc),
         links: Links::start(alloc, logs.len())?,
         tally: Tally::start(alloc),
     };
-    for entry in journal.members() {
-        follow(image, &mut readers, &mut sends, &mut walked, *entry)?;
+    while let Some(read) = events.event(&mut sends)? {
+        follow(image, &read, &sends, &mut rests, &mut walked)?;
     }
     Ok(walked)
 }
 
-// A reader of each node's log.
-fn readers_of<'a>(
-    alloc: Global,
-    logs: &'a Logs,
-    dids: &'a DidLists,
-) -> Result<Vec<Reader<'a>>, NoMemory>
-    requires { length dids.now ≡ length logs.now }
-    ensures { IfOk result (λ readers. readers.items ≡ courses_of (logged logs.now) dids.now) }
+// What the events of each node did.
+fn rests_of<'a>(alloc: Global, dids: &'a DidLists) -> Result<Vec<Rest<'a>>, NoMemory>
+    ensures { IfOk result (λ rests. rests.items ≡ dids.now) }
 {
-    let mut readers = Vec::new(alloc);
-    for n in 0..logs.len() {
-        readers.push(Reader {
-            log: logs.at_ref(n).cursor(),
+    let mut rests = Vec::new(alloc);
+    for n in 0..dids.len() {
+        rests.push(Rest {
             dids: dids.at_ref(n).members(),
         })?;
     }
-    Ok(readers)
+    Ok(rests)
 }
 
-// One event more, as its node's log says it.
+// One event more, as its node's log says it, and what is left of what the node's events did.
 fn follow(
     image: &Image,
-    readers: &mut Vec<Reader<'_>>,
-    sends: &mut Vec<(u16, Msg)>,
+    read: &Read,
+    sends: &[(u16, Msg)],
+    rests: &mut Vec<Rest<'_>>,
     walked: &mut Walked,
-    entry: Entry,
 ) -> Result<(), NoMemory>
-    requires here { node_of entry.event < length readers.old.items }
-    requires follows { MayFollow walked.old.links.nodes entry.event (course_at readers.old.items (node_of entry.event)) }
-    ensures { OnOk result (Follows image.now entry.event readers.old.items readers.new.items walked.old.links walked.new.links walked.old.tally.told walked.new.tally.told) }
+    requires here { node_of read.now.entry.event < length rests.old.items }
+    requires follows { MayFollow walked.old.links.nodes read.now.entry.event sends.now (dids_at rests.old.items (node_of read.now.entry.event)) }
+    ensures journal { OnOk result (walked.new.journal ≡ walked.old.journal ++ read.now.entry ∷ []) }
+    ensures follows { OnOk result (Follows image.now read.now sends.now rests.old.items rests.new.items walked.old.links walked.new.links walked.old.tally.told walked.new.tally.told) }
 {
-    let node = entry.event.node();
-    let (did, taken) = readers[usize::from(node.0)].next(sends)?;
+    if walked.journal.len() == u32::MAX {
+        return Err(NoMemory);
+    }
+    walked.journal.push(read.entry)?;
+    let event = read.entry.event;
     let happened = Happened {
-        node,
-        did,
-        taken,
+        node: event.node(),
+        did: rests[usize::from(event.node().0)].next(),
+        taken: read.taken,
         used: false,
         pc: 0,
     };
     walked.tally.reserve()?;
     walked.tally.add_logged(image, &happened, sends);
-    pass_on(&mut walked.links, entry.event, sends)
+    take_off(&mut walked.links, event);
+    send_all(&mut walked.links, event.node(), sends)
 }
 
-// What an event takes leaves its link, and what it sends goes to the ends of links.
-fn pass_on(links: &mut Links, event: Event, sends: &[(u16, Msg)]) -> Result<(), NoMemory>
-    requires sender { node_of event < links.old.nodes }
-    requires within { IsWithin links.old.nodes event }
+// What an event of a node sent goes to the ends of links. Mostly it is nothing.
+fn send_all(links: &mut Links, from: NodeNo, sends: &[(u16, Msg)]) -> Result<(), NoMemory>
+    requires sender { from.0 < links.old.nodes }
     requires few { length sends.now ≤ MOST_NODES }
     requires go { All (λ send. send.0 < links.old.nodes) sends.now }
     ensures nodes { OnOk result (links.new.nodes ≡ links.old.nodes) }
-    ensures links { OnOk result (links.new.links ≡ links_with_all links.old.nodes (after_taking links.old event).links (node_of event) sends.now) }
+    ensures links { OnOk result (links.new.links ≡ links_with_all links.old.nodes links.old.links from.0 sends.now) }
 {
-    take_off(links, event);
+    if sends.is_empty() {
+        return Ok(());
+    }
     links.reserve(sends.len() as u32)?;
-    let from = event.node();
     for i in 0..sends.len() {
         let (to, msg) = sends[i];
         links.send(from, NodeNo(to), msg);

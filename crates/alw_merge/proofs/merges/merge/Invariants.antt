@@ -5,7 +5,7 @@ use Rattle.alw_merge.proofs.merges.merge.Given as goal
 
 -- what was read, and what is left to be read, is all
 abbrev pub invariant-loop-entry : goal.invariant-loop-entry
-invariant-loop-entry l = l.journal ++ l.entries ≡ merged (logged l.logs)
+invariant-loop-entry l = l.journal ++ merged l.entries ≡ merged (logged l.logs)
 
 abbrev pub decreases-loop-entry : goal.decreases-loop-entry
-decreases-loop-entry l = length l.entries
+decreases-loop-entry l = length (merged l.entries)

@@ -9,4 +9,4 @@ pub returns-in_ok-push-clause-joins : goal.returns-in_ok-push-clause-joins
 returns-in_ok-push-clause-joins c =
     subst (λ (o : Option Entry). Joins (heap_items c.args.heads.now) (heads_of c.args.log o) (heap_items c.push.new.self)) (sym c.in-Some.is)
     (joins_one (heap_items c.args.heads.now) (heap_items c.push.new.self) c.args.log c.in-Some.entry
-    (record { 0 = c.of.result }) c.of.ensures c.in_ok-push.ensures.permutation c.in_ok-push.ensures.heap_order)
+    (record { 0 = c.key.result }) c.key.ensures.key c.in_ok-push.ensures.permutation c.in_ok-push.ensures.heap_order)

@@ -5,7 +5,7 @@ use Rattle.std.proofs.lemmas.List.{length_push}
 use Rattle.alw_msg.specs.Lists.{front}
 use Rattle.alw_cells.specs.Logs.{Reading, reading_of, after_next, entry_of}
 use Rattle.alw_merge.specs.Streams.{left_of, heads_of, Joins, IsUnderWay}
-use Rattle.alw_merge.proofs.Merging.{one_more, lefts_more, all_there}
+use Rattle.alw_merge.proofs.Merging.{one_more, lefts_more, all_there, node_of_front}
 use Rattle.alw_merge.proofs.streams.Stream.over.Goals as goal
 
 pub loop-at-preserved : goal.loop-at-preserved
@@ -24,7 +24,7 @@ loop-at-preserved c =
           (one_more readings (heap_items c.loop-at.heads) (heap_items c.add.new.heads) _ _ _ _ log.entries c.next.new.self c.next.result so_far.under
           c.cursor-reading.ensures.ascends reading entry joins c.in_ok-add.ensures.len
           (omega (arith, so_far.place, so_far.heads, c.loop-at-test.true, c.in_ok-add.ensures.capacity))
-          (omega (arith, so_far.place, c.loop-at-test.true, c.len-count.type_inv)));
+          (omega (arith, so_far.place, c.loop-at-test.true, c.if-count-gt-MOST_LOGS.false)) (node_of_front log.entries c.next.result entry c.in_ok-add.ensures.nodes));
       lefts = ap (map left_of) c.push_reserved.ensures.items ∙ lefts_more readings c.args.logs.now c.loop-at.at log c.next.new.self so_far.lefts
           c.at_ref.ensures reading;
       place = ap length c.push_reserved.ensures.items ∙ omega (arith, grown, so_far.place);
