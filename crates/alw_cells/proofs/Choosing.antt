@@ -9,7 +9,8 @@ use Rattle.alw_num.specs.declared.memory.NoMemory.{NoMemory}
 use Rattle.alw_num.specs.Maps.{passes}
 use Rattle.alw_num.specs.declared.node_sets.NodeSet.{NodeSet}
 use Rattle.alw_num.specs.NodeSets.{Nodes, no_nodes, has_node, nodes_of}
-use Rattle.alw_num.proofs.Sets.{has-none}
+use Rattle.alw_num.specs.Weights.{digit}
+use Rattle.alw_num.proofs.Sets.{has-none, count-none}
 use Rattle.alw_num.proofs.Weigh.{cases_lt_then}
 use Rattle.alw_msg.specs.declared.messages.Msg.{Msg}
 use Rattle.alw_msg.specs.declared.events.Event.{Event}
@@ -67,6 +68,10 @@ row_says cell row is =
 
 pub row_counts : (cell : Cell) (row : Row) → IsRow cell row → row_count row ≡ length (next_events cell)
 row_counts cell row is = sym (row_length cell.node.number row) ∙ ap length (row_says cell row is)
+
+-- where nothing may be delivered, the others alone count
+pub counts_own : (row : Row) → row.in_time ≡ true → nodes_of row.senders ≡ no_nodes → digit row.instr + digit row.handle ≡ row_count row
+counts_own row in_time empty = rw (in_time, empty, count-none) (omega arith)
 
 -- ---- what a number picks
 

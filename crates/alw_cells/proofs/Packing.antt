@@ -1,6 +1,6 @@
 -- What is written of a record is read back.
-use Rattle.std.proofs.Common.{◌≡◌, ℕ, zero, suc, ◌+◌, ◌≤◌, ◌<◌, ◌^◌, Bool, true, false, cond, Option, Some, None, IsTrue, IfSome, List, [], ◌∷◌, ◌++◌, length}
-use Rattle.std.proofs.Common.{drop, flat_map, refl, sym, subst, ap, ◌∙◌, append_assoc, append-nil, arith}
+use Rattle.std.proofs.Common.{◌≡◌, ℕ, ◌+◌, ◌≤◌, ◌<◌, ◌^◌, Bool, true, false, cond, Some, List, [], ◌∷◌, ◌++◌, length}
+use Rattle.std.proofs.Common.{drop, flat_map, refl, sym, subst, ap, ◌∙◌, append_assoc, arith}
 use Rattle.std.specs.List.{AllByRecursion}
 use Rattle.std.proofs.lemmas.List.{length-append, drop-drop, drop_at}
 use Rattle.byteorder.specs.Numbers.{big_number-reads_back}
@@ -8,13 +8,8 @@ use Rattle.alw_num.specs.declared.addresses.Line.{Line}
 use Rattle.alw_msg.specs.declared.messages.Kind.{Kind}
 use Rattle.alw_msg.specs.declared.messages.Kind.TheVariants as kinds
 use Rattle.alw_msg.specs.declared.messages.Msg.{Msg}
-use Rattle.alw_msg.specs.declared.events.Event.{Event}
-use Rattle.alw_msg.specs.declared.events.Event.TheVariants.{Instr, Deliver, Handle, Evict}
-use Rattle.alw_msg.specs.declared.events.Entry.{Entry}
-use Rattle.alw_msg.specs.Events.{node_of}
 use Rattle.alw_msg.specs.Kinds.{has_body, kind_number}
 use Rattle.alw_msg.specs.Sending.{carried_body}
-use Rattle.alw_model.specs.Threads.{Logged, takes_rightly}
 use Rattle.alw_cells.specs.Layout.{word, half, body_bytes, taken_bytes, sent_bytes}
 use Rattle.alw_cells.specs.Records.{IsPlain, IsOfEvent, AreOfEvent, FitsLine, FitsMsg, FitsSend, word_in, half_in, kind_by, body_size, body_in, taken_msg}
 use Rattle.alw_cells.specs.Records.{msg_size, sent_msg, sent_size, sends_in, behind_sends, HasSends}

@@ -1,6 +1,5 @@
 -- Messages in bytes, by their place.
-use Rattle.std.proofs.Common.{◌≡◌, ℕ, zero, suc, ◌+◌, ◌≤◌, ◌<◌, Some, None, List, [], ◌∷◌, length, drop, slice_get, refl, sym, ap, ◌∙◌, arith}
-use Rattle.alw_msg.specs.declared.messages.Msg.{Msg}
+use Rattle.std.proofs.Common.{◌≡◌, ℕ, zero, suc, ◌≤◌, ◌<◌, Some, None, List, length, drop, slice_get, refl, arith}
 use Rattle.alw_cells.specs.Records.{sent_msg, sent_size, sends_in, behind_sends, HasSends}
 
 -- there are fewer too

@@ -1,5 +1,5 @@
 -- What an event of a node sends is the node's, with the event's stamp, and without bytes that its kind doesn't carry.
-use Rattle.std.proofs.Common.{◌≡◌, ℕ, Bool, true, false, Option, Some, None, List, [], ◌∷◌, refl}
+use Rattle.std.proofs.Common.{ℕ, Bool, true, false, Option, Some, None, List, [], ◌∷◌, refl}
 use Rattle.alw_num.specs.declared.states.Mode.{Mode}
 use Rattle.alw_num.specs.Maps.{value_at}
 use Rattle.sparc_table.specs.declared.outcomes.Need.{Need}
@@ -20,7 +20,7 @@ use Rattle.alw_model.specs.Messages.{message, to_homes, to_caches}
 use Rattle.alw_model.specs.NodeStates.{NodeState, home_at, stamp_of}
 use Rattle.alw_model.specs.ProcessorSteps.{opened}
 use Rattle.alw_model.specs.NodeSteps.{access, instr_by, instr, at_home, deliver_by, deliver, handle_by, handle_front, event_at, node_step}
-use Rattle.alw_cells.specs.Records.{IsPlain, IsOfEvent, AreOfEvent}
+use Rattle.alw_cells.specs.Records.{IsPlain, AreOfEvent}
 
 module _ (parts : Parts) (parameters : Parameters) (n stamp : ℕ) where
   asked : (line : ℕ) (said : ToMemory) → IsPlain (message n stamp line (ForMemory said))

@@ -1,5 +1,5 @@
 -- Records are read back, one behind the other.
-use Rattle.std.proofs.Common.{◌≡◌, ℕ, zero, suc, ◌+◌, ◌≤◌, ◌<◌, ◌^◌, true, false, Option, Some, None, IsTrue, IfSome, List, [], ◌∷◌, ◌++◌, length, drop}
+use Rattle.std.proofs.Common.{◌≡◌, ℕ, zero, suc, ◌+◌, ◌≤◌, ◌<◌, ◌^◌, Option, Some, None, IsTrue, IfSome, List, [], ◌∷◌, ◌++◌, length, drop}
 use Rattle.std.proofs.Common.{flat_map, refl, sym, subst, ap, ◌∙◌, append_assoc, append-nil, arith}
 use Rattle.std.specs.List.{AllByRecursion}
 use Rattle.std.proofs.lemmas.Bool.{true≢false}
@@ -12,11 +12,10 @@ use Rattle.alw_msg.specs.declared.events.Entry.{Entry}
 use Rattle.alw_msg.specs.Events.{node_of}
 use Rattle.alw_model.specs.Threads.{Logged, takes_rightly}
 use Rattle.alw_cells.specs.Layout.{word, half, tag_of, argument_of, taken_bytes, sent_bytes, front_bytes, back_bytes, record_bytes, log_bytes}
-use Rattle.alw_cells.specs.Records.{IsPlain, IsRecord, FitsMsg, FitsEvent, FitsRecord, AreRecords, word_in, half_in, event_by, event_in, sends_in}
-use Rattle.alw_cells.specs.Records.{behind_sends, HasSends, taken_in, taken_size, record_in, sends_at, behind_record, HasRecord, with_sends, records_in}
+use Rattle.alw_cells.specs.Records.{IsPlain, IsRecord, FitsMsg, FitsEvent, FitsRecord, AreRecords, word_in, half_in, event_by, event_in}
+use Rattle.alw_cells.specs.Records.{behind_sends, HasSends, taken_in, taken_size, record_in, sends_at, behind_record, with_sends, records_in}
 use Rattle.alw_cells.specs.Records.{HasRecords, AreBelow, Ascends, ArePacked}
-use Rattle.alw_cells.specs.declared.records.Record.{Record}
-use Rattle.alw_cells.proofs.Packing.{word_back, half_back, word_length, half_length, taken_back, msg_size_is, taken_length, sends_back}
+use Rattle.alw_cells.proofs.Packing.{word_back, half_back, half_length, taken_back, msg_size_is, taken_length, sends_back}
 
 -- ---- the front of a record
 

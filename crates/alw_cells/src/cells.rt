@@ -13,7 +13,7 @@ ghost use Rattle.alw_cells.specs.Records.{IsPlain};
 ghost use Rattle.alw_cells.specs.Choice.{taken_by, come_taken, may_happen, next_events, asked_eviction, is_evicted, picked_event, Happens, StepsCell};
 ghost use Rattle.alw_cells.specs.Keeping.{AreSenders};
 ghost use Rattle.alw_cells.specs.declared.cells.Stepped.TheVariants as Stepped;
-ghost use Rattle.alw_ready.specs.Rows.{instr_at, handle_at, delivery};
+ghost use Rattle.alw_ready.specs.Rows.{instr_at, handle_at, delivery, row_count};
 ghost use Rattle.alw_msg.specs.Events.{is_evict};
 
 use crate::lists::{InList, append, take_first};
@@ -224,14 +224,15 @@ impl NodeCell {
         ensures { result ≡ picked_event self.now number }
     {
         let row = self.row();
-        let count = u32::from(row.count());
+        let count = count_of(&row);
         if count == 0 {
             return None;
         }
         if let Some(eviction) = self.asked_eviction(number) {
             return Some(eviction);
         }
-        Some(row.nth(self.node.number(), number % count))
+        let place = if count == 1 { 0 } else { number % count };
+        Some(row.nth(self.node.number(), place))
     }
 
     // No main event may happen, so that the node is spent.
@@ -251,12 +252,15 @@ impl NodeCell {
         ensures { result ≡ cond (is_evicted self.now number) (Some (asked_eviction self.now number)) None }
     {
         let params = self.node.params();
+        let is_tried = number % 256 < u32::from(params.evict());
+        if !is_tried {
+            return None;
+        }
         let eviction = Event::Evict {
             node: self.node.number(),
             set: (number >> 16) % params.sets(),
         };
-        let is_tried = number % 256 < u32::from(params.evict());
-        if is_tried && !self.node.have_halted() && self.may(eviction) {
+        if !self.node.have_halted() && self.may(eviction) {
             Some(eviction)
         } else {
             None
@@ -334,6 +338,21 @@ impl NodeCell {
         append(&mut self.pending, &self.sent);
         self.dids.push(did);
         Ok(Stepped::Did { entry, did })
+    }
+}
+
+// The number of a row's events. Nearly always nothing may be delivered, and then no bits are counted.
+fn count_of(row: &Row) -> u32
+    requires { row.now.in_time ≡ true }
+    ensures { result ≡ row_count row.now }
+{
+    if !row.senders.is_empty() {
+        return u32::from(row.count());
+    }
+    match (row.instr, row.handle) {
+        (true, true) => 2,
+        (false, false) => 0,
+        _ => 1,
     }
 }
 
