@@ -9,7 +9,7 @@ use Rattle.alw_num.specs.Weights.{digit, weigh, times}
 use Rattle.alw_num.proofs.Weigh.{is_node, cases_lt_then, digit_le, true_of_digit, digit_same, digit_other, weigh_push, sum_both, sum_one, sum_ones, sum_le, sum_times}
 use Rattle.alw_work.specs.declared.ready.Hand.{Hand}
 use Rattle.alw_work.specs.declared.ready.Hand.TheVariants.{Has, Fills}
-use Rattle.alw_work.specs.Ready.{holds, HasFilled, IsFair, IsRuled}
+use Rattle.alw_work.specs.Ready.{filled_by, holds, HasFilled, IsFair, IsRuled}
 
 -- ---- lists
 
@@ -74,8 +74,8 @@ filler_kept : (views : List Hand) (port filled : ℕ) (w : Hand) → port ≢ 0
 filler_kept views port filled w other filler = (filler.0, (set_else views port 0 w (λ e. other (sym e)) ∙ filler.1.0, filler.1.1))
 
 -- the view of the first pass tells it
-filled_by : (n : ℕ) (items : List ℕ) (views : List Hand) (fair : IsFair n items views) (v : Hand) → get_elem? views 0 ≡ some v → HasFilled fair.filled v
-filled_by n items views fair v at =
+filled_then : (n : ℕ) (items : List ℕ) (views : List Hand) (fair : IsFair n items views) (v : Hand) → get_elem? views 0 ≡ some v → HasFilled fair.filled v
+filled_then n items views fair v at =
     subst (λ hand. HasFilled fair.filled hand) (some-injective fair.filler.0 v (sym fair.filler.1.0 ∙ at)) fair.filler.1.1
 
 -- ---- the steps
@@ -96,7 +96,7 @@ module _ (n port : ℕ) where
   pub takes : Pops (IsFair n) port (Has None) (λ x w. (w ≡ Has (Some x)) × (x < n))
   takes x items views fair at =
       let some_filled = below_of x fair.filled (omega (arith, fair.once x, digit_same x x refl)) in
-      let none_filled = λ (first : port ≡ 0). filled_by n (x ∷ items) views fair (Has None) (at_first views port (Has None) first at) in
+      let none_filled = λ (first : port ≡ 0). filled_then n (x ∷ items) views fair (Has None) (at_first views port (Has None) first at) in
       let other : port ≢ 0 = λ first. absurd (omega (arith, some_filled, none_filled first)) in (
         Has (Some x),
         record {
@@ -116,7 +116,7 @@ module _ (n port : ℕ) where
     -- the number that a pass holds goes to the back
     pub gives : (places : ℕ) → Pushes (IsFair n) places port (Has (Some x)) x (λ w. w ≡ Has None)
     gives places items views room fair at =
-        let other : port ≢ 0 = λ first. filled_by n items views fair (Has (Some x)) (at_first views port (Has (Some x)) first at) in (
+        let other : port ≢ 0 = λ first. filled_then n items views fair (Has (Some x)) (at_first views port (Has (Some x)) first at) in (
           Has None,
           record {
             filled = fair.filled;
@@ -139,6 +139,11 @@ module _ (n port : ℕ) where
         let below = below_of x fair.filled (omega (arith, fair.once x, held x, digit_same x x refl)) in
         short n x items (omega (arith, below, fair.within)) (λ k. omega (arith, most_once n items views fair k, held k))
         (none_from n items views fair)
+
+pub filled_is : (v : Hand) (filled : ℕ) → HasFilled filled v → filled_by v ≡ filled
+filled_is (Has None) filled is = sym is
+filled_is (Has (Some number)) filled is = absurd is
+filled_is (Fills next) filled is = sym is
 
 filled_same : (v : Hand) (a b : ℕ) → HasFilled a v → HasFilled b v → a ≡ b
 filled_same (Has None) a b is same = is ∙ sym same
@@ -166,7 +171,7 @@ one_more k filled x is = cases_lt_then filled k
 -- the next number goes into the queue that is being filled
 module _ (n x : ℕ) (v : Hand) (filled : HasFilled x v) (below : x < n) where
   next_is : (items : List ℕ) (views : List Hand) (fair : IsFair n items views) → get_elem? views 0 ≡ some v → fair.filled ≡ x
-  next_is items views fair at = filled_same v fair.filled x (filled_by n items views fair v at) filled
+  next_is items views fair at = filled_same v fair.filled x (filled_then n items views fair v at) filled
 
   pub adds : (places : ℕ) → Pushes (IsFair n) places 0 v x (λ w. w ≡ Fills (x + 1))
   adds places items views room fair at =

@@ -17,6 +17,15 @@ pub record Holder : Type 0 where
   pub queue : QueueName
   pub node : Option ℕ
 
+-- the pass that filled a queue: which queue it is of, and how many numbers it put in, from 0 on
+pub record Filled : Type 0 where
+  pub queue : QueueName
+  pub count : ℕ
+
+abbrev pub filled_by : Hand → ℕ
+filled_by (Has _) = 0
+filled_by (Fills next) = next
+
 -- a number is with a pass: 1 where it is
 abbrev pub holds : ℕ → Hand → ℕ
 holds k (Has None) = 0

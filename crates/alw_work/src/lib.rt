@@ -15,5 +15,5 @@ mod signs;
 mod workers;
 
 pub use gates::{Gate, OpenGate};
-pub use ready::{Counting, Ready, ReadyPass};
+pub use ready::{Counting, Filler, Ready, ReadyPass};
 pub use runs::run_workers;

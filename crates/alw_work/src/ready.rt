@@ -137,15 +137,31 @@ impl Model for ReadyPass {
     ghost invariant = { λ p. (p.pass.me.1 ≡ []) × (p.pass.me.0.client ≡ Has p.node) };
 }
 
+/// The pass that filled a queue, with which nothing else can be done. A contract sees which queue it is of,
+/// and how many numbers it put in: 0 to that number less 1, in order.
+#[derive(Drop)]
+pub struct Filler {
+    pass: Pass<u16, Hand>,
+}
+
+impl Model for Filler {
+    ghost use Rattle.alw_work.specs.Ready.{Filled, filled_by};
+
+    ghost Value = { Filled };
+
+    ghost view = { λ f. record { queue = f.pass.table_id; count = filled_by f.pass.me.0.client } };
+}
+
 impl<I: Counting> Ready<I> {
-    /// A queue that holds the numbers 0 to `nodes` - 1, put in in order.
-    pub fn start<R: Wait>(rt: &R, alloc: Global, nodes: u32) -> Result<Ready<I>, NoMemory>
+    /// A queue, and the pass that filled it with the numbers 0 to `nodes` - 1, in order.
+    pub fn start<R: Wait>(rt: &R, alloc: Global, nodes: u32) -> Result<(Ready<I>, Filler), NoMemory>
         requires some { (0 < nodes) × (nodes < 2 ^ 16) }
         requires counted { nodes ≡ I.nodes }
+        ensures { IfOk result (λ made. made.1 ≡ record { queue = made.0; count = nodes }) }
     {
-        let (queue, mut filler) = Queue::<I>::ruled(alloc, nodes as usize)?;
-        fill(rt, &queue, &mut filler, nodes as u16);
-        Ok(Ready { queue })
+        let (queue, mut pass) = Queue::<I>::ruled(alloc, nodes as usize)?;
+        fill(rt, &queue, &mut pass, nodes as u16);
+        Ok((Ready { queue }, Filler { pass }))
     }
 
     /// A pass that holds no number.
@@ -205,7 +221,8 @@ fn fill<I: Counting, R: Wait>(rt: &R, queue: &Queue<I>, filler: &mut Pass<u16, H
     requires queue { IsPassOf queue.now filler.old × (ruled_capacity queue.now ≡ I.nodes) }
     requires first { (filler.old.id ≡ 0) × HasFilled 0 (view filler.old) }
     requires counted { nodes ≡ I.nodes }
-    ensures { HasFilled I.nodes (view filler.new) }
+    ensures queue { IsPassOf queue.now filler.new }
+    ensures filled { HasFilled I.nodes (view filler.new) }
 {
     for number in 0..nodes {
         let Ok(()) = queue.push_as::<Adds<I>, R>(rt, filler, number) else {

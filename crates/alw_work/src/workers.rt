@@ -33,7 +33,7 @@ pub fn work<I: Naming + Counting + Send + Sync, R: Threads + Wait + Sync, G: Gat
     requires counted { nodes ≡ I.nodes }
     requires links { links.now ≡ I.links }
 {
-    let ready = Ready::<I>::start(rt, alloc, u32::from(nodes))?;
+    let (ready, _filler) = Ready::<I>::start(rt, alloc, u32::from(nodes))?;
     let signs = Signs::none(alloc)?;
     let (queue, told) = (&ready, &signs);
     let ends = thread::map_indices(
@@ -91,7 +91,9 @@ fn worker<I: Naming + Counting, R: Wait, G: Gate>(
 }
 
 // Turns of a worker at a node, one after the other: until one is idle, or there were enough of them, or all
-// are to stop. Answers whether the node did anything.
+// are to stop. Answers whether the node did anything. The gate is passed before the lock is taken, so that a
+// worker that waits there holds none. The lock is held for all the turns: the queue gave the node to this
+// worker alone, so nobody waits for it, while an unlock waits until all that a turn stored is written.
 fn visit<I: Naming, R: Wait, G: Gate>(
     rt: &R,
     lock: &Mutex<Locked<I>>,
@@ -104,10 +106,11 @@ fn visit<I: Naming, R: Wait, G: Gate>(
     requires { links.now ≡ I.links }
 {
     let (worker, node) = place;
+    gate.pass(worker, node);
+    let mut seat = lock.lock(rt);
     let mut has_acted = false;
     for _ in 0..MOST_TURNS {
-        gate.pass(worker, node);
-        match turn(rt, lock, links, signs, draws.draw())? {
+        match turn(rt, &mut seat, links, signs, draws.draw())? {
             Stepped::Did { .. } => has_acted = true,
             Stepped::Idle => return Ok(has_acted),
         }
@@ -121,14 +124,14 @@ fn visit<I: Naming, R: Wait, G: Gate>(
 // One turn at a node. A trapping turn and want of memory stop all workers.
 fn turn<I: Naming, R: Wait>(
     rt: &R,
-    lock: &Mutex<Locked<I>>,
+    seat: &mut Locked<I>,
     links: &[Link],
     signs: &Signs,
     pick: u32,
 ) -> Result<Stepped, NoMemory>
     requires { links.now ≡ I.links }
 {
-    let stepped = lock.lock(rt).turn(rt, links, signs, pick);
+    let stepped = seat.turn(rt, links, signs, pick);
     match stepped {
         Ok(Stepped::Did { did, .. }) if is_trap(did) => signs.stop(),
         Ok(_) => {}
