@@ -79,9 +79,8 @@ other:  st %g3,[%g2]
     Ok(())
 }
 
-#[test]
-fn a_lock_guards_a_counter(rt: HostRuntime) -> Result<(), Fail> {
-    let source = b".mesh 2,2
+/// Four nodes that each add 1 to a count a hundred times, behind a lock.
+pub const LOCK: &[u8] = b".mesh 2,2
         set 0x40000000,%g1
         set 0x40000010,%g2
         mov 100,%g3
@@ -98,7 +97,10 @@ again:  ldstub [%g1],%g4
         nop
         ta 0
 ";
-    let assembled = assemble(rt.alloc(), source)?;
+
+#[test]
+fn a_lock_guards_a_counter(rt: HostRuntime) -> Result<(), Fail> {
+    let assembled = assemble(rt.alloc(), LOCK)?;
     let words: [u32; 17] = [
         0x0310_0000,
         0x8210_6000,

@@ -1,3 +1,4 @@
+use crate::assembling::LOCK;
 use crate::machines::TWO_WRITERS;
 use crate::plays::started;
 use alw_image::{Image, Params};
@@ -5,55 +6,75 @@ use alw_merge::{join, replay_logs};
 use alw_mesh::{Machine, fit};
 use alw_num::SHARED_BASE;
 use alw_work::{OpenGate, run_workers};
+use sparc_assemble::assemble;
 use std::alloc::AllocGlobal;
 use std::sync::Wait;
 use std::test::Fail;
 use std::thread::Threads;
 
-// The machine that is joined from what two workers leave, and the one that takes the merge of their logs
+// The machine that is joined from what so many workers leave, and the one that takes the merge of their logs
 // again.
 fn joined_and_replayed(
     rt: &(impl Threads + Wait + Sync + AllocGlobal),
     image: &Image,
     params: &Params,
+    workers: u32,
 ) -> Result<(Machine, Machine), Fail> {
     fit(image, params)?;
-    let worked = run_workers(rt, rt.alloc(), image, params, 2, &OpenGate)?;
+    let worked = run_workers(rt, rt.alloc(), image, params, workers, &OpenGate)?;
     let again = replay_logs(rt.alloc(), image, params, &worked.logs)?.machine;
     let joined = join(rt.alloc(), image, params, worked)?;
     Ok((joined, again))
 }
 
-// The first word of shared data, where there is any.
-fn first_word(machine: &Machine) -> Option<u32> {
-    if machine.lines() == 0 {
-        return None;
+// Two machines have the same words of shared data, of which there are some.
+fn words_are_alike(one: &Machine, other: &Machine) -> bool {
+    let lines = one.lines();
+    if lines == 0 || lines != other.lines() {
+        return false;
     }
-    Some(machine.word(SHARED_BASE))
+    for word in 0..4 * lines {
+        let address = SHARED_BASE + 4 * word;
+        if one.word(address) != other.word(address) {
+            return false;
+        }
+    }
+    true
 }
 
-// Two machines have the same journal, turns, prints, counts and first word.
+// Two machines have the same journal, turns, prints, counts and words.
 fn are_alike(one: &Machine, other: &Machine) -> bool {
     one.journal().members() == other.journal().members()
         && one.turns() == other.turns()
         && one.prints() == other.prints()
         && one.counts() == other.counts()
-        && first_word(one) == first_word(other)
+        && words_are_alike(one, other)
 }
 
-// What two workers leave is joined to the machine that takes the merge of their logs again.
+// What workers leave is joined to the machine that takes the merge of their logs again, and the nodes did
+// something.
 fn is_joined(
     rt: &(impl Threads + Wait + Sync + AllocGlobal),
     image: &Image,
     params: &Params,
+    workers: u32,
 ) -> Result<bool, Fail> {
-    let (joined, again) = joined_and_replayed(rt, image, params)?;
-    Ok(are_alike(&joined, &again) && first_word(&joined).is_some())
+    let (joined, again) = joined_and_replayed(rt, image, params, workers)?;
+    Ok(are_alike(&joined, &again) && !joined.journal().is_empty())
 }
 
 #[test]
 fn what_workers_leave_is_joined(rt: HostRuntime) -> Result<(), Fail> {
     let start = started(rt.alloc(), &TWO_WRITERS)?;
-    assert!(rt; is_joined(&rt, start.image(), start.params())?);
+    assert!(rt; is_joined(&rt, start.image(), start.params(), 2)?);
+    Ok(())
+}
+
+// Four workers on four nodes that each take a lock a hundred times.
+#[test]
+fn what_workers_leave_of_a_lock_is_joined(rt: HostRuntime) -> Result<(), Fail> {
+    let image = assemble(rt.alloc(), LOCK)?.image;
+    let params = Params::new(4, 256, 1_048_576, 0).ok_or("no parameters")?;
+    assert!(rt; is_joined(&rt, &image, &params, 4)?);
     Ok(())
 }

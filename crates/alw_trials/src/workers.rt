@@ -103,7 +103,7 @@ fn four_workers_step_four_nodes(rt: HostRuntime) -> Result<(), Fail> {
 
 #[test]
 fn a_node_is_with_one_worker_at_a_time(rt: HostRuntime) -> Result<(), Fail> {
-    let ready = Ready::<One>::start(&rt, rt.alloc(), 1)?;
+    let (ready, _filler) = Ready::<One>::start(&rt, rt.alloc(), 1)?;
     let mut first = ready.pass(&rt)?;
     let mut second = ready.pass(&rt)?;
     assert_eq!(rt; ready.take(&rt, &mut first), Some(NodeNo(0)));
