@@ -13,7 +13,7 @@ use Rattle.alw_msg.specs.Events.{node_of}
 use Rattle.alw_model.specs.Threads.{Logged, takes_rightly}
 use Rattle.alw_cells.specs.Layout.{word, half, tag_of, argument_of, taken_bytes, sent_bytes, front_bytes, back_bytes, record_bytes, log_bytes}
 use Rattle.alw_cells.specs.Records.{IsPlain, IsRecord, FitsMsg, FitsEvent, FitsRecord, AreRecords, word_in, half_in, event_by, event_in}
-use Rattle.alw_cells.specs.Records.{behind_sends, HasSends, taken_in, taken_size, record_in, sends_at, behind_record, with_sends, records_in}
+use Rattle.alw_cells.specs.Records.{sends_in, behind_sends, HasSends, taken_in, taken_size, entry_in, count_in, sends_at, behind_record, logged_in, records_in}
 use Rattle.alw_cells.specs.Records.{HasRecords, AreBelow, Ascends, ArePacked}
 use Rattle.alw_cells.proofs.Packing.{word_back, half_back, half_length, taken_back, msg_size_is, taken_length, sends_back}
 
@@ -70,7 +70,9 @@ took stamp (Deliver from to) (Some msg) behind right plain fits = record {
 -- ---- a record
 
 record IsBack (number : ℕ) (logged : Logged) (bytes rest : List ℕ) : Type 0 where
-  pub head : record_in number bytes ≡ record { entry = logged.entry; taken = logged.taken; sends = length logged.sent }
+  pub entry : entry_in number bytes ≡ logged.entry
+  pub taken : taken_in bytes ≡ logged.taken
+  pub count : count_in bytes ≡ length logged.sent
   pub sends : sends_at bytes ≡ flat_map sent_bytes logged.sent ++ rest
   pub front : 11 + taken_size bytes ≤ length bytes
 
@@ -80,7 +82,7 @@ back_is sent rest = append_assoc (half (length sent)) (flat_map sent_bytes sent)
 
 record_back : (number : ℕ) (logged : Logged) (rest : List ℕ) → IsRecord number logged → FitsRecord logged
     → IsBack number logged (record_bytes logged ++ rest) rest
-unfolding record_in sends_at record_bytes
+unfolding entry_in count_in sends_at record_bytes
 record_back number logged rest is fits =
     let sends = flat_map sent_bytes logged.sent in
     let behind = taken_bytes logged.taken ++ (back_bytes logged.sent ++ rest) in
@@ -96,15 +98,12 @@ record_back number logged rest is fits =
     append_assoc (front_bytes logged.entry) (taken_bytes logged.taken ++ back_bytes logged.sent) rest
     ∙ ap (λ (xs : List ℕ). front_bytes logged.entry ++ xs) (append_assoc (taken_bytes logged.taken) (back_bytes logged.sent) rest) in
     subst (λ (xs : List ℕ). IsBack number logged xs rest) (sym place) (record {
-      head = λ x. record {
-        entry = record {
-          stamp = stamp_back logged.entry behind fits.stamp x;
-          event =
-              event_back number logged.entry.stamp logged.entry.event behind is.node fits.event x;
-        };
-        taken = taken.read x;
-        sends = (ap half_in tail ∙ half_back (length logged.sent) (sends ++ rest) is.few) x;
+      entry = λ x. record {
+        stamp = stamp_back logged.entry behind fits.stamp x;
+        event = event_back number logged.entry.stamp logged.entry.event behind is.node fits.event x;
       };
+      taken = taken.read;
+      count = ap half_in tail ∙ half_back (length logged.sent) (sends ++ rest) is.few;
       sends = last;
       front = omega (
         arith,
@@ -122,7 +121,7 @@ record_back number logged rest is fits =
 
 pub record AreBackAll (number : ℕ) (log : List Logged) (bytes : List ℕ) : Type 0 where
   pub read : records_in number (length log) bytes ≡ log
-  pub has : HasRecords number (length log) bytes
+  pub has : HasRecords (length log) bytes
 
 records_back : (number : ℕ) (log : List Logged) (rest : List ℕ) → AreRecords number log → AreBackAll number log (log_bytes log ++ rest)
 unfolding log_bytes
@@ -133,20 +132,19 @@ records_back number (logged ∷ log) rest are =
     let deeper = records_back number log rest are.1 in
     let one = record_back number logged more are.0.0 are.0.1 in
     let sends = sends_back number logged.entry.stamp logged.sent more are.0.0.sent are.0.1.sent in
-    let given : with_sends number (record_in number bytes) (sends_at bytes) ≡ logged =
-    (λ x. with_sends number (one.head x) (one.sends x)) ∙ ap (λ (sent : List (ℕ × Msg)). record { entry = logged.entry; taken = logged.taken; sent = sent })
-    sends.read in
-    let gone : behind_record number bytes ≡ more = (λ x. behind_sends (one.head x).sends (one.sends x)) ∙ sends.behind in
-    let has : HasSends (record_in number bytes).sends (sends_at bytes) =
-    subst (λ (P : Type 0). P) (λ x. HasSends (sym one.head x).sends (sym one.sends x)) sends.has in
+    let given : logged_in number bytes ≡ logged =
+    (λ x. record { entry = one.entry x; taken = one.taken x; sent = sends_in number (one.entry x).stamp (one.count x) (one.sends x) })
+    ∙ ap (λ (sent : List (ℕ × Msg)). record { entry = logged.entry; taken = logged.taken; sent = sent }) sends.read in
+    let gone : behind_record bytes ≡ more = (λ x. behind_sends (one.count x) (one.sends x)) ∙ sends.behind in
+    let has : HasSends (count_in bytes) (sends_at bytes) = subst (λ (P : Type 0). P) (λ x. HasSends (sym one.count x) (sym one.sends x)) sends.has in
     subst (λ (xs : List ℕ). AreBackAll number (logged ∷ log) xs) (sym (append_assoc (record_bytes logged) (log_bytes log) rest)) (record {
       read = (λ x. given x ∷ records_in number (length log) (gone x)) ∙ ap (λ (logs : List Logged). logged ∷ logs) deeper.read;
-      has = (record { front = one.front; sends = has }, subst (HasRecords number (length log)) (sym gone) deeper.has);
+      has = (record { front = one.front; sends = has }, subst (HasRecords (length log)) (sym gone) deeper.has);
     })
 
 pub length_read : (number events : ℕ) (bytes : List ℕ) → length (records_in number events bytes) ≡ events
 length_read number zero bytes = refl
-length_read number (suc events) bytes = ap suc (length_read number events (behind_record number bytes))
+length_read number (suc events) bytes = ap suc (length_read number events (behind_record bytes))
 
 -- ---- a log
 
@@ -162,11 +160,11 @@ all_push number (first ∷ log) logged are is = (are.0, all_push number log logg
 module _ (number events : ℕ) (bytes : List ℕ) (packed : bytes ≡ log_bytes (records_in number events bytes))
     (are : AreRecords number (records_in number events bytes)) where
   -- all of it can be read
-  pub readable : HasRecords number events bytes
+  pub readable : HasRecords events bytes
   readable =
       let log = records_in number events bytes in
       let back = records_back number log [] are in
-      subst (λ (P : Type 0). P) (λ x. HasRecords number (length_read number events bytes x) ((append-nil (log_bytes log) ∙ sym packed) x)) back.has
+      subst (λ (P : Type 0). P) (λ x. HasRecords (length_read number events bytes x) ((append-nil (log_bytes log) ∙ sym packed) x)) back.has
 
   -- one record more
   pub read_more : (logged : Logged) (after : List ℕ) → IsRecord number logged → FitsRecord logged → after ≡ bytes ++ record_bytes logged

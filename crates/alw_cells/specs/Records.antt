@@ -1,5 +1,5 @@
 -- A log read off its bytes, and what makes them readable: a record's event is of the log's node, and so are the messages sent, with the event's stamp.
-use Rattle.std.specs.Prelude.{◌≡◌, ℕ, zero, suc, ◌+◌, ◌*◌, ◌≤◌, ◌<◌, ◌^◌, ◌==◌, min, Option, Some, None, List, [], ◌∷◌, length, drop, slice_index, cond}
+use Rattle.std.specs.Prelude.{◌≡◌, ℕ, zero, suc, ◌+◌, ◌*◌, ◌≤◌, ◌<◌, ◌^◌, ◌==◌, min, Bool, true, false, Option, Some, None, List, [], ◌∷◌, length, drop, slice_index, cond}
 use Rattle.std.specs.Prelude.{IsTrue, IfSome}
 use Rattle.std.specs.List.{AllByRecursion}
 use Rattle.byteorder.specs.Endian.{big_number}
@@ -13,7 +13,7 @@ use Rattle.alw_msg.specs.Events.{node_of}
 use Rattle.alw_msg.specs.Kinds.{has_body}
 use Rattle.alw_msg.specs.Sending.{carried_body}
 use Rattle.alw_model.specs.Threads.{Logged, takes_rightly}
-use Rattle.alw_cells.specs.declared.records.Record.{Record}
+use Rattle.alw_msg.specs.declared.events.Entry.{Entry}
 use Rattle.alw_cells.specs.Layout.{log_bytes}
 use Rattle.alw_cells.specs.Logs.{Reading}
 
@@ -167,44 +167,43 @@ taken_in bytes = cond (slice_index bytes 4 == 1) (Some (taken_msg (drop 9 bytes)
 unfoldable pub taken_size : List ℕ → ℕ
 taken_size bytes = cond (slice_index bytes 4 == 1) (msg_size (drop 9 bytes)) 0
 
--- the event, the message that it took, and how many it sent
-unfoldable pub record_in : ℕ → List ℕ → Record
-record_in number bytes = record {
-  entry = record { stamp = word_in bytes; event = event_in number bytes };
-  taken = taken_in bytes;
-  sends = half_in (drop (9 + taken_size bytes) bytes);
-}
+-- the entry, and how many messages its event sent
+unfoldable pub entry_in : ℕ → List ℕ → Entry
+entry_in number bytes = record { stamp = word_in bytes; event = event_in number bytes }
+
+unfoldable pub count_in : List ℕ → ℕ
+count_in bytes = half_in (drop (9 + taken_size bytes) bytes)
 
 -- the bytes of what it sent, and behind the record
 unfoldable pub sends_at : List ℕ → List ℕ
 sends_at bytes = drop (11 + taken_size bytes) bytes
 
-abbrev pub behind_record : ℕ → List ℕ → List ℕ
-behind_record number bytes = behind_sends (record_in number bytes).sends (sends_at bytes)
+abbrev pub behind_record : List ℕ → List ℕ
+behind_record bytes = behind_sends (count_in bytes) (sends_at bytes)
+
+-- the event with the messages that it took and sent
+abbrev pub logged_in : ℕ → List ℕ → Logged
+logged_in number bytes = record {
+  entry = entry_in number bytes;
+  taken = taken_in bytes;
+  sent = sends_in number (entry_in number bytes).stamp (count_in bytes) (sends_at bytes);
+}
 
 -- the bytes have a record
-pub record HasRecord (number : ℕ) (bytes : List ℕ) : Type 0 where
+pub record HasRecord (bytes : List ℕ) : Type 0 where
   pub front : 11 + taken_size bytes ≤ length bytes
-  pub sends : HasSends (record_in number bytes).sends (sends_at bytes)
+  pub sends : HasSends (count_in bytes) (sends_at bytes)
 
 -- ---- a log
-
--- an event with the messages that it sent
-abbrev pub with_sent : Record → List (ℕ × Msg) → Logged
-with_sent event sent = record { entry = event.entry; taken = event.taken; sent = sent }
-
--- an event with the messages in these bytes
-abbrev pub with_sends : ℕ → Record → List ℕ → Logged
-with_sends number event bytes = with_sent event (sends_in number event.entry.stamp event.sends bytes)
 
 -- so many records of a node
 abbrev pub records_in : ℕ → ℕ → List ℕ → List Logged
 records_in number zero bytes = []
-records_in number (suc n) bytes = with_sends number (record_in number bytes) (sends_at bytes) ∷ records_in number n (behind_record number bytes)
+records_in number (suc n) bytes = logged_in number bytes ∷ records_in number n (behind_record bytes)
 
-abbrev pub HasRecords : ℕ → ℕ → List ℕ → Type 0
-HasRecords number zero bytes = Unit {0}
-HasRecords number (suc n) bytes = HasRecord number bytes × HasRecords number n (behind_record number bytes)
+abbrev pub HasRecords : ℕ → List ℕ → Type 0
+HasRecords zero bytes = Unit {0}
+HasRecords (suc n) bytes = HasRecord bytes × HasRecords n (behind_record bytes)
 
 -- the bytes are the records, and there is room for one more
 pub record ArePacked (number events : ℕ) (bytes : List ℕ) (room capacity : ℕ) : Type 0 where
@@ -216,14 +215,14 @@ pub record ArePacked (number events : ℕ) (bytes : List ℕ) (room capacity : �
 
 -- ---- a log that is read
 
--- the event given last, with its messages
-abbrev pub given_of : ℕ → Option Record → List ℕ → Option Logged
-given_of number None bytes = None
-given_of number (Some event) bytes = Some (with_sends number event bytes)
+-- the event given last, whose record is at the front of these bytes
+abbrev pub given_in : ℕ → Bool → List ℕ → Option Logged
+given_in number true bytes = Some (logged_in number bytes)
+given_in number false bytes = None
 
-abbrev pub read_off : ℕ → Option Record → List ℕ → ℕ → List ℕ → Reading
-read_off number event its_sends left bytes = record { given = given_of number event its_sends; left = records_in number left bytes }
+abbrev pub read_off : ℕ → Bool → List ℕ → ℕ → List ℕ → Reading
+read_off number has_given bytes left rest = record { given = given_in number has_given bytes; left = records_in number left rest }
 
-abbrev pub HasGiven : Option Record → List ℕ → Type 0
-HasGiven None bytes = Unit {0}
-HasGiven (Some event) bytes = HasSends event.sends bytes
+abbrev pub HasGiven : Bool → List ℕ → Type 0
+HasGiven true bytes = HasRecord bytes
+HasGiven false bytes = Unit {0}

@@ -4,7 +4,7 @@ ghost use Rattle.alw_msg.specs.Lists.{front, behind};
 ghost use Rattle.alw_cells.specs.Records.{records_in, HasRecords};
 ghost use Rattle.alw_cells.specs.Logs.{reading_of, after_next, taken_of, sent_of, entry_of};
 
-use crate::records::{Record, record_at, sends_of, sent_at, skip};
+use crate::records::{count_at, entry_at, sends_of, sent_at, skip, taken_at};
 use alw_msg::{Entry, Msg};
 use alw_num::NodeNo;
 use std::marker::Model;
@@ -13,8 +13,8 @@ use std::marker::Model;
 #[derive(Debug, Drop)]
 pub struct Cursor<'a> {
     node: NodeNo,
-    given: Option<Record>,
-    its_sends: &'a [u8],
+    has_given: bool,
+    given: &'a [u8],
     left: u32,
     rest: &'a [u8],
 }
@@ -26,21 +26,21 @@ impl<'a> Model for Cursor<'a> {
 
     ghost Value = { Reading };
 
-    ghost view = { λ c. read_off c.node.0 c.given c.its_sends.now c.left c.rest.now };
+    ghost view = { λ c. read_off c.node.0 c.has_given c.given.now c.left c.rest.now };
 
-    ghost invariant = { λ c. HasGiven c.given c.its_sends.now × HasRecords c.node.0 c.left c.rest.now };
+    ghost invariant = { λ c. HasGiven c.has_given c.given.now × HasRecords c.left c.rest.now };
 }
 
 impl<'a> Cursor<'a> {
     // So many records of a node are read from their beginning.
     pub(crate) fn over(node: NodeNo, count: u32, bytes: &'a [u8]) -> Cursor<'a>
-        requires { HasRecords node.0 count bytes.now }
+        requires { HasRecords count bytes.now }
         ensures { result ≡ reading_of (records_in node.0 count bytes.now) }
     {
         Cursor {
             node,
-            given: None,
-            its_sends: &[],
+            has_given: false,
+            given: bytes,
             left: count,
             rest: bytes,
         }
@@ -52,16 +52,14 @@ impl<'a> Cursor<'a> {
         ensures reading { self.new ≡ after_next self.old }
     {
         if self.left == 0 {
-            self.given = None;
+            self.has_given = false;
             return None;
         }
-        let record = record_at(self.node, self.rest);
-        let its_sends = sends_of(self.rest);
-        self.given = Some(record);
-        self.its_sends = its_sends;
+        self.given = self.rest;
+        self.has_given = true;
         self.left -= 1;
-        self.rest = skip(its_sends, record.sends);
-        Some(record.entry)
+        self.rest = skip(sends_of(self.given), count_at(self.given));
+        Some(entry_at(self.node, self.given))
     }
 
     /// The entry of the event given last. None exactly where the last `next` gave no event or none was asked
@@ -69,7 +67,11 @@ impl<'a> Cursor<'a> {
     pub fn entry(&self) -> Option<Entry>
         ensures { result ≡ option_map entry_of self.now.given }
     {
-        Some(self.given?.entry)
+        if self.has_given {
+            Some(entry_at(self.node, self.given))
+        } else {
+            None
+        }
     }
 
     /// The message that the event given last took. None exactly where it took none, or where the last
@@ -77,7 +79,11 @@ impl<'a> Cursor<'a> {
     pub fn taken(&self) -> Option<Msg>
         ensures { result ≡ taken_of self.now.given }
     {
-        self.given?.taken
+        if self.has_given {
+            taken_at(self.given)
+        } else {
+            None
+        }
     }
 
     /// Message i of those that the event given last sent, with its receiver. None exactly where i is at
@@ -86,12 +92,15 @@ impl<'a> Cursor<'a> {
         ensures sent { option_map (λ send. (send.0.0, send.1)) result ≡ slice_get (sent_of self.now.given) i }
         ensures few { IfSome result (λ send. i < 2 ^ 16) }
     {
-        let given = self.given?;
-        if i >= u32::from(given.sends) {
+        if !self.has_given {
             return None;
         }
-        let rest = skip(self.its_sends, i as u16);
-        let (to, msg) = sent_at(self.node, given.entry.stamp, rest);
+        if i >= u32::from(count_at(self.given)) {
+            return None;
+        }
+        let rest = skip(sends_of(self.given), i as u16);
+        let stamp = entry_at(self.node, self.given).stamp;
+        let (to, msg) = sent_at(self.node, stamp, rest);
         Some((NodeNo(to), msg))
     }
 }

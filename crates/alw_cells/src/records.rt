@@ -1,34 +1,30 @@
 ghost use Rattle.std.specs.Prelude.{◌≡◌, ◌+◌, ◌≤◌, length, drop};
 ghost use Rattle.alw_msg.specs.Kinds.{has_body};
-ghost use Rattle.alw_cells.specs.Records.{word_in, half_in, kind_by, event_in, body_size, body_in, taken_msg, msg_size, sent_msg, sent_size, behind_sends, HasSends, taken_in, taken_size, record_in, sends_at};
+ghost use Rattle.alw_cells.specs.Records.{word_in, half_in, kind_by, event_in, body_size, body_in, taken_msg, msg_size, sent_msg, sent_size, behind_sends, HasSends, taken_in, taken_size, entry_in, count_in, sends_at};
 
 use alw_msg::{Entry, Event, Kind, Msg};
 use alw_num::{Line, LineNo, NodeNo};
 use byteorder::{BigEndian, ByteOrder};
 
-/// One event of a log: its entry, the message that it took, and how many it sent.
-#[derive(Clone, Copy, Debug)]
-pub struct Record {
-    pub entry: Entry,
-    pub taken: Option<Msg>,
-    pub sends: u16,
+/// The entry of the record at the front of the bytes of a node's log.
+#[tactic(auto, unfolding(crate::specs::Records::entry_in))]
+pub fn entry_at(node: NodeNo, bytes: &[u8]) -> Entry
+    requires { 11 ≤ length bytes.now }
+    ensures { result ≡ entry_in node.0 bytes.now }
+{
+    Entry {
+        stamp: word_at(bytes),
+        event: event_at(node, bytes),
+    }
 }
 
-/// The record at the front of the bytes of a node's log.
-#[tactic(auto, unfolding(crate::specs::Records::record_in))]
-pub fn record_at(node: NodeNo, bytes: &[u8]) -> Record
+/// The number of messages that the event of the record at the front sent.
+#[tactic(auto, unfolding(crate::specs::Records::count_in))]
+pub fn count_at(bytes: &[u8]) -> u16
     requires { 11 + taken_size bytes.now ≤ length bytes.now }
-    ensures { result ≡ record_in node.0 bytes.now }
+    ensures { result ≡ count_in bytes.now }
 {
-    let size = size_taken(bytes);
-    Record {
-        entry: Entry {
-            stamp: word_at(bytes),
-            event: event_at(node, bytes),
-        },
-        taken: taken_at(bytes),
-        sends: half_at(&bytes[9 + size..]),
-    }
+    half_at(&bytes[9 + size_taken(bytes)..])
 }
 
 /// The messages that the event of the record at the front sent, and the bytes behind them.
@@ -100,9 +96,9 @@ fn event_at(node: NodeNo, bytes: &[u8]) -> Event
     }
 }
 
-// The message that the event of the record at the front took. Only a delivery takes one.
+/// The message that the event of the record at the front took. Only a delivery takes one.
 #[tactic(auto, unfolding(crate::specs::Records::taken_in, crate::specs::Records::taken_size))]
-fn taken_at(bytes: &[u8]) -> Option<Msg>
+pub fn taken_at(bytes: &[u8]) -> Option<Msg>
     requires { 11 + taken_size bytes.now ≤ length bytes.now }
     ensures { result ≡ taken_in bytes.now }
 {

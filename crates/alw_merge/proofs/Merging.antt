@@ -385,9 +385,6 @@ pub record Stands (readings : List Reading) (head : ℕ) : Type 0 where
   pub key : head ≡ key_of k one.entry
   pub few : k < 65536
 
-plus_zero : (k : ℕ) → 0 + k ≡ k
-plus_zero k = omega arith
-
 pub stands : (readings : List Reading) (heap rest : List (Reverse ℕ)) (head : Reverse ℕ) (size capacity : ℕ) → IsUnderWay readings heap size capacity
     → IsPermutation heap (head ∷ rest) → IsUpperBound heap_cmp head heap → Stands readings head.0
 stands readings heap rest head size capacity under popped bound =
@@ -399,7 +396,7 @@ stands readings heap rest head size capacity under popped bound =
       there = has.is.there;
       given = has.is.given;
       first = goes_on readings heap head has.k has.reading has.logged has.is under.heads bound under.read under.few;
-      key = has.is.key ∙ ap (λ (n : ℕ). key_of n has.logged.entry) (plus_zero has.k);
+      key = has.is.key ∙ ap (λ (n : ℕ). key_of n has.logged.entry) (let e : 0 + has.k ≡ has.k = omega arith in e);
       few = omega (arith, below readings has.k has.reading has.is.there, under.few);
     }
 

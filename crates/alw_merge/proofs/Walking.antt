@@ -4,7 +4,7 @@ use Rattle.std.specs.List.{AllByRecursion}
 use Rattle.std.proofs.Math.Nat.{add-zero}
 use Rattle.std.specs.Option.{option_map}
 use Rattle.std.proofs.lemmas.Bool.{ltb-true, eqb-true}
-use Rattle.std.proofs.lemmas.List.{length-set, length_push, take_more, take_all}
+use Rattle.std.proofs.lemmas.List.{length-set, length-drop, length_push, take_more, take_all}
 use Rattle.std.proofs.lemmas.Option.{same_Some, get_or_from_slice_get}
 use Rattle.alw_num.proofs.Weigh.{at_nodes}
 use Rattle.alw_msg.specs.declared.messages.Msg.{Msg}
@@ -28,6 +28,7 @@ use Rattle.alw_order.proofs.Aimed.{IsAimed, sends_below}
 use Rattle.alw_order.proofs.Reached.{state_aimed}
 use Rattle.alw_order.proofs.JournalLogs.{logged_of}
 use Rattle.alw_links.specs.Traffic.{Traffic, links_with_all}
+use Rattle.alw_tally.specs.declared.happenings.Happened.{Happened}
 use Rattle.alw_tally.specs.Told.{Told, told_of, told_with}
 use Rattle.alw_tally.specs.Tallies.{told_logged}
 use Rattle.alw_tally.proofs.Telling.{told_entry}
@@ -39,9 +40,20 @@ use Rattle.alw_mesh.proofs.Joined.{next_is, one_more}
 use Rattle.alw_cells.specs.Logs.{taken_of, sent_of, entry_of}
 use Rattle.alw_merge.specs.declared.streams.Read.{Read}
 use Rattle.alw_merge.specs.Streams.{IsReadOff}
-use Rattle.alw_merge.specs.Joins.{Course, no_course, course_at, courses_of, course_of, dids_at, happened_at, next_of, next_sent, read_on, AreOf, unheld, IsWalked, MayFollow, Follows}
+use Rattle.alw_merge.specs.Joins.{Course, no_course, course_at, courses_of, course_of, dids_at, happened_at, AreOf, unheld, IsWalked, MayFollow, Follows}
 use Rattle.alw_merge.proofs.Courses.{mine, with_first, course_first, course_other, moment_at}
 use Rattle.alw_merge.proofs.Joining.{courses_long, courses_read}
+
+-- what the next event of a course sent, and what is told of it
+abbrev next_sent : Course → List (ℕ × Msg)
+next_sent course = sent_of (front course.left)
+
+abbrev next_of : ℕ → Course → Happened
+next_of n course = happened_at n course.dids (taken_of (front course.left))
+
+-- the next event has been read
+abbrev read_on : Course → Course
+read_on course = record { left = behind course.left; dids = behind course.dids }
 
 -- what is left of the courses, and what the first so many entries leave and tell
 pub record IsRead (image : Parts) (parameters : Parameters) (journal : List Entry) (i : ℕ) (courses : List Course) (traffic : Traffic) (told : Told) : Type 0 where
@@ -269,10 +281,5 @@ merging_begins image parameters logs dids traffic told as_many are nodes links t
 pub merging_ends : (image : Parts) (parameters : Parameters) (journal so_far : List Entry) (logs : Logs) (dids : List (List Did)) (traffic : Traffic) (told : Told) → merged logs ≡ []
     → IsMerging image parameters journal so_far logs dids traffic told → (so_far ≡ journal) × IsWalked image parameters journal traffic told
 merging_ends image parameters journal so_far logs dids traffic told none merging =
-    let past : length journal ≤ length so_far = nothing_behind journal (length so_far) (sym merging.left_is ∙ none) in
+    let past : length journal ≤ length so_far = omega (arith, length-drop (length so_far) journal, ap length (sym merging.left_is ∙ none)) in
     (merging.front_is ∙ take_all (length so_far) journal past, subst (λ (es : List Entry). IsWalked image parameters es traffic told) (take_all (length so_far) journal past) merging.read.walked)
-  where
-    nothing_behind : (entries : List Entry) (k : ℕ) → drop k entries ≡ [] → length entries ≤ k
-    nothing_behind [] k is = omega arith
-    nothing_behind (first ∷ rest) zero is = absurd (cc)
-    nothing_behind (first ∷ rest) (suc k) is = omega (arith, nothing_behind rest k is)

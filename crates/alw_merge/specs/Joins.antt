@@ -7,7 +7,7 @@ use Rattle.alw_msg.specs.declared.messages.Msg.{Msg}
 use Rattle.alw_msg.specs.declared.events.Event.{Event}
 use Rattle.alw_msg.specs.declared.events.Entry.{Entry}
 use Rattle.alw_msg.specs.Events.{node_of}
-use Rattle.alw_msg.specs.Lists.{front, behind}
+use Rattle.alw_msg.specs.Lists.{behind}
 use Rattle.alw_image.specs.declared.parts.Parts.{Parts}
 use Rattle.alw_image.specs.Images.{node_count}
 use Rattle.alw_image.specs.Parameters.{Parameters}
@@ -23,7 +23,6 @@ use Rattle.alw_tally.specs.Told.{Told, told_of}
 use Rattle.alw_tally.specs.Tallies.{told_logged}
 use Rattle.alw_node.specs.Nodes.{Whole}
 use Rattle.alw_mesh.specs.Keeping.{after_taking, IsWithin}
-use Rattle.alw_cells.specs.Logs.{sent_of, taken_of}
 use Rattle.alw_merge.specs.declared.streams.Read.{Read}
 
 -- the slots with a hold, at all of some nodes
@@ -50,13 +49,10 @@ courses_of [] dids = []
 courses_of (log ∷ logs) [] = []
 courses_of (log ∷ logs) (did_list ∷ dids) = record { left = log; dids = did_list } ∷ courses_of logs dids
 
--- what the next event did, and what it sent
+-- what the next event did
 abbrev pub next_did : List Did → Did
 next_did [] = Took
 next_did (did ∷ rest) = did
-
-abbrev pub next_sent : Course → List (ℕ × Msg)
-next_sent course = sent_of (front course.left)
 
 -- what is left of what a node's events did
 abbrev pub dids_at : List (List Did) → ℕ → List Did
@@ -65,13 +61,6 @@ dids_at rest n = slice_index_or rest n []
 -- what a tally is told of the next event of a node, but for what it sent, where no turn counts as having ended a hold
 abbrev pub happened_at : ℕ → List Did → Option Msg → Happened
 happened_at n dids taken = record { node = record { 0 = n }; did = next_did dids; taken = taken; used = false; pc = 0 }
-
-abbrev pub next_of : ℕ → Course → Happened
-next_of n course = happened_at n course.dids (taken_of (front course.left))
-
--- the next event has been read
-abbrev pub read_on : Course → Course
-read_on course = record { left = behind course.left; dids = behind course.dids }
 
 -- ---- the events of a journal
 

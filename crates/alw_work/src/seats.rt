@@ -89,20 +89,23 @@ impl<I: Naming> Locked<I> {
     }
 
     /// One turn of a worker: what has come is taken in, the cell takes one step, and what it sent goes
-    /// onto the links.
+    /// onto the links. Answers whether the cell did anything. A trapping turn stops all workers.
     pub fn turn<R: Wait>(
         &mut self,
         rt: &R,
         links: &[Link],
         signs: &Signs,
         pick: u32,
-    ) -> Result<Stepped, NoMemory>
+    ) -> Result<bool, NoMemory>
         requires { links.now ≡ I.links }
     {
         self.take_in(rt, links, signs)?;
-        let stepped = self.act(pick)?;
+        let has_acted = self.act(pick)?;
+        if self.trapped {
+            signs.stop();
+        }
         self.give_out(rt, links, signs);
-        Ok(stepped)
+        Ok(has_acted)
     }
 
     // Takes in what has come.
@@ -122,7 +125,7 @@ impl<I: Naming> Locked<I> {
     }
 
     // Takes one step.
-    fn act(&mut self, pick: u32) -> Result<Stepped, NoMemory> {
+    fn act(&mut self, pick: u32) -> Result<bool, NoMemory> {
         step(&mut self.cell, &mut self.trapped, pick)
     }
 
@@ -166,8 +169,8 @@ impl<I: Naming> Locked<I> {
     }
 }
 
-/// A trapping turn.
-pub fn is_trap(did: Did) -> bool
+// A trapping turn.
+fn is_trap(did: Did) -> bool
     ensures { result ≡ works.is_trap did }
 {
     matches!(
@@ -179,18 +182,18 @@ pub fn is_trap(did: Did) -> bool
     )
 }
 
-// One step, which is marked where it is a trapping turn.
-fn step(cell: &mut NodeCell, trapped: &mut bool, pick: u32) -> Result<Stepped, NoMemory>
+// One step, which is marked where it is a trapping turn. Answers whether the cell did anything.
+fn step(cell: &mut NodeCell, trapped: &mut bool, pick: u32) -> Result<bool, NoMemory>
     ensures same { IsOfNode cell.old cell.new }
     ensures marked { IsMarked trapped.old cell.old → IsMarked trapped.new cell.new }
     ensures works { Works cell.old cell.new }
 {
     let _stands = cell.log();
     match cell.step(pick)? {
-        Stepped::Did { entry, did } => {
+        Stepped::Did { did, .. } => {
             *trapped |= is_trap(did);
-            Ok(Stepped::Did { entry, did })
+            Ok(true)
         }
-        Stepped::Idle => Ok(Stepped::Idle),
+        Stepped::Idle => Ok(false),
     }
 }

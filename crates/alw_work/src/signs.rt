@@ -1,36 +1,39 @@
-use alw_num::{MOST_NODES, NoMemory, NodeNo, NodeSet};
+use alw_num::{NoMemory, NodeNo, NodeSet};
 use std::alloc::Global;
 use std::sync::atomic::{AtomicBool, AtomicU64, Ordering};
 
-// The number of nodes in a word of marks, and of words for each node.
+// The number of nodes in a word of marks, and the most words for each node.
 const WORD_NODES: u16 = 64;
 
-const NODE_WORDS: usize = 4;
+const NODE_WORDS: u16 = 4;
 
 /// What workers tell each other beside the messages: for each node, from which nodes its links may have
 /// something; and that all are to stop. No clause speaks of it.
 #[derive(Drop)]
 pub struct Signs {
     marks: Vec<AtomicU64>,
+    words: u16,
     stop: AtomicBool,
 }
 
 impl Signs {
-    /// No mark for any node, and nobody is to stop.
-    pub fn none(alloc: Global) -> Result<Signs, NoMemory> {
+    /// No mark for any of so many nodes, and nobody is to stop.
+    pub fn none(alloc: Global, nodes: u16) -> Result<Signs, NoMemory> {
+        let words = nodes / WORD_NODES + 1;
         let mut marks = Vec::new(alloc);
-        for _ in 0..usize::from(MOST_NODES) * NODE_WORDS {
+        for _ in 0..u32::from(nodes) * u32::from(words) {
             marks.push(AtomicU64::new(0))?;
         }
         Ok(Signs {
             marks,
+            words,
             stop: AtomicBool::new(false),
         })
     }
 
     /// There may be something for a node on its link from another.
     pub fn mark(&self, node: NodeNo, from: NodeNo) {
-        let word = usize::from(node.0) * NODE_WORDS + usize::from(from.0 / WORD_NODES);
+        let word = self.first(node) as usize + usize::from(from.0 / WORD_NODES);
         if let Some(marks) = self.marks.get(word) {
             marks.fetch_or(1 << (from.0 % WORD_NODES), Ordering::SeqCst);
         }
@@ -38,11 +41,17 @@ impl Signs {
 
     /// The nodes whose links to a node are marked, and marks them no longer.
     pub fn take(&self, node: NodeNo) -> NodeSet {
-        let first = usize::from(node.0) * NODE_WORDS;
-        NodeSet {
-            low: u128::from(self.word(first)) | u128::from(self.word(first + 1)) << 64,
-            high: u128::from(self.word(first + 2)) | u128::from(self.word(first + 3)) << 64,
+        let first = self.first(node) as usize;
+        let mut set = NodeSet::empty();
+        for word in 0..self.words.min(NODE_WORDS) {
+            let bits = u128::from(self.word(first + usize::from(word))) << (word % 2 * WORD_NODES);
+            if word < 2 {
+                set.low |= bits;
+            } else {
+                set.high |= bits;
+            }
         }
+        set
     }
 
     /// All workers are to stop.
@@ -53,6 +62,11 @@ impl Signs {
     /// Whether all workers are to stop.
     pub fn has_stopped(&self) -> bool {
         self.stop.load(Ordering::SeqCst)
+    }
+
+    // The place of the first word of a node.
+    fn first(&self, node: NodeNo) -> u32 {
+        u32::from(node.0) * u32::from(self.words)
     }
 
     // A word of marks, which is then empty. It is written only where it isn't.

@@ -2,9 +2,8 @@ ghost use Rattle.std.specs.Prelude.{◌≡◌, ◌<◌, ◌^◌};
 
 use crate::gates::Gate;
 use crate::ready::{Counting, Ready};
-use crate::seats::{Locked, Naming, is_trap};
+use crate::seats::{Locked, Naming};
 use crate::signs::Signs;
-use alw_cells::Stepped;
 use alw_num::{Draws, NoMemory};
 use alw_ruled::Link;
 use std::alloc::Global;
@@ -34,7 +33,7 @@ pub fn work<I: Naming + Counting + Send + Sync, R: Threads + Wait + Sync, G: Gat
     requires links { links.now ≡ I.links }
 {
     let (ready, _filler) = Ready::<I>::start(rt, alloc, u32::from(nodes))?;
-    let signs = Signs::none(alloc)?;
+    let signs = Signs::none(alloc, nodes)?;
     let (queue, told) = (&ready, &signs);
     let ends = thread::map_indices(
         rt,
@@ -110,10 +109,10 @@ fn visit<I: Naming, R: Wait, G: Gate>(
     let mut seat = lock.lock(rt);
     let mut has_acted = false;
     for _ in 0..MOST_TURNS {
-        match turn(rt, &mut seat, links, signs, draws.draw())? {
-            Stepped::Did { .. } => has_acted = true,
-            Stepped::Idle => return Ok(has_acted),
+        if !turn(rt, &mut seat, links, signs, draws.draw())? {
+            return Ok(has_acted);
         }
+        has_acted = true;
         if signs.has_stopped() {
             return Ok(has_acted);
         }
@@ -121,21 +120,19 @@ fn visit<I: Naming, R: Wait, G: Gate>(
     Ok(has_acted)
 }
 
-// One turn at a node. A trapping turn and want of memory stop all workers.
+// One turn at a node. Answers whether the node did anything. Want of memory stops all workers.
 fn turn<I: Naming, R: Wait>(
     rt: &R,
     seat: &mut Locked<I>,
     links: &[Link],
     signs: &Signs,
     pick: u32,
-) -> Result<Stepped, NoMemory>
+) -> Result<bool, NoMemory>
     requires { links.now ≡ I.links }
 {
-    let stepped = seat.turn(rt, links, signs, pick);
-    match stepped {
-        Ok(Stepped::Did { did, .. }) if is_trap(did) => signs.stop(),
-        Ok(_) => {}
-        Err(NoMemory) => signs.stop(),
+    let turned = seat.turn(rt, links, signs, pick);
+    if turned.is_err() {
+        signs.stop();
     }
-    stepped
+    turned
 }

@@ -9,5 +9,5 @@ returns-clause-ascends c = subst (λ (w : Written). Ascends w.entries) c.self.vi
 
 pub over-requires : goal.over-requires
 over-requires c =
-    subst (HasRecords c.self.inside.node.0 c.self.inside.events) (sym c.deref.ensures.value)
+    subst (HasRecords c.self.inside.events) (sym c.deref.ensures.value)
     (readable c.self.inside.node.0 c.self.inside.events c.self.inside.bytes.items c.self.invariant.packed c.self.invariant.records)
