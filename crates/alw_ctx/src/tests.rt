@@ -10,37 +10,77 @@ const SMALLEST: [u8; 40] = [
     0x91, 0xd0, 0x20, 0, 0, 0, 0, 0, 0, 0, 0, 0,
 ];
 
-// The one context waits on line 3, and wakes by the end of a transaction on that line alone. A hold
-// stays until it has run.
+const LINE: LineNo = LineNo(3);
+
+const OTHER: LineNo = LineNo(5);
+
+// The contexts of the node with one.
+fn one_slot(alloc: Global) -> Result<Contexts, Fail> {
+    let image = read_image(alloc, &SMALLEST)?;
+    if image.width() != 1 || image.height() != 1 {
+        return Err(Fail::from("no image of one node"));
+    }
+    Ok(Contexts::start(&image, NodeNo(0)))
+}
+
+// How many contexts there are, the one that runs next, and the one that ran last.
+fn turns(contexts: &Contexts) -> (u8, Option<u8>, u8) {
+    (contexts.count(), contexts.current(), contexts.last())
+}
+
+// The status of a slot, and the line that it holds, where there is such a slot.
+fn slot(contexts: &Contexts, slot: u8) -> Option<(Status, Option<LineNo>)> {
+    if slot < contexts.count() {
+        Some((contexts.status(slot), contexts.held(slot)))
+    } else {
+        None
+    }
+}
+
+// The address of the next instruction and the number of the node, as a slot's registers have them.
+fn registers(contexts: &Contexts, slot: u8) -> Option<(u32, u32)> {
+    if slot < contexts.count() {
+        let regs = contexts.regs(slot);
+        Some((regs.npc, regs.r[9]))
+    } else {
+        None
+    }
+}
+
+// At the start the one context is ready.
+#[test]
+fn starts_ready(rt: HostRuntime) -> Result<(), Fail> {
+    let contexts = one_slot(rt.alloc())?;
+    assert_eq!(rt; turns(&contexts), (1, Some(0), 0));
+    assert_eq!(rt; slot(&contexts, 0), Some((Status::Ready, None)));
+    assert_eq!(rt; registers(&contexts, 0), Some((4, 1)));
+    Ok(())
+}
+
+// The one context waits on line 3, and wakes by the end of a transaction on that line alone.
 #[test]
 fn waits_and_wakes(rt: HostRuntime) -> Result<(), Fail> {
-    let image = read_image(rt.alloc(), &SMALLEST)?;
-    assert_eq!(rt; image.width(), 1);
-    assert_eq!(rt; image.height(), 1);
-    let mut contexts = Contexts::start(&image, NodeNo(0));
-    assert_eq!(rt; contexts.count(), 1);
-    assert_eq!(rt; contexts.current(), Some(0));
-    assert_eq!(rt; contexts.last(), 0);
-    assert_eq!(rt; contexts.status(0), Status::Ready);
-    let regs = contexts.regs(0);
-    assert_eq!(rt; regs.npc, 4);
-    assert_eq!(rt; regs.r[9], 1);
-    let waiting = Status::Waiting { line: LineNo(3) };
-    contexts.ran(0, regs, waiting);
-    assert_eq!(rt; contexts.count(), 1);
-    assert_eq!(rt; contexts.status(0), waiting);
+    let waiting = Status::Waiting { line: LINE };
+    let mut contexts = one_slot(rt.alloc())?;
+    run(&mut contexts, 0, waiting);
+    assert_eq!(rt; turns(&contexts), (1, None, 0));
+    assert_eq!(rt; slot(&contexts, 0), Some((waiting, None)));
+    contexts.wake(OTHER);
     assert_eq!(rt; contexts.current(), None);
-    contexts.wake(LineNo(2));
-    assert_eq!(rt; contexts.current(), None);
-    contexts.wake(LineNo(3));
-    assert_eq!(rt; contexts.current(), Some(0));
-    assert_eq!(rt; contexts.count(), 1);
-    contexts.hold(0, LineNo(3));
-    assert_eq!(rt; contexts.count(), 1);
-    assert_eq!(rt; contexts.held(0), Some(LineNo(3)));
-    assert!(rt; contexts.is_held(LineNo(3)) && !contexts.is_held(LineNo(2)));
-    assert_eq!(rt; contexts.holds(), 1);
-    contexts.ran(0, regs, Status::Halted);
+    contexts.wake(LINE);
+    assert_eq!(rt; turns(&contexts), (1, Some(0), 0));
+    Ok(())
+}
+
+// A hold stays until its context has run.
+#[test]
+fn holds_until_it_ran(rt: HostRuntime) -> Result<(), Fail> {
+    let mut contexts = one_slot(rt.alloc())?;
+    hold(&mut contexts, 0, LINE);
+    assert_eq!(rt; slot(&contexts, 0), Some((Status::Ready, Some(LINE))));
+    assert!(rt; contexts.is_held(LINE) && !contexts.is_held(OTHER));
+    assert_eq!(rt; (contexts.count(), contexts.holds()), (1, 1));
+    run(&mut contexts, 0, Status::Halted);
     assert_eq!(rt; contexts.holds(), 0);
     assert_eq!(rt; contexts.current(), None);
     Ok(())
@@ -51,10 +91,6 @@ const FOUR_SLOTS: [u8; 56] = [
     0x41, 0x4c, 0x45, 0x57, 0, 1, 1, 1, 4, 0, 0, 8, 0, 0, 0, 1, 0, 0, 0, 0, 0, 0, 0, 3, 0, 0, 0, 0,
     0x91, 0xd0, 0x20, 0, 0, 0, 0, 0, 0, 0, 0, 0, 0, 0, 1, 0, 0, 0, 0, 0, 0, 0, 3, 0, 0, 0, 0, 0,
 ];
-
-const LINE: LineNo = LineNo(3);
-
-const OTHER: LineNo = LineNo(5);
 
 // The contexts of the node with four slots.
 fn four_slots(alloc: Global) -> Result<Contexts, Fail> {
