@@ -1,6 +1,9 @@
+ghost use Rattle.std.specs.Prelude.{◌≡◌, IfOk};
+
 use crate::{Hop, Hops, Port, route_next};
 use alw_msg::{Kind, Msg};
 use alw_num::{Line, LineNo, NodeNo};
+use std::alloc::Global;
 use std::test::Fail;
 
 // A message that its stamp tells from others.
@@ -12,10 +15,6 @@ fn stamped(stamp: u32) -> Msg {
         stamp,
         body: Line::ZERO,
     }
-}
-
-fn crossed(node: u16) -> Hop {
-    Hop::Crossed { to: NodeNo(node) }
 }
 
 fn arrived(node: u16) -> Hop {
@@ -44,34 +43,77 @@ fn columns_first(rt: HostRuntime) -> Result<(), Fail> {
     Ok(())
 }
 
-// Three columns and two rows: two messages from node 0 to node 5, and one from node 1 to node 5. The one from node 1 comes
-// between the two at node 1, and the two arrive in order.
-#[test]
-fn two_and_one(rt: HostRuntime) -> Result<(), Fail> {
-    let mut hops = Hops::start(rt.alloc(), 3, 2)?;
+// The hops that bring the messages of `two_and_one` to node 5: a node, its port, and what the hop does.
+const HOPS: [(u16, Port, Hop); 11] = [
+    (0, Port::Local, Hop::Crossed { to: NodeNo(1) }),
+    (1, Port::Local, Hop::Crossed { to: NodeNo(2) }),
+    (0, Port::Local, Hop::Crossed { to: NodeNo(1) }),
+    (1, Port::West, Hop::Crossed { to: NodeNo(2) }),
+    (2, Port::West, Hop::Crossed { to: NodeNo(5) }),
+    (1, Port::West, Hop::Crossed { to: NodeNo(2) }),
+    (2, Port::West, Hop::Crossed { to: NodeNo(5) }),
+    (5, Port::North, Hop::Arrived { from: NodeNo(1) }),
+    (5, Port::North, Hop::Arrived { from: NodeNo(0) }),
+    (2, Port::West, Hop::Crossed { to: NodeNo(5) }),
+    (5, Port::North, Hop::Arrived { from: NodeNo(0) }),
+];
+
+// Three columns and two rows: two messages from node 0 to node 5, and one from node 1 to node 5.
+fn sent(alloc: Global) -> Result<Hops, Fail>
+    ensures wide { IfOk result (λ hops. hops.width ≡ 3) }
+    ensures high { IfOk result (λ hops. hops.height ≡ 2) }
+{
+    let mut hops = Hops::start(alloc, 3, 2)?;
     hops.inject(NodeNo(0), NodeNo(5), stamped(1))?;
     hops.inject(NodeNo(0), NodeNo(5), stamped(2))?;
     hops.inject(NodeNo(1), NodeNo(5), stamped(3))?;
-    for (at, port, done) in [
-        (0, Port::Local, crossed(1)),
-        (1, Port::Local, crossed(2)),
-        (0, Port::Local, crossed(1)),
-        (1, Port::West, crossed(2)),
-        (2, Port::West, crossed(5)),
-        (1, Port::West, crossed(2)),
-        (2, Port::West, crossed(5)),
-        (5, Port::North, arrived(1)),
-        (5, Port::North, arrived(0)),
-        (2, Port::West, crossed(5)),
-        (5, Port::North, arrived(0)),
-    ] {
-        assert!(rt; at < 6 && hops.holds(NodeNo(at), port) && !hops.empty());
-        assert_eq!(rt; hops.hop(NodeNo(at), port)?, done);
+    Ok(hops)
+}
+
+// A hop from a queue of one of six nodes. None where that queue is empty.
+fn hop(hops: &mut Hops, at: u16, port: Port) -> Result<Option<Hop>, Fail>
+    requires wide { hops.old.width ≡ 3 }
+    requires high { hops.old.height ≡ 2 }
+    ensures wide { hops.new.width ≡ 3 }
+    ensures high { hops.new.height ≡ 2 }
+{
+    if at >= 6 || !hops.holds(NodeNo(at), port) || hops.empty() {
+        return Ok(None);
+    }
+    Ok(Some(hops.hop(NodeNo(at), port)?))
+}
+
+// The message from node 1 comes between the two from node 0 at node 1.
+#[test]
+fn two_and_one(rt: HostRuntime) -> Result<(), Fail> {
+    let mut hops = sent(rt.alloc())?;
+    for (at, port, done) in HOPS {
+        assert_eq!(rt; hop(&mut hops, at, port)?, Some(done));
     }
     assert!(rt; hops.empty());
+    Ok(())
+}
+
+// The two messages from node 0 arrive in order.
+#[test]
+fn two_arrive_in_order(rt: HostRuntime) -> Result<(), Fail> {
+    let mut hops = sent(rt.alloc())?;
+    for (at, port, done) in HOPS {
+        assert_eq!(rt; hop(&mut hops, at, port)?, Some(done));
+    }
     let list = hops.arrivals(NodeNo(0), NodeNo(5));
     assert_eq!(rt; list.len(), 2);
     assert_eq!(rt; (list.at(0), list.at(1)), (stamped(1), stamped(2)));
+    Ok(())
+}
+
+// The three messages have crossed the wires of their routes, and no other.
+#[test]
+fn crossings_of_two_and_one(rt: HostRuntime) -> Result<(), Fail> {
+    let mut hops = sent(rt.alloc())?;
+    for (at, port, done) in HOPS {
+        assert_eq!(rt; hop(&mut hops, at, port)?, Some(done));
+    }
     for (a, b, count) in [(0, 1, 2), (1, 2, 3), (2, 5, 3), (0, 3, 0), (1, 0, 0)] {
         assert!(rt; a < 6 && b < 6);
         assert_eq!(rt;
