@@ -5,6 +5,7 @@ use alw_msg::{Kind, Msg, Sends};
 use alw_num::{Line, LineNo, NodeNo, State};
 use sparc_table::Outcome;
 use std::alloc::Global;
+use std::process::Abort;
 use std::test::Fail;
 
 // What an event did, and whether it ended a hold.
@@ -179,6 +180,22 @@ fn told(alloc: Global, image: &Image, rows: &[Row]) -> Result<Tally, Fail> {
     Ok(tally)
 }
 
+// A tally has these counts.
+fn expect_counts(rt: &impl Abort, tally: &Tally, counts: &Counts) {
+    assert_eq!(rt; tally.counts(), *counts);
+}
+
+// A tally has these turns, as the contexts that took them, and these prints.
+fn expect_lists(rt: &impl Abort, tally: &Tally, turns: &[u32], prints: &[(u32, u32)]) {
+    assert_eq!(rt; tally.turns(), turns);
+    assert_eq!(rt; tally.prints(), prints);
+}
+
+// A tally has noted this trap, or none.
+fn expect_trap(rt: &impl Abort, tally: &Tally, trap: Option<TrapAt>) {
+    assert_eq!(rt; tally.trap(), trap);
+}
+
 // Two nodes store in one line, and the first then loads it: 21 entries, 8 turns, 3 misses, 4 hops.
 #[test]
 fn two_writers(rt: HostRuntime) -> Result<(), Fail> {
@@ -199,12 +216,9 @@ fn two_writers(rt: HostRuntime) -> Result<(), Fail> {
         used: 3,
         ..Counts::default()
     };
-    assert_eq!(rt; tally.counts(), counts);
-    let turns: &[u32] = &[0, 0, 1, 1, 1, 0, 0, 0];
-    assert_eq!(rt; tally.turns(), turns);
-    let prints: &[(u32, u32)] = &[(0, 1)];
-    assert_eq!(rt; tally.prints(), prints);
-    assert_eq!(rt; tally.trap(), None);
+    expect_counts(&rt, &tally, &counts);
+    expect_lists(&rt, &tally, &[0, 0, 1, 1, 1, 0, 0, 0], &[(0, 1)]);
+    expect_trap(&rt, &tally, None);
     Ok(())
 }
 
@@ -233,7 +247,7 @@ fn trap_always(rt: HostRuntime) -> Result<(), Fail> {
         used: 2,
         ..Counts::default()
     };
-    assert_eq!(rt; tally.counts(), counts);
+    expect_counts(&rt, &tally, &counts);
     let (turns, prints) = tally.into_parts();
     let contexts: &[u32] = &[1, 1, 0, 0, 0, 1];
     assert_eq!(rt; turns.members(), contexts);
@@ -289,8 +303,7 @@ fn first_trap_is_named(rt: HostRuntime) -> Result<(), Fail> {
         pc: 4,
         tt: 7,
     };
-    assert_eq!(rt; tally.trap(), Some(at));
-    let turns: &[u32] = &[0, 3, 0];
-    assert_eq!(rt; tally.turns(), turns);
+    expect_trap(&rt, &tally, Some(at));
+    expect_lists(&rt, &tally, &[0, 3, 0], &[]);
     Ok(())
 }
