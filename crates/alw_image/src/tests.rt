@@ -1,5 +1,8 @@
+ghost use Rattle.std.specs.Prelude.{◌<◌, ◌↔◌, IsTrue};
+ghost use Rattle.alw_image.specs.Images.{node_count};
+
 use crate::*;
-use alw_num::{Line, LineNo, NoMemory, NodeNo};
+use alw_num::{Bytes, Line, LineNo, NoMemory, NodeNo};
 use std::alloc::Global;
 use std::test::Fail;
 
@@ -102,22 +105,83 @@ fn fault(alloc: Global, bytes: &[u8]) -> Option<ImageErr> {
     read_image(alloc, bytes).err()
 }
 
+// The image that bytes spell.
+fn image_of(alloc: Global, bytes: &[u8]) -> Result<Image, Fail> {
+    Ok(read_image(alloc, bytes)?)
+}
+
+// The bytes of an image.
+fn bytes_of(alloc: Global, image: &Image) -> Result<Bytes, Fail> {
+    Ok(write_image(alloc, image)?)
+}
+
+// Columns, rows, contexts of a node and lines of a node.
+fn sizes(image: &Image) -> (u8, u8, u8, u16) {
+    (
+        image.width(),
+        image.height(),
+        image.contexts(),
+        image.per_node(),
+    )
+}
+
+// Columns and rows.
+fn sides(image: &Image) -> (u8, u8) {
+    (image.width(), image.height())
+}
+
+// The words of the program.
+fn code_words(image: &Image) -> &[u32] {
+    image.code().words()
+}
+
+// What an image of one node says of a line: its bytes at the start, and whether it is Trap-Always.
+fn line_of(image: &Image, number: u32) -> Option<(Line, bool)> {
+    let one_node = image.width() == 1 && image.height() == 1;
+    if !one_node || number >= u32::from(image.per_node()) {
+        return None;
+    }
+    Some((image.body(LineNo(number)), image.always(LineNo(number))))
+}
+
+// The first and the last word of such a line, and whether it is Trap-Always.
+fn ends_of(image: &Image, number: u32) -> Option<(u32, u32, bool)> {
+    let (body, always) = line_of(image, number)?;
+    Some((body.a, body.d, always))
+}
+
+// The address at which an image of one node starts its first slot.
+fn first_start(image: &Image) -> Option<u32> {
+    if image.width() != 1 || image.height() != 1 || image.contexts() < 1 {
+        return None;
+    }
+    image.start(0)
+}
+
+// The address at which an image of one node starts its second slot.
+fn second_start(image: &Image) -> Option<u32> {
+    if image.width() != 1 || image.height() != 1 || image.contexts() < 2 {
+        return None;
+    }
+    image.start(1)
+}
+
+// The smallest image, part by part.
 #[test]
 fn smallest(rt: HostRuntime) -> Result<(), Fail> {
-    let image = read_image(rt.alloc(), &smallest_bytes())?;
-    assert!(rt; image.width() == 1 && image.height() == 1);
-    assert!(rt; image.contexts() == 1 && image.per_node() == 1);
-    assert_eq!(rt; image.code().words(), [0x91d0_2000].as_slice());
-    assert_eq!(rt; image.body(LineNo(0)), Line::ZERO);
-    assert_eq!(rt; image.start(0), Some(0));
-    assert!(rt; !image.always(LineNo(0)));
+    let image = image_of(rt.alloc(), &smallest_bytes())?;
+    assert_eq!(rt; sizes(&image), (1, 1, 1, 1));
+    assert_eq!(rt; code_words(&image), [0x91d0_2000].as_slice());
+    assert_eq!(rt; line_of(&image, 0), Some((Line::ZERO, false)));
+    assert_eq!(rt; first_start(&image), Some(0));
     Ok(())
 }
 
+// The smallest image is written as it was read.
 #[test]
 fn smallest_written(rt: HostRuntime) -> Result<(), Fail> {
-    let image = read_image(rt.alloc(), &smallest_bytes())?;
-    let written = write_image(rt.alloc(), &image)?;
+    let image = image_of(rt.alloc(), &smallest_bytes())?;
+    let written = bytes_of(rt.alloc(), &image)?;
     assert_eq!(rt; written.bytes(), smallest_bytes().as_slice());
     Ok(())
 }
@@ -186,68 +250,125 @@ fn ranges(rt: HostRuntime) {
     }
 }
 
-// The numbers of lines, the last byte that each has at the start, and whether it is Trap-Always.
-fn line_cases() -> [(u32, u32, bool); 4] {
-    [(0, 0, false), (1, 0, true), (2, 7, false), (3, 0, true)]
+// The numbers of lines, the first and the last word of each at the start, and whether it is Trap-Always.
+fn line_cases() -> [(u32, u32, u32, bool); 4] {
+    [
+        (0, 5, 0, false),
+        (1, 0, 0, true),
+        (2, 0, 7, false),
+        (3, 0, 0, true),
+    ]
 }
 
+// The image with tables, part by part.
 #[test]
 fn tables(rt: HostRuntime) -> Result<(), Fail> {
-    let image = read_image(rt.alloc(), &table_bytes())?;
-    assert!(rt; image.width() == 1 && image.height() == 1);
-    assert!(rt; image.contexts() == 2 && image.per_node() == 4);
-    for (number, last, listed) in line_cases() {
-        assert!(rt; number < 4);
-        assert_eq!(rt; image.always(LineNo(number)), listed);
-        assert_eq!(rt; image.body(LineNo(number)).d, last);
+    let image = image_of(rt.alloc(), &table_bytes())?;
+    assert_eq!(rt; sizes(&image), (1, 1, 2, 4));
+    for (number, first, last, listed) in line_cases() {
+        assert_eq!(rt; ends_of(&image, number), Some((first, last, listed)));
     }
-    assert_eq!(rt; image.body(LineNo(0)).a, 5);
-    assert_eq!(rt; image.start(0), Some(0));
-    assert_eq!(rt; image.start(1), Some(0));
+    assert_eq!(rt; first_start(&image), Some(0));
+    assert_eq!(rt; second_start(&image), Some(0));
     Ok(())
+}
+
+// A line that isn't zero.
+const SOME: Line = Line {
+    a: 0,
+    b: 0,
+    c: 0,
+    d: 7,
+};
+
+// The starts of slot 0 of two nodes.
+fn two_starts(alloc: Global) -> Result<Starts, NoMemory> {
+    Starts::from_slice(alloc, &[(NodeNo(0), 0, 0), (NodeNo(1), 0, 0)])
+}
+
+// Data lines 1 and 2.
+fn two_bodies(alloc: Global) -> Result<Bodies, NoMemory> {
+    Bodies::from_slice(alloc, &[(LineNo(1), SOME), (LineNo(2), SOME)])
 }
 
 // Two nodes of two lines each: data lines 1 and 2, starts of both, and Trap-Always lines 0 and 3.
 fn two_nodes(alloc: Global) -> Result<Parts, NoMemory> {
-    let mut parts = mesh(alloc, 2, 1)?;
-    parts.per_node = 2;
-    let mut starts = Starts::empty(alloc);
-    starts.push((NodeNo(0), 0, 0))?;
-    starts.push((NodeNo(1), 0, 0))?;
-    parts.starts = starts;
-    let some = Line { d: 7, ..Line::ZERO };
-    let mut bodies = Bodies::empty(alloc);
-    bodies.push((LineNo(1), some))?;
-    bodies.push((LineNo(2), some))?;
-    parts.bodies = bodies;
-    let mut always = LineList::empty(alloc);
-    always.push(0)?;
-    always.push(3)?;
-    parts.always = always;
-    Ok(parts)
+    Ok(Parts {
+        width: 2,
+        height: 1,
+        contexts: 1,
+        per_node: 2,
+        code: Code::from_slice(alloc, &[0x91d0_2000])?,
+        bodies: two_bodies(alloc)?,
+        starts: two_starts(alloc)?,
+        always: LineList::from_slice(alloc, &[0, 3])?,
+    })
 }
 
+// The image of these parts.
+fn image_from(parts: Parts) -> Result<Image, Fail> {
+    match Image::from_parts(parts) {
+        Some(image) => Ok(image),
+        None => Err(Fail::new("no image")),
+    }
+}
+
+// No image has these parts.
+fn is_refused(parts: Parts) -> bool {
+    Image::from_parts(parts).is_none()
+}
+
+// The mesh has this node.
+fn has_node(image: &Image, node: NodeNo) -> bool
+    ensures { IsTrue result ↔ (node.0 < node_count image.now) }
+{
+    node.0 < u16::from(image.width()) * u16::from(image.height())
+}
+
+// The data lines of a node.
+fn bodies_of(image: &Image, node: NodeNo) -> Option<&[(LineNo, Line)]> {
+    if !has_node(image, node) {
+        return None;
+    }
+    Some(image.bodies_of(node))
+}
+
+// The starts of a node.
+fn starts_of(image: &Image, node: NodeNo) -> Option<&[(NodeNo, u8, u32)]> {
+    if !has_node(image, node) {
+        return None;
+    }
+    Some(image.starts_of(node))
+}
+
+// The Trap-Always lines of a node.
+fn always_of(image: &Image, node: NodeNo) -> Option<&[u32]> {
+    if !has_node(image, node) {
+        return None;
+    }
+    Some(image.always_of(node))
+}
+
+// Each of two nodes has its own part of each table.
 #[test]
 fn parts_of_a_node(rt: HostRuntime) -> Result<(), Fail> {
-    let Some(image) = Image::from_parts(two_nodes(rt.alloc())?) else {
-        return Err(Fail::new("no image"));
-    };
-    assert!(rt; image.width() == 2 && image.height() == 1);
+    let image = image_from(two_nodes(rt.alloc())?)?;
+    assert_eq!(rt; sides(&image), (2, 1));
     for (node, body, always) in [(0, 1, 0), (1, 2, 3)] {
         let node = NodeNo(node);
-        let some = Line { d: 7, ..Line::ZERO };
-        assert_eq!(rt; image.bodies_of(node), [(LineNo(body), some)].as_slice());
-        assert_eq!(rt; image.starts_of(node), [(node, 0, 0)].as_slice());
-        assert_eq!(rt; image.always_of(node), [always].as_slice());
+        let bodies = [(LineNo(body), SOME)];
+        assert_eq!(rt; bodies_of(&image, node), Some(bodies.as_slice()));
+        assert_eq!(rt; starts_of(&image, node), Some([(node, 0, 0)].as_slice()));
+        assert_eq!(rt; always_of(&image, node), Some([always].as_slice()));
     }
     Ok(())
 }
 
+// The copy of an image is written as the image is.
 #[test]
 fn a_copy_is_written_alike(rt: HostRuntime) -> Result<(), Fail> {
-    let image = read_image(rt.alloc(), &table_bytes())?;
-    let copy = image.copy()?;
-    let written = write_image(rt.alloc(), &copy)?;
+    let image = image_of(rt.alloc(), &table_bytes())?;
+    let written = bytes_of(rt.alloc(), &image.copy()?)?;
     assert_eq!(rt; written.bytes(), table_bytes().as_slice());
     Ok(())
 }
@@ -265,37 +386,40 @@ fn orders(rt: HostRuntime) {
 
 // A mesh of this many columns and rows, whose last node alone starts.
 fn mesh(alloc: Global, width: u8, height: u8) -> Result<Parts, NoMemory> {
-    let mut code = Code::empty(alloc);
-    code.push(0x91d0_2000)?;
-    let mut starts = Starts::empty(alloc);
     let last = (u16::from(width) * u16::from(height)).saturating_sub(1);
-    starts.push((NodeNo(last), 0, 0))?;
     Ok(Parts {
         width,
         height,
         contexts: 1,
         per_node: 1,
-        code,
+        code: Code::from_slice(alloc, &[0x91d0_2000])?,
         bodies: Bodies::empty(alloc),
-        starts,
+        starts: Starts::from_slice(alloc, &[(NodeNo(last), 0, 0)])?,
         always: LineList::empty(alloc),
     })
+}
+
+// The image of a mesh, written.
+fn written_mesh(alloc: Global, width: u8, height: u8) -> Result<Bytes, Fail> {
+    let image = image_from(mesh(alloc, width, height)?)?;
+    bytes_of(alloc, &image)
+}
+
+// The columns and the rows of the image that bytes spell.
+fn sides_read(alloc: Global, bytes: &[u8]) -> Result<(u8, u8), Fail> {
+    let image = image_of(alloc, bytes)?;
+    Ok(sides(&image))
 }
 
 // The version that an image of a mesh is spelled in; it is read back.
 #[test]
 fn meshes(rt: HostRuntime) -> Result<(), Fail> {
     for (width, height, version) in mesh_cases() {
-        let parts = mesh(rt.alloc(), width, height)?;
-        let Some(image) = Image::from_parts(parts) else {
-            return Err(Fail::new("no image"));
-        };
-        let written = write_image(rt.alloc(), &image)?;
+        let written = written_mesh(rt.alloc(), width, height)?;
         let bytes = written.bytes();
-        assert!(rt; bytes.len() == 40);
-        assert_eq!(rt; bytes[5], version);
-        let again = read_image(rt.alloc(), bytes)?;
-        assert!(rt; again.width() == width && again.height() == height);
+        assert_eq!(rt; bytes.len(), 40);
+        assert_eq!(rt; bytes.get(5), Some(&version));
+        assert_eq!(rt; sides_read(rt.alloc(), bytes)?, (width, height));
     }
     Ok(())
 }
@@ -304,7 +428,7 @@ fn meshes(rt: HostRuntime) -> Result<(), Fail> {
 fn meshes_too_large(rt: HostRuntime) -> Result<(), Fail> {
     for (width, height) in [(0, 1), (1, 0), (17, 1), (16, 17)] {
         let parts = mesh(rt.alloc(), width, height)?;
-        assert!(rt; Image::from_parts(parts).is_none());
+        assert!(rt; is_refused(parts));
     }
     Ok(())
 }
@@ -326,7 +450,7 @@ fn two_starts_of_a_context(rt: HostRuntime) -> Result<(), Fail> {
     let mut parts = mesh(rt.alloc(), 2, 2)?;
     assert!(rt; parts.starts.len() == 1);
     parts.starts.push((NodeNo(3), 0, 0))?;
-    assert!(rt; Image::from_parts(parts).is_none());
+    assert!(rt; is_refused(parts));
     Ok(())
 }
 
@@ -335,7 +459,7 @@ fn a_data_line_of_zeros(rt: HostRuntime) -> Result<(), Fail> {
     let mut parts = mesh(rt.alloc(), 2, 2)?;
     assert!(rt; parts.bodies.is_empty());
     parts.bodies.push((LineNo(0), Line::ZERO))?;
-    assert!(rt; Image::from_parts(parts).is_none());
+    assert!(rt; is_refused(parts));
     Ok(())
 }
 
@@ -344,7 +468,7 @@ fn a_line_too_many(rt: HostRuntime) -> Result<(), Fail> {
     let mut parts = mesh(rt.alloc(), 2, 2)?;
     assert!(rt; parts.always.is_empty());
     parts.always.push(4)?;
-    assert!(rt; Image::from_parts(parts).is_none());
+    assert!(rt; is_refused(parts));
     Ok(())
 }
 
@@ -352,7 +476,7 @@ fn a_line_too_many(rt: HostRuntime) -> Result<(), Fail> {
 fn no_code(rt: HostRuntime) -> Result<(), Fail> {
     let mut parts = mesh(rt.alloc(), 2, 2)?;
     parts.code = Code::empty(rt.alloc());
-    assert!(rt; Image::from_parts(parts).is_none());
+    assert!(rt; is_refused(parts));
     Ok(())
 }
 
