@@ -4,13 +4,22 @@ use sparc_assemble::*;
 use std::alloc::Global;
 use std::test::Fail;
 
+// No source here has more bytes.
+const MOST_BYTES: usize = 4096;
+
 // Why a source is refused: nothing where it is assembled.
 fn fault_of(alloc: Global, source: &[u8]) -> Option<AsmErr> {
+    if source.len() > MOST_BYTES {
+        return None;
+    }
     assemble(alloc, source).err()
 }
 
 // What a source is assembled to.
 fn assembled_of(alloc: Global, source: &[u8]) -> Result<Assembled, Fail> {
+    if source.len() > MOST_BYTES {
+        return Err("too long".into());
+    }
     Ok(assemble(alloc, source)?)
 }
 

@@ -116,7 +116,8 @@ fn local(
     taken: Option<Msg>,
     sent: &mut Sends,
 ) -> Option<(u32, Did)> {
-    if sent.len() + sent.free() < 2 || !may(node, event, taken) {
+    let room = u64::from(sent.len()) + u64::from(sent.free());
+    if room < 2 || !may(node, event, taken) {
         return None;
     }
     let did = node.local(event, &taken, sent);
