@@ -41,12 +41,17 @@ fn fault_of(alloc: Global, head: &[u8], tail: &[u8]) -> Result<TextErr, Fail> {
     }
 }
 
+// How many turns a claim has, and the text that it is written as.
+fn read_back(alloc: Global, text: &[u8]) -> Result<(u32, Text), Fail> {
+    let claim = read_claim(alloc, text)?;
+    Ok((claim.turns.len(), write_claim(alloc, &claim)?))
+}
+
 // What is read is written as it was.
 #[test]
 fn a_claim_is_read_back(rt: HostRuntime) -> Result<(), Fail> {
-    let claim = read_claim(rt.alloc(), WORKED)?;
-    assert_eq!(rt; claim.turns.len(), 8_388_608);
-    let text = write_claim(rt.alloc(), &claim)?;
+    let (turns, text) = read_back(rt.alloc(), WORKED)?;
+    assert_eq!(rt; turns, 8_388_608);
     assert_eq!(rt; text.bytes(), WORKED);
     Ok(())
 }

@@ -2,10 +2,11 @@ ghost use Rattle.std.specs.Prelude.{◌≡◌, ◌+◌, OnOk};
 ghost use Rattle.alw_cells.specs.Records.{AreBelow};
 
 use crate::images::{LINK_TO_ITSELF, ONE_NODE, image_of};
+use crate::plays::entry_of;
 use alw_cells::{Log, Logs, links_agree};
 use alw_image::{Params, Starts};
 use alw_merge::{merge, replay_logs, stream};
-use alw_msg::{Entry, Event, Kind, Msg, Sends};
+use alw_msg::{Entry, Event, Journal, Kind, Msg, Sends};
 use alw_num::{Line, LineNo, NodeNo};
 use std::alloc::Global;
 use std::test::Fail;
@@ -14,16 +15,15 @@ const ONE: NodeNo = NodeNo(0);
 
 const OTHER: NodeNo = NodeNo(1);
 
-// A turn of a node.
-fn turn(stamp: u32, node: NodeNo) -> Entry {
-    let event = Event::Instr { node };
-    Entry { stamp, event }
-}
-
-// A message from one node comes to another.
-fn comes(stamp: u32, from: NodeNo, to: NodeNo) -> Entry {
-    let event = Event::Deliver { from, to };
-    Entry { stamp, event }
+// Entries of these rows, as a list.
+fn entries_of(alloc: Global, rows: &str) -> Result<Journal, Fail> {
+    let mut entries = Journal::empty(alloc);
+    for row in rows.split(", ") {
+        if entries.len() < 100 {
+            entries.push(entry_of(row).ok_or("no entry")?)?;
+        }
+    }
+    Ok(entries)
 }
 
 // A message without a line, sent at stamp 2.
@@ -60,7 +60,7 @@ fn put(alloc: Global, log: &mut Log, node: NodeNo, last: u32, entry: Entry) -> R
     Ok(())
 }
 
-// The entries of a node's log.
+// The log of a node with these entries.
 fn log_of(alloc: Global, node: NodeNo, entries: &[Entry]) -> Result<Log, Fail> {
     let mut log = Log::empty(alloc, node);
     let mut last = 0;
@@ -71,70 +71,59 @@ fn log_of(alloc: Global, node: NodeNo, entries: &[Entry]) -> Result<Log, Fail> {
     Ok(log)
 }
 
+// The log of a node with the entries of these rows.
+fn log_of_rows(alloc: Global, node: NodeNo, rows: &str) -> Result<Log, Fail> {
+    log_of(alloc, node, entries_of(alloc, rows)?.members())
+}
+
+const FIRST: &str =
+    "1 I 0, 2 I 0, 3 D 0 0, 4 D 0 0, 5 I 0, 6 D 1 0, 7 D 0 0, 8 D 0 0, 9 I 0, 10 D 0 0, \
+    13 D 1 0, 14 D 0 0, 15 I 0, 16 I 0, 17 I 0";
+
+const SECOND: &str = "1 I 1, 2 I 1, 9 D 0 1, 10 I 1, 11 I 1, 12 D 0 1";
+
+const MERGED: &str =
+    "1 I 0, 1 I 1, 2 I 0, 2 I 1, 3 D 0 0, 4 D 0 0, 5 I 0, 6 D 1 0, 7 D 0 0, 8 D 0 0, \
+    9 I 0, 9 D 0 1, 10 D 0 0, 10 I 1, 11 I 1, 12 D 0 1, 13 D 1 0, 14 D 0 0, 15 I 0, 16 I 0, 17 I 0";
+
+// The logs of both nodes.
+fn two_writers(alloc: Global) -> Result<Logs, Fail> {
+    let mut logs = Logs::empty(alloc);
+    logs.push(log_of_rows(alloc, ONE, FIRST)?)?;
+    logs.push(log_of_rows(alloc, OTHER, SECOND)?)?;
+    Ok(logs)
+}
+
+// The bytes of the first log begin with these.
+fn begins_with(logs: &Logs, bytes: &[u8]) -> bool {
+    !logs.is_empty() && logs.at_ref(0).bytes().starts_with(bytes)
+}
+
+// The merge of logs has these entries.
+fn merges(alloc: Global, logs: &Logs, entries: &[Entry]) -> Result<bool, Fail> {
+    Ok(merge(alloc, logs)?.members() == entries)
+}
+
+// The merge of logs, entry by entry, has these and then ends.
+fn streams(alloc: Global, logs: &Logs, entries: &[Entry]) -> Result<bool, Fail> {
+    let mut merged = stream(alloc, logs)?;
+    for entry in entries {
+        if merged.next() != Some(*entry) {
+            return Ok(false);
+        }
+    }
+    Ok(merged.next().is_none())
+}
+
 // Two nodes store at one address, and one of them loads and prints it.
 #[test]
 fn entries_of_two_writers_merge(rt: HostRuntime) -> Result<(), Fail> {
     let alloc = rt.alloc();
-    let one = [
-        turn(1, ONE),
-        turn(2, ONE),
-        comes(3, ONE, ONE),
-        comes(4, ONE, ONE),
-        turn(5, ONE),
-        comes(6, OTHER, ONE),
-        comes(7, ONE, ONE),
-        comes(8, ONE, ONE),
-        turn(9, ONE),
-        comes(10, ONE, ONE),
-        comes(13, OTHER, ONE),
-        comes(14, ONE, ONE),
-        turn(15, ONE),
-        turn(16, ONE),
-        turn(17, ONE),
-    ];
-    let other = [
-        turn(1, OTHER),
-        turn(2, OTHER),
-        comes(9, ONE, OTHER),
-        turn(10, OTHER),
-        turn(11, OTHER),
-        comes(12, ONE, OTHER),
-    ];
-    let mut logs = Logs::empty(alloc);
-    logs.push(log_of(alloc, ONE, &one)?)?;
-    logs.push(log_of(alloc, OTHER, &other)?)?;
-    let first = [0, 0, 0, 1, 0, 0, 0, 0, 0, 0, 0];
-    assert!(rt; logs.at_ref(0).bytes().starts_with(&first));
-    let merged = [
-        turn(1, ONE),
-        turn(1, OTHER),
-        turn(2, ONE),
-        turn(2, OTHER),
-        comes(3, ONE, ONE),
-        comes(4, ONE, ONE),
-        turn(5, ONE),
-        comes(6, OTHER, ONE),
-        comes(7, ONE, ONE),
-        comes(8, ONE, ONE),
-        turn(9, ONE),
-        comes(9, ONE, OTHER),
-        comes(10, ONE, ONE),
-        turn(10, OTHER),
-        turn(11, OTHER),
-        comes(12, ONE, OTHER),
-        comes(13, OTHER, ONE),
-        comes(14, ONE, ONE),
-        turn(15, ONE),
-        turn(16, ONE),
-        turn(17, ONE),
-    ];
-    let journal = merge(alloc, &logs)?;
-    assert!(rt; journal.members() == merged.as_slice());
-    let mut entries = stream(alloc, &logs)?;
-    for entry in merged {
-        assert_eq!(rt; entries.next(), Some(entry));
-    }
-    assert_eq!(rt; entries.next(), None);
+    let logs = two_writers(alloc)?;
+    assert!(rt; begins_with(&logs, &[0, 0, 0, 1, 0, 0, 0, 0, 0, 0, 0]));
+    let merged = entries_of(alloc, MERGED)?;
+    assert!(rt; merges(alloc, &logs, merged.members())?);
+    assert!(rt; streams(alloc, &logs, merged.members())?);
     Ok(())
 }
 
@@ -173,6 +162,7 @@ fn one_message(alloc: Global, stamp: u32) -> Result<Logs, Fail> {
     Ok(logs)
 }
 
+// Both logs agree on the message of stamp 2 alone.
 #[test]
 fn a_message_with_another_stamp_was_not_sent(rt: HostRuntime) -> Result<(), Fail> {
     let alloc = rt.alloc();
@@ -181,6 +171,7 @@ fn a_message_with_another_stamp_was_not_sent(rt: HostRuntime) -> Result<(), Fail
     Ok(())
 }
 
+// A message stands in the bytes of the log that sends it, and in those of the log that takes it.
 #[test]
 fn messages_are_packed(rt: HostRuntime) -> Result<(), Fail> {
     let alloc = rt.alloc();
@@ -193,15 +184,19 @@ fn messages_are_packed(rt: HostRuntime) -> Result<(), Fail> {
     Ok(())
 }
 
-#[test]
-fn logs_are_replayed(rt: HostRuntime) -> Result<(), Fail> {
-    let alloc = rt.alloc();
+// How many entries of a log the machine of one node takes.
+fn count_taken(alloc: Global, rows: &str) -> Result<u32, Fail> {
     let starts = Starts::from_slice(alloc, &[(ONE, 0, 0)])?;
     let image = image_of(alloc, ONE_NODE, &LINK_TO_ITSELF, starts, &[])?;
     let params = Params::new(4, 64, 100, 0).ok_or("no parameters")?;
-    let entries = [turn(1, ONE), turn(2, ONE), turn(3, ONE), turn(5, ONE)];
     let mut logs = Logs::empty(alloc);
-    logs.push(log_of(alloc, ONE, &entries)?)?;
-    assert_eq!(rt; replay_logs(alloc, &image, &params, &logs)?.kept, 3);
+    logs.push(log_of_rows(alloc, ONE, rows)?)?;
+    Ok(replay_logs(alloc, &image, &params, &logs)?.kept)
+}
+
+// Up to the first with another stamp.
+#[test]
+fn logs_are_replayed(rt: HostRuntime) -> Result<(), Fail> {
+    assert_eq!(rt; count_taken(rt.alloc(), "1 I 0, 2 I 0, 3 I 0, 5 I 0")?, 3);
     Ok(())
 }

@@ -3,13 +3,13 @@ ghost use Rattle.alw_image.specs.Images.{node_count};
 ghost use Rattle.alw_model.specs.NodeStates.{is_enabled_at};
 ghost use Rattle.alw_node.specs.Nodes.{IsGiven};
 
-use crate::images::{LINK_TO_ITSELF, Sizes, image_of};
+use crate::images::{LINK_TO_ITSELF, ONE_NODE, Sizes, image_of};
+use crate::plays::{event_of, said_of};
 use alw_image::{Bodies, Code, Image, LineList, Params, Parts, Starts};
 use alw_model::Did;
 use alw_msg::{Event, Kind, Msg, Sends, Status};
-use alw_node::{HomeView, Node};
+use alw_node::{Node, Share};
 use alw_num::{Line, LineNo, Meta, Mode, NodeNo, NodeSet, State};
-use sparc_table::Outcome;
 use std::alloc::Global;
 use std::sync::Arc;
 use std::test::Fail;
@@ -27,12 +27,43 @@ const LOAD_AND_STORE: [u32; 6] = [
 // Stores to lines 0 and 4.
 const TWO_STORES: [u32; 4] = [0x0310_0000, 0xd220_4000, 0xd220_6040, 0x91d0_2000];
 
-// The nodes of a machine, and the messages on its links, each with the nodes that it goes from and
-// to, those of one link in order.
+// The nodes of a machine, the messages on its links, each with the nodes that it goes from and to, those
+// of one link in order, and what the last event sent.
 #[derive(Debug, Drop)]
 struct Mesh {
     nodes: Vec<Node>,
     waiting: Vec<(NodeNo, NodeNo, Msg)>,
+    sent: Sends,
+}
+
+// The nodes of an image at the start.
+fn nodes_of(alloc: Global, image: &Image, sets: u32) -> Result<Vec<Node>, Fail> {
+    let params = Params::new(4, sets, 100, 0).ok_or("no parameters")?;
+    let count = u16::from(image.width()) * u16::from(image.height());
+    let code = Arc::new(alloc, image.code().copy()?)?;
+    let mut nodes = Vec::new(alloc);
+    for number in 0..count {
+        nodes.push(Node::start_shared(alloc, image, &params, NodeNo(number), &code)?)?;
+    }
+    Ok(nodes)
+}
+
+// A machine of these nodes, with nothing on its links.
+fn mesh_of(alloc: Global, nodes: Vec<Node>) -> Result<Mesh, Fail> {
+    let sent = Sends::room(alloc, 2)?;
+    Ok(Mesh {
+        nodes,
+        waiting: Vec::new(alloc),
+        sent,
+    })
+}
+
+// The starts of contexts, a hundred at most.
+fn starts_of(alloc: Global, contexts: &[(NodeNo, u8, u32)]) -> Result<Starts, Fail> {
+    if contexts.len() > 100 {
+        return Err("too long".into());
+    }
+    Ok(Starts::from_slice(alloc, contexts)?)
 }
 
 // A machine at the start.
@@ -44,22 +75,8 @@ fn started(
     contexts: &[(NodeNo, u8, u32)],
     lines: &[u32],
 ) -> Result<Mesh, Fail> {
-    if contexts.len() > 100 {
-        return Err("too long".into());
-    }
-    let starts = Starts::from_slice(alloc, contexts)?;
-    let image = image_of(alloc, sizes, words, starts, lines)?;
-    let params = Params::new(4, sets, 100, 0).ok_or("no parameters")?;
-    let count = u16::from(image.width()) * u16::from(image.height());
-    let code = Arc::new(alloc, image.code().copy()?)?;
-    let mut nodes = Vec::new(alloc);
-    for number in 0..count {
-        nodes.push(Node::start_shared(alloc, &image, &params, NodeNo(number), &code)?)?;
-    }
-    Ok(Mesh {
-        nodes,
-        waiting: Vec::new(alloc),
-    })
+    let image = image_of(alloc, sizes, words, starts_of(alloc, contexts)?, lines)?;
+    mesh_of(alloc, nodes_of(alloc, &image, sets)?)
 }
 
 // The place and the message of the head of the link that a delivery names.
@@ -92,67 +109,95 @@ fn may(node: &Node, event: Event, head: Option<Msg>) -> bool
     }
 }
 
+// One event of a node, with its stamp. None where it isn't enabled.
+fn local(
+    node: &mut Node,
+    event: Event,
+    taken: Option<Msg>,
+    sent: &mut Sends,
+) -> Option<(u32, Did)> {
+    let room = u64::from(sent.len()) + u64::from(sent.free());
+    if room < 2 || !may(node, event, taken) {
+        return None;
+    }
+    let did = node.local(event, &taken, sent);
+    Some((node.clock(), did))
+}
+
+// The message at this place has left its link.
+fn take_off(waiting: &mut Vec<(NodeNo, NodeNo, Msg)>, place: usize) {
+    if place < waiting.len() {
+        waiting.remove(place);
+    }
+}
+
+// What a node sent stands on its links.
+fn put_on(
+    waiting: &mut Vec<(NodeNo, NodeNo, Msg)>,
+    from: NodeNo,
+    sent: &Sends,
+) -> Result<(), Fail> {
+    for k in 0..sent.len() {
+        let (to, msg) = sent.at(k);
+        waiting.push((from, to, msg))?;
+    }
+    Ok(())
+}
+
 // One event, with its stamp. None where it isn't enabled.
-fn step(mesh: &mut Mesh, event: Event, sent: &mut Sends) -> Result<Option<(u32, Did)>, Fail>
-    requires { sent.old.room ≡ 2 }
-    ensures { sent.new.room ≡ 2 }
-{
+fn step(mesh: &mut Mesh, event: Event) -> Result<Option<(u32, Did)>, Fail> {
     let head = head(&mesh.waiting, event);
-    let taken = match head {
-        Some((_, msg)) => Some(msg),
-        None => None,
-    };
     let Some(node) = mesh.nodes.get_mut(event.node().0 as usize) else {
         return Ok(None);
     };
-    if !may(node, event, taken) {
-        return Ok(None);
-    }
-    let did = node.local(event, &taken, sent);
-    let clock = node.clock();
-    if let Some((place, _)) = head {
-        if place < mesh.waiting.len() {
-            mesh.waiting.remove(place);
+    let stepped = local(node, event, head.map(|(_, msg)| msg), &mut mesh.sent);
+    if stepped.is_some() {
+        if let Some((place, _)) = head {
+            take_off(&mut mesh.waiting, place);
         }
+        put_on(&mut mesh.waiting, event.node(), &mesh.sent)?;
     }
-    for k in 0..sent.len() {
-        let (to, msg) = sent.at(k);
-        mesh.waiting.push((event.node(), to, msg))?;
-    }
-    Ok(Some((clock, did)))
+    Ok(stepped)
 }
 
-// Each event is enabled in its turn, has this stamp and does this.
-fn plays(mesh: &mut Mesh, run: &[(u32, Event, Did)], sent: &mut Sends) -> Result<bool, Fail>
-    requires { sent.old.room ≡ 2 }
-    ensures { sent.new.room ≡ 2 }
-{
-    for (stamp, event, did) in run {
-        if step(mesh, *event, sent)? != Some((*stamp, *did)) {
+// Each event of these rows is enabled in its turn, has its stamp and does what the row says.
+fn goes(mesh: &mut Mesh, rows: &str) -> Result<bool, Fail> {
+    for row in rows.split(", ") {
+        let event = event_of(row).ok_or("no event")?;
+        let said = said_of(row).ok_or("no outcome")?;
+        if step(mesh, event)? != Some(said) {
             return Ok(false);
         }
     }
     Ok(true)
 }
 
+// The event of a row isn't enabled.
+fn refuses(mesh: &mut Mesh, row: &str) -> Result<bool, Fail> {
+    let event = event_of(row).ok_or("no event")?;
+    Ok(step(mesh, event)?.is_none())
+}
+
 // The first node at which an instruction is enabled.
 fn first_ready(nodes: &[Node]) -> Option<NodeNo> {
     for node in nodes {
-        if node.may(instr(node.number().0), None) {
-            return Some(node.number());
+        let number = node.number();
+        if node.may(Event::Instr { node: number }, None) {
+            return Some(number);
         }
     }
     None
 }
 
-// The entry of line 0, at node 0.
-fn first_home(mesh: &Mesh) -> Option<HomeView> {
+// The entry of line 0, at node 0: its state, meta state and counter, and its pointers in hardware and in
+// software.
+fn first_home(mesh: &Mesh) -> Option<((State, Meta, u32), (NodeSet, NodeSet))> {
     let node = mesh.nodes.first()?;
-    if node.number() == NodeNo(0) {
-        Some(node.home(LineNo(0)))
-    } else {
-        None
+    if node.number() != NodeNo(0) {
+        return None;
     }
+    let home = node.home(LineNo(0));
+    Some(((home.state, home.meta, home.acks), (home.hw, home.sw)))
 }
 
 // The copy in set 0 of node 0.
@@ -171,247 +216,146 @@ fn last_status(mesh: &Mesh) -> Option<Status> {
     Some(node.status(node.last()))
 }
 
-fn instr(node: u16) -> Event {
-    Event::Instr { node: NodeNo(node) }
+// The PC of that slot.
+fn last_pc(mesh: &Mesh) -> Option<u32> {
+    let node = mesh.nodes.first()?;
+    Some(node.regs(node.last()).pc)
 }
 
-fn deliver(from: u16, to: u16) -> Event {
-    Event::Deliver {
-        from: NodeNo(from),
-        to: NodeNo(to),
-    }
+// The holds of node 0, and its transaction of line 0.
+fn first_waits(mesh: &Mesh) -> Option<(u32, Option<Mode>)> {
+    let node = mesh.nodes.first()?;
+    Some((node.holds(), node.pending(LineNo(0))))
 }
 
-fn done(slot: u8) -> Did {
-    turn(slot, Outcome::Done)
+// The kind and the sender of a packet of node 0.
+fn packet_at(mesh: &Mesh, i: u32) -> Option<(Kind, NodeNo)> {
+    let packet = mesh.nodes.first()?.packet(i)?;
+    Some((packet.kind, packet.src))
 }
 
-fn turn(slot: u8, outcome: Outcome) -> Did {
-    Did::Turn { slot, outcome }
-}
-
-fn handle(node: u16) -> Event {
-    Event::Handle { node: NodeNo(node) }
-}
-
-fn handled(kind: Kind, state: State) -> Did {
-    Did::Handled { kind, state }
+// The nodes of the first message on a link, its kind, its line and its first word.
+fn first_message(mesh: &Mesh) -> Option<((NodeNo, NodeNo), (Kind, LineNo, u32))> {
+    let (from, to, msg) = mesh.waiting.first().copied()?;
+    Some(((from, to), (msg.kind, msg.line, msg.body.a)))
 }
 
 // A node stores to its own line: the request and the answer go over the link from the node to itself.
 #[test]
 fn a_node_asks_itself(rt: HostRuntime) -> Result<(), Fail> {
-    let sizes = Sizes {
-        width: 1,
-        height: 1,
-        contexts: 1,
-        per_node: 1,
-    };
-    let mut sent = Sends::room(rt.alloc(), 2)?;
-    let mut mesh = started(
-        rt.alloc(),
-        sizes,
-        4,
-        &LINK_TO_ITSELF,
-        &[(NodeNo(0), 0, 0)],
-        &[],
-    )?;
-    let run = [
-        (1, instr(0), done(0)),
-        (2, instr(0), done(0)),
-        (3, instr(0), Did::Missed { slot: 0 }),
-        (4, deliver(0, 0), Did::Took),
-        (5, deliver(0, 0), Did::Took),
-        (6, instr(0), done(0)),
-        (7, instr(0), done(0)),
-        (8, instr(0), done(0)),
-        (9, instr(0), turn(0, Outcome::Out { word: 5 })),
-        (10, instr(0), turn(0, Outcome::Halt)),
-    ];
-    assert!(rt; plays(&mut mesh, &run, &mut sent)?);
-    assert_eq!(rt; step(&mut mesh, instr(0), &mut sent)?, None);
+    let starts = [(NodeNo(0), 0, 0)];
+    let mut mesh = started(rt.alloc(), ONE_NODE, 4, &LINK_TO_ITSELF, &starts, &[])?;
+    let run = "1 I 0 done, 2 I 0 done, 3 I 0 missed, 4 D 0 0 took, 5 D 0 0 took, 6 I 0 done, \
+        7 I 0 done, 8 I 0 done, 9 I 0 out 5, 10 I 0 halted";
+    assert!(rt; goes(&mut mesh, run)?);
+    assert!(rt; refuses(&mut mesh, "not I 0")?);
     assert_eq!(rt; last_status(&mesh), Some(Status::Halted));
-    if let Some(home) = first_home(&mesh) {
-        assert_eq!(rt;
-            (home.state, home.meta, home.acks),
-            (State::RW, Meta::Normal, 0)
-        );
-        assert_eq!(rt;
-            (home.hw, home.sw),
-            (NodeSet { low: 1, high: 0 }, NodeSet::empty())
-        );
-    }
+    let owned = (State::RW, Meta::Normal, 0);
+    let by_itself = (NodeSet { low: 1, high: 0 }, NodeSet::empty());
+    assert_eq!(rt; first_home(&mesh), Some((owned, by_itself)));
     let five = Line { a: 5, ..Line::ZERO };
     assert_eq!(rt; first_copy(&mesh), Some((LineNo(0), Mode::Write, five)));
     Ok(())
 }
 
+// One node with two contexts and one line.
+const TWO_CONTEXTS: Sizes = Sizes {
+    contexts: 2,
+    ..ONE_NODE
+};
+
 // Two contexts ask for one line: the second one waits with the first one, whose copy is held for it,
 // and asks again in the name of its own.
 #[test]
 fn two_contexts_share_a_line(rt: HostRuntime) -> Result<(), Fail> {
-    let sizes = Sizes {
-        width: 1,
-        height: 1,
-        contexts: 2,
-        per_node: 1,
-    };
     let starts = [(NodeNo(0), 0, 0), (NodeNo(0), 1, 0x0c)];
-    let mut sent = Sends::room(rt.alloc(), 2)?;
-    let mut mesh = started(rt.alloc(), sizes, 4, &LOAD_AND_STORE, &starts, &[])?;
-    let asks = [
-        (1, instr(0), done(0)),
-        (2, instr(0), Did::Missed { slot: 0 }),
-        (3, instr(0), done(1)),
-        (4, instr(0), Did::Missed { slot: 1 }),
-    ];
-    assert!(rt; plays(&mut mesh, &asks, &mut sent)?);
+    let mut mesh = started(rt.alloc(), TWO_CONTEXTS, 4, &LOAD_AND_STORE, &starts, &[])?;
+    assert!(rt;
+        goes(
+            &mut mesh,
+            "1 I 0 done, 2 I 0 missed, 3 I 0 done 1, 4 I 0 missed 1"
+        )?
+    );
     assert_eq!(rt; mesh.waiting.len(), 1);
     let waits = Status::Waiting { line: LineNo(0) };
     assert_eq!(rt; last_status(&mesh), Some(waits));
-    let comes = [(5, deliver(0, 0), Did::Took), (6, deliver(0, 0), Did::Took)];
-    assert!(rt; plays(&mut mesh, &comes, &mut sent)?);
-    if let Some(node) = mesh.nodes.first() {
-        assert_eq!(rt; (node.holds(), node.pending(LineNo(0))), (1, None));
-        assert_eq!(rt; node.regs(node.last()).pc, 0x10);
-    }
-    let ends = [
-        (7, instr(0), Did::Missed { slot: 1 }),
-        (8, instr(0), done(0)),
-        (9, instr(0), turn(0, Outcome::Halt)),
-        (10, deliver(0, 0), Did::Took),
-        (11, deliver(0, 0), Did::Took),
-        (12, instr(0), done(1)),
-        (13, instr(0), turn(1, Outcome::Halt)),
-    ];
-    assert!(rt; plays(&mut mesh, &ends, &mut sent)?);
+    assert!(rt; goes(&mut mesh, "5 D 0 0 took, 6 D 0 0 took")?);
+    assert_eq!(rt; first_waits(&mesh), Some((1, None)));
+    assert_eq!(rt; last_pc(&mesh), Some(0x10));
+    let ends = "7 I 0 missed 1, 8 I 0 done, 9 I 0 halted, 10 D 0 0 took, 11 D 0 0 took, \
+        12 I 0 done 1, 13 I 0 halted 1";
+    assert!(rt; goes(&mut mesh, ends)?);
     Ok(())
 }
+
+// One node with one context and eight lines.
+const EIGHT_LINES: Sizes = Sizes {
+    per_node: 8,
+    ..ONE_NODE
+};
 
 // Two lines of one set of four: the second one drives the first one home, once the hold is over.
 #[test]
 fn one_set(rt: HostRuntime) -> Result<(), Fail> {
-    let sizes = Sizes {
-        width: 1,
-        height: 1,
-        contexts: 1,
-        per_node: 8,
-    };
-    let mut sent = Sends::room(rt.alloc(), 2)?;
-    let mut mesh = started(rt.alloc(), sizes, 4, &TWO_STORES, &[(NodeNo(0), 0, 0)], &[])?;
-    let first = [
-        (1, instr(0), done(0)),
-        (2, instr(0), Did::Missed { slot: 0 }),
-        (3, deliver(0, 0), Did::Took),
-        (4, deliver(0, 0), Did::Took),
-    ];
-    assert!(rt; plays(&mut mesh, &first, &mut sent)?);
-    let evict = Event::Evict {
-        node: NodeNo(0),
-        set: 0,
-    };
-    assert_eq!(rt; step(&mut mesh, evict, &mut sent)?, None);
-    let second = [
-        (5, instr(0), done(0)),
-        (6, instr(0), Did::Missed { slot: 0 }),
-        (7, deliver(0, 0), Did::Took),
-        (8, deliver(0, 0), Did::Took),
-    ];
-    assert!(rt; plays(&mut mesh, &second, &mut sent)?);
+    let starts = [(NodeNo(0), 0, 0)];
+    let mut mesh = started(rt.alloc(), EIGHT_LINES, 4, &TWO_STORES, &starts, &[])?;
+    let first = "1 I 0 done, 2 I 0 missed, 3 D 0 0 took, 4 D 0 0 took";
+    assert!(rt; goes(&mut mesh, first)?);
+    assert!(rt; refuses(&mut mesh, "not E 0 0")?);
+    let second = "5 I 0 done, 6 I 0 missed, 7 D 0 0 took, 8 D 0 0 took";
+    assert!(rt; goes(&mut mesh, second)?);
     assert_eq!(rt; mesh.waiting.len(), 1);
-    if let Some((from, to, msg)) = mesh.waiting.first().copied() {
-        assert_eq!(rt; (from, to), (NodeNo(0), NodeNo(0)));
-        assert_eq!(rt;
-            (msg.kind, msg.line, msg.body.a),
-            (Kind::REPM, LineNo(0), 1)
-        );
-    }
+    let to_itself = (NodeNo(0), NodeNo(0));
+    let comes_home = (Kind::REPM, LineNo(0), 1);
+    assert_eq!(rt; first_message(&mesh), Some((to_itself, comes_home)));
     Ok(())
+}
+
+// Two nodes with one context and one line each, whose first line always traps: node 0 stores to it, and
+// node 1 loads from it.
+fn listed_line(alloc: Global) -> Result<Mesh, Fail> {
+    let sizes = Sizes {
+        width: 2,
+        ..ONE_NODE
+    };
+    let starts = [(NodeNo(0), 0, 0x0c), (NodeNo(1), 0, 0)];
+    started(alloc, sizes, 4, &LOAD_AND_STORE, &starts, &[0])
 }
 
 // Every message about a line that the image lists goes through the handler.
 #[test]
 fn a_listed_line_always_traps(rt: HostRuntime) -> Result<(), Fail> {
-    let sizes = Sizes {
-        width: 2,
-        height: 1,
-        contexts: 1,
-        per_node: 1,
-    };
-    let starts = [(NodeNo(0), 0, 0x0c), (NodeNo(1), 0, 0)];
-    let mut sent = Sends::room(rt.alloc(), 2)?;
-    let mut mesh = started(rt.alloc(), sizes, 4, &LOAD_AND_STORE, &starts, &[0])?;
-    let evict = Event::Evict {
-        node: NodeNo(0),
-        set: 0,
-    };
-    let loads = [
-        (1, instr(1), done(0)),
-        (2, instr(1), Did::Missed { slot: 0 }),
-        (3, deliver(1, 0), Did::Packet),
-        (4, handle(0), handled(Kind::RREQ, State::RO)),
-        (5, deliver(0, 1), Did::Took),
-        (6, instr(1), done(0)),
-        (5, instr(0), done(0)),
-        (6, instr(0), Did::Missed { slot: 0 }),
-    ];
-    assert!(rt; plays(&mut mesh, &loads, &mut sent)?);
-    let stores = [
-        (7, deliver(0, 0), Did::Packet),
-        (8, handle(0), handled(Kind::WREQ, State::RO)),
-        (9, deliver(0, 1), Did::Took),
-        (10, deliver(1, 0), Did::Packet),
-        (11, handle(0), handled(Kind::ACKC, State::WT)),
-        (12, deliver(0, 0), Did::Took),
-        (13, instr(0), done(0)),
-        (14, evict, Did::Evicted),
-        (15, deliver(0, 0), Did::Packet),
-        (16, handle(0), handled(Kind::REPM, State::RW)),
-        (17, instr(0), turn(0, Outcome::Halt)),
-        (10, instr(1), turn(0, Outcome::Halt)),
-    ];
-    assert!(rt; plays(&mut mesh, &stores, &mut sent)?);
+    let mut mesh = listed_line(rt.alloc())?;
+    let loads =
+        "1 I 1 done, 2 I 1 missed, 3 D 1 0 packet, 4 H 0 RREQ RO, 5 D 0 1 took, 6 I 1 done, \
+        5 I 0 done, 6 I 0 missed";
+    assert!(rt; goes(&mut mesh, loads)?);
+    let stores = "7 D 0 0 packet, 8 H 0 WREQ RO, 9 D 0 1 took, 10 D 1 0 packet, 11 H 0 ACKC WT, \
+        12 D 0 0 took, 13 I 0 done, 14 E 0 0, 15 D 0 0 packet, 16 H 0 REPM RW, 17 I 0 halted, \
+        10 I 1 halted";
+    assert!(rt; goes(&mut mesh, stores)?);
     Ok(())
 }
 
 // A message to memory waits on its link while its line is in Trans-In-Progress.
 #[test]
 fn a_line_in_progress_keeps_messages_waiting(rt: HostRuntime) -> Result<(), Fail> {
-    let sizes = Sizes {
-        width: 2,
-        height: 1,
-        contexts: 1,
-        per_node: 1,
-    };
-    let starts = [(NodeNo(0), 0, 0x0c), (NodeNo(1), 0, 0)];
-    let mut sent = Sends::room(rt.alloc(), 2)?;
-    let mut mesh = started(rt.alloc(), sizes, 4, &LOAD_AND_STORE, &starts, &[0])?;
-    let traps = [
-        (1, instr(1), done(0)),
-        (2, instr(1), Did::Missed { slot: 0 }),
-        (3, deliver(1, 0), Did::Packet),
-        (4, instr(0), done(0)),
-        (5, instr(0), Did::Missed { slot: 0 }),
-    ];
-    assert!(rt; plays(&mut mesh, &traps, &mut sent)?);
-    assert_eq!(rt; step(&mut mesh, deliver(0, 0), &mut sent)?, None);
-    assert_eq!(rt;
-        first_home(&mesh).map(|home| home.meta),
-        Some(Meta::Progress)
-    );
-    if let Some(node) = mesh.nodes.first() {
-        assert_eq!(rt;
-            node.packet(0).map(|msg| (msg.kind, msg.src)),
-            Some((Kind::RREQ, NodeNo(1)))
-        );
-        assert_eq!(rt; node.packet(1), None);
-    }
-    let goes_on = [
-        (6, handle(0), handled(Kind::RREQ, State::RO)),
-        (7, deliver(0, 0), Did::Packet),
-    ];
-    assert!(rt; plays(&mut mesh, &goes_on, &mut sent)?);
+    let mut mesh = listed_line(rt.alloc())?;
+    let traps = "1 I 1 done, 2 I 1 missed, 3 D 1 0 packet, 4 I 0 done, 5 I 0 missed";
+    assert!(rt; goes(&mut mesh, traps)?);
+    assert!(rt; refuses(&mut mesh, "not D 0 0")?);
+    let meta = first_home(&mesh).map(|((_, meta, _), _)| meta);
+    assert_eq!(rt; meta, Some(Meta::Progress));
+    assert_eq!(rt; packet_at(&mesh, 0), Some((Kind::RREQ, NodeNo(1))));
+    assert_eq!(rt; packet_at(&mesh, 1), None);
+    assert!(rt; goes(&mut mesh, "6 H 0 RREQ RO, 7 D 0 0 packet")?);
     Ok(())
+}
+
+// The number of the last node, its clock, and what the slot does that it starts with.
+fn last_node(nodes: &[Node]) -> Option<(NodeNo, u32, Status)> {
+    let node = nodes.last()?;
+    Some((node.number(), node.clock(), node.status(node.last())))
 }
 
 // As many nodes as a machine can have, with four lines and 256 sets each.
@@ -423,20 +367,14 @@ fn sixteen_by_sixteen_nodes_start(rt: HostRuntime) -> Result<(), Fail> {
         contexts: 1,
         per_node: 4,
     };
-    let mesh = started(
-        rt.alloc(),
-        sizes,
-        256,
-        &LINK_TO_ITSELF,
-        &[(NodeNo(255), 0, 0)],
-        &[1023],
-    )?;
+    let starts = [(NodeNo(255), 0, 0)];
+    let mesh = started(rt.alloc(), sizes, 256, &LINK_TO_ITSELF, &starts, &[1023])?;
     assert_eq!(rt; mesh.nodes.len(), 256);
     assert_eq!(rt; first_ready(&mesh.nodes), Some(NodeNo(255)));
-    if let Some(node) = mesh.nodes.last() {
-        assert_eq!(rt; (node.number(), node.clock()), (NodeNo(255), 0));
-        assert_eq!(rt; node.status(node.last()), Status::Ready);
-    }
+    assert_eq!(rt;
+        last_node(&mesh.nodes),
+        Some((NodeNo(255), 0, Status::Ready))
+    );
     Ok(())
 }
 
@@ -464,14 +402,29 @@ fn two_nodes(alloc: Global) -> Result<Option<Image>, Fail> {
     }))
 }
 
-// Node 1 of them.
-fn second_node(alloc: Global) -> Result<Node, Fail> {
-    let image = two_nodes(alloc)?.ok_or("no image")?;
-    let params = Params::new(4, 16, 100, 0).ok_or("no parameters")?;
+// Node 1 of an image.
+fn node_one(alloc: Global, image: &Image, params: &Params) -> Result<Node, Fail> {
     if image.width() < 2 || image.height() < 1 {
         return Err("no second node".into());
     }
-    Ok(Node::start(alloc, &image, &params, NodeNo(1))?)
+    Ok(Node::start(alloc, image, params, NodeNo(1))?)
+}
+
+// The second one of these nodes.
+fn second_node(alloc: Global) -> Result<Node, Fail> {
+    let image = two_nodes(alloc)?.ok_or("no image")?;
+    let params = Params::new(4, 16, 100, 0).ok_or("no parameters")?;
+    node_one(alloc, &image, &params)
+}
+
+// The sizes of a share.
+fn sizes_of(share: &Share) -> (u8, u8, u8, u16) {
+    (
+        share.width(),
+        share.height(),
+        share.contexts(),
+        share.per_node(),
+    )
 }
 
 // It has its own lines and contexts, and all code.
@@ -479,8 +432,7 @@ fn second_node(alloc: Global) -> Result<Node, Fail> {
 fn a_share_is_what_the_node_reads(rt: HostRuntime) -> Result<(), Fail> {
     let node = second_node(rt.alloc())?;
     let share = node.share();
-    let sizes = (share.width(), share.height(), share.contexts());
-    assert_eq!(rt; (sizes, share.per_node()), ((2, 1, 2), 4));
+    assert_eq!(rt; sizes_of(share), (2, 1, 2, 4));
     assert_eq!(rt; share.code().words(), LOAD_AND_STORE.as_slice());
     assert_eq!(rt; share.bodies().members(), [(LineNo(4), ONES)].as_slice());
     let starts = [(NodeNo(1), 0, 4), (NodeNo(1), 1, 8)];

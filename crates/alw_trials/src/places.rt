@@ -1,32 +1,39 @@
 use sparc_asm::{AsmErr, read_source};
 use sparc_place::*;
+use std::alloc::Global;
 use std::test::Fail;
 
+// Why the lines of a source of no more than 4,096 bytes are refused: nothing where they get their places.
+fn fault_of(alloc: Global, source: &[u8]) -> Result<Option<AsmErr>, Fail> {
+    if source.len() > 4096 {
+        return Ok(None);
+    }
+    Ok(lay_out(alloc, &read_source(alloc, source)?).err())
+}
+
+const FAULTS: [(&[u8], AsmErr); 9] = [
+    (b"x: .skip x", AsmErr::UnknownName { line: 1 }),
+    (b"x: nop\nx: nop", AsmErr::Redefined { line: 2 }),
+    (b"x: .equ x,1", AsmErr::Redefined { line: 1 }),
+    (b"nop\n.lines 2", AsmErr::Redefined { line: 2 }),
+    (b".start 0,0,0\n.start 0,0,0", AsmErr::Redefined { line: 2 }),
+    (b".start 0,0,0\n.start -1,0,0", AsmErr::Range { line: 2 }),
+    (b".shared 0\n.align 3", AsmErr::Range { line: 2 }),
+    (
+        b".shared 0\n.byte 1\n.word 2",
+        AsmErr::Unaligned { line: 3 },
+    ),
+    (
+        b".shared 0\n.word 0\n.shared 3\n.byte 0",
+        AsmErr::Overlap { line: 4 },
+    ),
+];
+
+// By its line.
 #[test]
 fn the_first_fault_is_named(rt: HostRuntime) -> Result<(), Fail> {
-    let rows: [(&[u8], AsmErr); 9] = [
-        (b"x: .skip x", AsmErr::UnknownName { line: 1 }),
-        (b"x: nop\nx: nop", AsmErr::Redefined { line: 2 }),
-        (b"x: .equ x,1", AsmErr::Redefined { line: 1 }),
-        (b"nop\n.lines 2", AsmErr::Redefined { line: 2 }),
-        (b".start 0,0,0\n.start 0,0,0", AsmErr::Redefined { line: 2 }),
-        (b".start 0,0,0\n.start -1,0,0", AsmErr::Range { line: 2 }),
-        (b".shared 0\n.align 3", AsmErr::Range { line: 2 }),
-        (
-            b".shared 0\n.byte 1\n.word 2",
-            AsmErr::Unaligned { line: 3 },
-        ),
-        (
-            b".shared 0\n.word 0\n.shared 3\n.byte 0",
-            AsmErr::Overlap { line: 4 },
-        ),
-    ];
-    for (source, wanted) in rows {
-        let lines = read_source(rt.alloc(), source)?;
-        match lay_out(rt.alloc(), &lines) {
-            Err(e) => assert_eq!(rt; e, wanted),
-            Ok(_laid) => assert!(rt; false),
-        }
+    for (source, wanted) in FAULTS {
+        assert_eq!(rt; fault_of(rt.alloc(), source)?, Some(wanted));
     }
     Ok(())
 }

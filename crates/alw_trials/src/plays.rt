@@ -1,7 +1,7 @@
 use alw_image::{Bodies, Code, Image, LineList, Params, Parts, Starts};
 use alw_mesh::Machine;
 use alw_model::{Counts, Did, Ended, TrapAt};
-use alw_msg::{Event, Kind};
+use alw_msg::{Entry, Event, Kind};
 use alw_num::{LineNo, Meta, NodeNo, NodeSet, SHARED_BASE, State};
 use sparc_table::Outcome;
 use std::alloc::Global;
@@ -109,10 +109,10 @@ fn always_of(alloc: Global, text: &str) -> Result<LineList, Fail> {
     Ok(always)
 }
 
-/// The machine of a run, at its start.
-pub fn started(alloc: Global, play: &Play) -> Result<Machine, Fail> {
-    let [width, contexts, lines, pointers, sets, limit, ..] = words_of(play.sizes);
-    let image = Image::from_parts(Parts {
+// The parts of the image of a run.
+fn parts_of(alloc: Global, play: &Play) -> Result<Parts, Fail> {
+    let [width, contexts, lines, ..] = words_of(play.sizes);
+    Ok(Parts {
         width: byte(width),
         height: 1,
         contexts: byte(contexts),
@@ -122,11 +122,23 @@ pub fn started(alloc: Global, play: &Play) -> Result<Machine, Fail> {
         starts: starts_of(alloc, play.starts)?,
         always: always_of(alloc, play.always)?,
     })
-    .ok_or("no image")?;
-    let params = Params::new(byte(pointers), number(sets), number(limit), 0).ok_or(
-        "no parameters",
-    )?;
-    Ok(Machine::start(alloc, &image, &params)?)
+}
+
+// The image of a run.
+fn image_of(alloc: Global, play: &Play) -> Result<Image, Fail> {
+    Ok(Image::from_parts(parts_of(alloc, play)?).ok_or("no image")?)
+}
+
+// The parameters of a run.
+fn params_of(play: &Play) -> Result<Params, Fail> {
+    let [_, _, _, pointers, sets, limit, ..] = words_of(play.sizes);
+    Ok(Params::new(byte(pointers), number(sets), number(limit), 0).ok_or("no parameters")?)
+}
+
+/// The machine of a run, at its start.
+pub fn started(alloc: Global, play: &Play) -> Result<Machine, Fail> {
+    let image = image_of(alloc, play)?;
+    Ok(Machine::start(alloc, &image, &params_of(play)?)?)
 }
 
 // The event of a row.
@@ -235,6 +247,21 @@ fn did(row: &Words<'_>) -> Option<Did> {
         "E" => Some(Did::Evicted),
         _ => None,
     }
+}
+
+/// The event of a row with its stamp.
+pub fn entry_of(row: &str) -> Option<Entry> {
+    let words = words_of(row);
+    Some(Entry {
+        stamp: number(words[0]),
+        event: event(&words)?,
+    })
+}
+
+/// What a row says of its event: the stamp, and what the event does.
+pub fn said_of(row: &str) -> Option<(u32, Did)> {
+    let words = words_of(row);
+    Some((number(words[0]), did(&words)?))
 }
 
 // The event of a row may be next, gets its stamp and does what it says.

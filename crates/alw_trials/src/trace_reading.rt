@@ -36,13 +36,18 @@ fn fault_of(alloc: Global, head: &[u8], tail: &[u8]) -> Result<TextErr, Fail> {
     }
 }
 
+// The eviction parameter of a trace, how many entries it has, and the text that it is written as.
+fn read_back(alloc: Global, text: &[u8]) -> Result<(u8, u32, Text), Fail> {
+    let trace = read_trace(alloc, text)?;
+    let text = write_trace(alloc, &trace)?;
+    Ok((trace.params.evict(), trace.journal.len(), text))
+}
+
 // What is read is written as it was.
 #[test]
 fn a_trace_is_read_back(rt: HostRuntime) -> Result<(), Fail> {
-    let trace = read_trace(rt.alloc(), WORKED)?;
-    assert_eq!(rt; trace.params.evict(), 0);
-    assert_eq!(rt; trace.journal.len(), 4);
-    let text = write_trace(rt.alloc(), &trace)?;
+    let (evict, entries, text) = read_back(rt.alloc(), WORKED)?;
+    assert_eq!(rt; (evict, entries), (0, 4));
     assert_eq!(rt; text.bytes(), WORKED);
     Ok(())
 }

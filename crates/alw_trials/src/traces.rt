@@ -1,6 +1,4 @@
-ghost use Rattle.std.specs.Prelude.{◌<◌, length};
-
-use alw_image::{Params, read_image};
+use alw_image::{Image, Params, read_image};
 use alw_msg::{Entry, Event, Journal, Prints, Turns, Words};
 use alw_num::NodeNo;
 use alw_text::Text;
@@ -114,22 +112,33 @@ fn entries() -> [Entry; 16] {
     ]
 }
 
+// The image that these bytes spell.
+fn image_of(alloc: Global, bytes: &[u8]) -> Result<Image, Fail> {
+    Ok(read_image(alloc, bytes)?)
+}
+
+// A journal of these entries, a hundred at most.
+fn journal_of(alloc: Global, entries: &[Entry]) -> Result<Journal, Fail> {
+    if entries.len() > 100 {
+        return Err(Fail::new("too long"));
+    }
+    Ok(Journal::from_slice(alloc, entries)?)
+}
+
 // The text of a trace of an image's bytes under these parameters.
 fn text_of(
     alloc: Global,
     bytes: &[u8],
     params: Option<Params>,
     entries: &[Entry],
-) -> Result<Text, Fail>
-    requires { length entries.now < 100 }
-{
+) -> Result<Text, Fail> {
     let Some(params) = params else {
         return Err(Fail::new("no parameters"));
     };
     let trace = Trace {
-        image: read_image(alloc, bytes)?,
+        image: image_of(alloc, bytes)?,
         params,
-        journal: Journal::from_slice(alloc, entries)?,
+        journal: journal_of(alloc, entries)?,
     };
     Ok(write_trace(alloc, &trace)?)
 }

@@ -1,9 +1,9 @@
-use alw_image::{Params, read_image};
+use crate::plays::{Play, goes, started};
 use alw_laws::{Copies, LineView, LinkMsgs, Pending, inspect, view};
 use alw_memory::HomeView;
 use alw_mesh::Machine;
 use alw_msg::Kind::{ACKC, BUSY, INV, RDATA, REPM, RREQ, UPDATE, WDATA, WREQ};
-use alw_msg::{Event, Kind, Msg};
+use alw_msg::{Kind, Msg};
 use alw_num::State::{RO, RT, RW, WT};
 use alw_num::{Line, LineNo, MOST_NODES, Meta, Mode, NodeNo, NodeSet, Sequence, State};
 use std::alloc::Global;
@@ -49,24 +49,63 @@ fn set_of(nodes: &[u16]) -> NodeSet {
     set
 }
 
-// A home in Normal with these hardware pointers and first word 7.
-fn home(state: State, pointers: &[u16], acks: u32) -> HomeView {
-    HomeView {
-        state,
-        meta: Meta::Normal,
-        hw: set_of(pointers),
-        sw: NodeSet::empty(),
-        acks,
-        body: word(7),
-    }
+// The entry of a line's home: its state and meta state, its pointers in hardware and in software, and its
+// counter.
+#[derive(Clone, Copy)]
+struct Entry {
+    state: State,
+    meta: Meta,
+    hardware: &'static [u16],
+    software: &'static [u16],
+    acks: u32,
 }
 
-// A home without hardware pointers and answers to come, in this meta state and with this software set.
-fn with_software(state: State, meta: Meta, nodes: &[u16]) -> HomeView {
+const UNSHARED: Entry = Entry {
+    state: RO,
+    meta: Meta::Normal,
+    hardware: &[],
+    software: &[],
+    acks: 0,
+};
+
+const SHARED: Entry = Entry {
+    hardware: &[0],
+    ..UNSHARED
+};
+
+const OWNED: Entry = Entry {
+    state: RW,
+    ..SHARED
+};
+
+const READING: Entry = Entry {
+    state: RT,
+    hardware: &[1],
+    acks: 1,
+    ..UNSHARED
+};
+
+const WRITING: Entry = Entry {
+    state: WT,
+    ..READING
+};
+
+const AWAITING_TWO: Entry = Entry { acks: 2, ..WRITING };
+
+const IN_PROGRESS: Entry = Entry {
+    meta: Meta::Progress,
+    ..UNSHARED
+};
+
+// A home with this entry and first word 7.
+fn home(entry: &Entry) -> HomeView {
     HomeView {
-        meta,
-        sw: set_of(nodes),
-        ..home(state, &[], 0)
+        state: entry.state,
+        meta: entry.meta,
+        hw: set_of(entry.hardware),
+        sw: set_of(entry.software),
+        acks: entry.acks,
+        body: word(7),
     }
 }
 
@@ -120,297 +159,262 @@ fn show(view: &mut LineView, shown: Shown) -> Result<(), Fail> {
     }
 }
 
-// Whether a line with this home, of which these things are shown, meets the line invariant.
-fn is_sound(alloc: Global, home: HomeView, things: &[Shown]) -> Result<bool, Fail> {
+// A line: the entry of its home, and what is shown of it.
+type Row = (Entry, &'static [Shown]);
+
+// Whether a line meets the line invariant.
+fn is_sound(alloc: Global, row: &Row) -> Result<bool, Fail> {
+    let (entry, things) = row;
     let mut view = LineView {
         line: LINE,
         at: HOME,
-        home,
+        home: home(entry),
         copies: Copies::empty(alloc),
         transactions: Pending::empty(alloc),
         links: LinkMsgs::empty(alloc),
         packet: None,
     };
-    for shown in things {
+    for shown in *things {
         show(&mut view, *shown)?;
     }
     Ok(inspect(&view))
 }
 
+// The place of the first of these lines that is sound though it is said not to be, or the other way round.
+fn first_other(alloc: Global, rows: &[Row], sound: bool) -> Result<Option<usize>, Fail> {
+    for (place, row) in rows.iter().enumerate() {
+        if is_sound(alloc, row)? != sound {
+            return Ok(Some(place));
+        }
+    }
+    Ok(None)
+}
+
+const LINES_AT_REST: [Row; 5] = [
+    (UNSHARED, &[]),
+    (
+        Entry {
+            hardware: &[0, 2, 255],
+            ..UNSHARED
+        },
+        &[ReadOnly(0, 7), ReadOnly(2, 7), ReadOnly(255, 7)],
+    ),
+    (OWNED, &[ReadWrite(0, 9)]),
+    (
+        Entry {
+            meta: Meta::TrapWrite,
+            software: &[3],
+            ..UNSHARED
+        },
+        &[ReadOnly(3, 7)],
+    ),
+    (UNSHARED, &[OfAnotherLine(REPM, 0)]),
+];
+
+// Lines of which nothing is on its way are sound.
 #[test]
 fn lines_at_rest(rt: HostRuntime) -> Result<(), Fail> {
-    let alloc = rt.alloc();
-    let unshared = home(RO, &[], 0);
-    let owned = home(RW, &[0], 0);
-    assert!(rt; is_sound(alloc, unshared, &[])?);
-    assert!(rt;
-        is_sound(
-            alloc,
-            home(RO, &[0, 2, 255], 0),
-            &[ReadOnly(0, 7), ReadOnly(2, 7), ReadOnly(255, 7)]
-        )?
-    );
-    assert!(rt; is_sound(alloc, owned, &[ReadWrite(0, 9)])?);
-    assert!(rt;
-        is_sound(
-            alloc,
-            with_software(RO, Meta::TrapWrite, &[3]),
-            &[ReadOnly(3, 7)]
-        )?
-    );
-    assert!(rt; is_sound(alloc, unshared, &[OfAnotherLine(REPM, 0)])?);
+    assert_eq!(rt; first_other(rt.alloc(), &LINES_AT_REST, true)?, None);
     Ok(())
 }
 
+const TRANSACTIONS_ON_THEIR_WAY: [Row; 6] = [
+    (UNSHARED, &[Reading(0), Up(RREQ, 0, 0)]),
+    (IN_PROGRESS, &[Reading(4), Packet(RREQ, 4)]),
+    (SHARED, &[Reading(0), Down(RDATA, 0, 7)]),
+    (OWNED, &[ReadWrite(0, 9), Writing(3), Down(BUSY, 3, 0)]),
+    (WRITING, &[ReadWrite(0, 9), Writing(1), Down(INV, 0, 0)]),
+    (AWAITING_TWO, &[Writing(1), Down(INV, 0, 0), Up(ACKC, 3, 0)]),
+];
+
+// So are lines with a transaction that waits for one thing.
 #[test]
 fn transactions_on_their_way(rt: HostRuntime) -> Result<(), Fail> {
-    let alloc = rt.alloc();
-    let unshared = home(RO, &[], 0);
-    let shared = home(RO, &[0], 0);
-    let owned = home(RW, &[0], 0);
-    let writing = home(WT, &[1], 1);
-    let awaiting_two = home(WT, &[1], 2);
-    assert!(rt; is_sound(alloc, unshared, &[Reading(0), Up(RREQ, 0, 0)])?);
-    assert!(rt;
-        is_sound(
-            alloc,
-            with_software(RO, Meta::Progress, &[]),
-            &[Reading(4), Packet(RREQ, 4)]
-        )?
-    );
-    assert!(rt; is_sound(alloc, shared, &[Reading(0), Down(RDATA, 0, 7)])?);
-    assert!(rt;
-        is_sound(
-            alloc,
-            owned,
-            &[ReadWrite(0, 9), Writing(3), Down(BUSY, 3, 0)]
-        )?
-    );
-    assert!(rt;
-        is_sound(
-            alloc,
-            writing,
-            &[ReadWrite(0, 9), Writing(1), Down(INV, 0, 0)]
-        )?
-    );
-    assert!(rt;
-        is_sound(
-            alloc,
-            awaiting_two,
-            &[Writing(1), Down(INV, 0, 0), Up(ACKC, 3, 0)]
-        )?
+    assert_eq!(rt;
+        first_other(rt.alloc(), &TRANSACTIONS_ON_THEIR_WAY, true)?,
+        None
     );
     Ok(())
 }
+
+const CROSSING_MESSAGES: [Row; 5] = [
+    (READING, &[Reading(1), Up(REPM, 0, 9), Down(INV, 0, 0)]),
+    (READING, &[Reading(1), Up(REPM, 0, 9), Up(ACKC, 0, 0)]),
+    (READING, &[Reading(1), Up(UPDATE, 0, 9)]),
+    (
+        READING,
+        &[Reading(1), Writing(0), Down(WDATA, 0, 9), Down(INV, 0, 0)],
+    ),
+    (
+        WRITING,
+        &[Writing(1), Reading(0), Down(RDATA, 0, 7), Down(INV, 0, 0)],
+    ),
+];
 
 // An INV crosses a line that comes home, and stands behind one that it recalls.
 #[test]
 fn crossing_messages(rt: HostRuntime) -> Result<(), Fail> {
-    let alloc = rt.alloc();
-    let reading = home(RT, &[1], 1);
-    let writing = home(WT, &[1], 1);
-    assert!(rt;
-        is_sound(
-            alloc,
-            reading,
-            &[Reading(1), Up(REPM, 0, 9), Down(INV, 0, 0)]
-        )?
-    );
-    assert!(rt;
-        is_sound(
-            alloc,
-            reading,
-            &[Reading(1), Up(REPM, 0, 9), Up(ACKC, 0, 0)]
-        )?
-    );
-    assert!(rt; is_sound(alloc, reading, &[Reading(1), Up(UPDATE, 0, 9)])?);
-    assert!(rt;
-        is_sound(
-            alloc,
-            reading,
-            &[Reading(1), Writing(0), Down(WDATA, 0, 9), Down(INV, 0, 0)]
-        )?
-    );
-    assert!(rt;
-        is_sound(
-            alloc,
-            writing,
-            &[Writing(1), Reading(0), Down(RDATA, 0, 7), Down(INV, 0, 0)]
-        )?
-    );
+    assert_eq!(rt; first_other(rt.alloc(), &CROSSING_MESSAGES, true)?, None);
     Ok(())
 }
+
+const BROKEN_TRANSACTIONS: [Row; 6] = [
+    (UNSHARED, &[Up(RREQ, 0, 0)]),
+    (UNSHARED, &[Reading(0)]),
+    (UNSHARED, &[Reading(0), Up(RREQ, 0, 0), Up(RREQ, 0, 0)]),
+    (UNSHARED, &[Writing(0), Up(RREQ, 0, 0)]),
+    (UNSHARED, &[Reading(0), Up(RREQ, 0, 0), Down(BUSY, 0, 0)]),
+    (READING, &[ReadWrite(0, 9), Down(INV, 0, 0)]),
+];
 
 // A transaction waits for exactly one thing of its mode, and nothing is on its way without one.
 #[test]
 fn broken_transactions(rt: HostRuntime) -> Result<(), Fail> {
-    let alloc = rt.alloc();
-    let unshared = home(RO, &[], 0);
-    let reading = home(RT, &[1], 1);
-    assert!(rt; !is_sound(alloc, unshared, &[Up(RREQ, 0, 0)])?);
-    assert!(rt; !is_sound(alloc, unshared, &[Reading(0)])?);
-    assert!(rt;
-        !is_sound(
-            alloc,
-            unshared,
-            &[Reading(0), Up(RREQ, 0, 0), Up(RREQ, 0, 0)]
-        )?
-    );
-    assert!(rt; !is_sound(alloc, unshared, &[Writing(0), Up(RREQ, 0, 0)])?);
-    assert!(rt;
-        !is_sound(
-            alloc,
-            unshared,
-            &[Reading(0), Up(RREQ, 0, 0), Down(BUSY, 0, 0)]
-        )?
-    );
-    assert!(rt; !is_sound(alloc, reading, &[ReadWrite(0, 9), Down(INV, 0, 0)])?);
+    assert_eq!(rt; first_other(rt.alloc(), &BROKEN_TRANSACTIONS, false)?, None);
     Ok(())
 }
+
+const BROKEN_COUNTERS: [Row; 7] = [
+    (
+        Entry {
+            acks: 1,
+            ..UNSHARED
+        },
+        &[],
+    ),
+    (UNSHARED, &[Down(INV, 0, 0)]),
+    (
+        Entry {
+            hardware: &[0, 1],
+            ..OWNED
+        },
+        &[ReadWrite(0, 9)],
+    ),
+    (WRITING, &[Writing(1)]),
+    (WRITING, &[Writing(1), Down(INV, 1, 0)]),
+    (AWAITING_TWO, &[Writing(1), Down(INV, 0, 0), Up(ACKC, 0, 0)]),
+    (
+        Entry { acks: 2, ..READING },
+        &[Reading(1), Down(INV, 0, 0), Up(ACKC, 3, 0)],
+    ),
+];
 
 // The counter is that of the state, and the number of answers owed: one of a node at most.
 #[test]
 fn broken_counters(rt: HostRuntime) -> Result<(), Fail> {
-    let alloc = rt.alloc();
-    let unshared = home(RO, &[], 0);
-    let writing = home(WT, &[1], 1);
-    let awaiting_two = home(WT, &[1], 2);
-    assert!(rt; !is_sound(alloc, home(RO, &[], 1), &[])?);
-    assert!(rt; !is_sound(alloc, unshared, &[Down(INV, 0, 0)])?);
-    assert!(rt; !is_sound(alloc, home(RW, &[0, 1], 0), &[ReadWrite(0, 9)])?);
-    assert!(rt; !is_sound(alloc, writing, &[Writing(1)])?);
-    assert!(rt; !is_sound(alloc, writing, &[Writing(1), Down(INV, 1, 0)])?);
-    assert!(rt;
-        !is_sound(
-            alloc,
-            awaiting_two,
-            &[Writing(1), Down(INV, 0, 0), Up(ACKC, 0, 0)]
-        )?
-    );
-    assert!(rt;
-        !is_sound(
-            alloc,
-            home(RT, &[1], 2),
-            &[Reading(1), Down(INV, 0, 0), Up(ACKC, 3, 0)]
-        )?
-    );
+    assert_eq!(rt; first_other(rt.alloc(), &BROKEN_COUNTERS, false)?, None);
     Ok(())
 }
+
+const BROKEN_CARRIERS: [Row; 7] = [
+    (SHARED, &[ReadWrite(0, 9)]),
+    (OWNED, &[]),
+    (OWNED, &[ReadWrite(1, 9)]),
+    (OWNED, &[ReadWrite(0, 9), ReadWrite(1, 9)]),
+    (READING, &[Reading(1), ReadWrite(0, 9), Down(INV, 3, 0)]),
+    (READING, &[Reading(1), ReadWrite(0, 9), Up(ACKC, 0, 0)]),
+    (
+        READING,
+        &[Reading(1), ReadWrite(0, 9), Down(INV, 0, 0), Up(REPM, 3, 9)],
+    ),
+];
 
 // The line is carried where the home's state says so, and a carrier in a transaction is recalled.
 #[test]
 fn broken_carriers(rt: HostRuntime) -> Result<(), Fail> {
-    let alloc = rt.alloc();
-    let shared = home(RO, &[0], 0);
-    let owned = home(RW, &[0], 0);
-    let reading = home(RT, &[1], 1);
-    assert!(rt; !is_sound(alloc, shared, &[ReadWrite(0, 9)])?);
-    assert!(rt; !is_sound(alloc, owned, &[])?);
-    assert!(rt; !is_sound(alloc, owned, &[ReadWrite(1, 9)])?);
-    assert!(rt; !is_sound(alloc, owned, &[ReadWrite(0, 9), ReadWrite(1, 9)])?);
-    assert!(rt;
-        !is_sound(
-            alloc,
-            reading,
-            &[Reading(1), ReadWrite(0, 9), Down(INV, 3, 0)]
-        )?
-    );
-    assert!(rt;
-        !is_sound(
-            alloc,
-            reading,
-            &[Reading(1), ReadWrite(0, 9), Up(ACKC, 0, 0)]
-        )?
-    );
-    assert!(rt;
-        !is_sound(
-            alloc,
-            reading,
-            &[Reading(1), ReadWrite(0, 9), Down(INV, 0, 0), Up(REPM, 3, 9)]
-        )?
-    );
+    assert_eq!(rt; first_other(rt.alloc(), &BROKEN_CARRIERS, false)?, None);
     Ok(())
 }
+
+const BROKEN_COPIES: [Row; 6] = [
+    (SHARED, &[ReadOnly(0, 8)]),
+    (SHARED, &[Reading(0), Down(RDATA, 0, 8)]),
+    (OWNED, &[ReadWrite(0, 9), ReadOnly(1, 9)]),
+    (UNSHARED, &[ReadOnly(0, 7)]),
+    (UNSHARED, &[Reading(0), Down(RDATA, 0, 7)]),
+    (WRITING, &[Writing(1), ReadOnly(0, 7), Up(ACKC, 0, 0)]),
+];
 
 // Copies and RDATA hold the current value, and readers are sharers or are to lose their copy.
 #[test]
 fn broken_copies(rt: HostRuntime) -> Result<(), Fail> {
-    let alloc = rt.alloc();
-    let shared = home(RO, &[0], 0);
-    let owned = home(RW, &[0], 0);
-    let unshared = home(RO, &[], 0);
-    let writing = home(WT, &[1], 1);
-    assert!(rt; !is_sound(alloc, shared, &[ReadOnly(0, 8)])?);
-    assert!(rt; !is_sound(alloc, shared, &[Reading(0), Down(RDATA, 0, 8)])?);
-    assert!(rt; !is_sound(alloc, owned, &[ReadWrite(0, 9), ReadOnly(1, 9)])?);
-    assert!(rt; !is_sound(alloc, unshared, &[ReadOnly(0, 7)])?);
-    assert!(rt; !is_sound(alloc, unshared, &[Reading(0), Down(RDATA, 0, 7)])?);
-    assert!(rt;
-        !is_sound(
-            alloc,
-            writing,
-            &[Writing(1), ReadOnly(0, 7), Up(ACKC, 0, 0)]
-        )?
-    );
+    assert_eq!(rt; first_other(rt.alloc(), &BROKEN_COPIES, false)?, None);
     Ok(())
 }
+
+const BROKEN_ORDERS_AND_PAIRS: [Row; 6] = [
+    (
+        WRITING,
+        &[Writing(1), Reading(0), Down(INV, 0, 0), Down(RDATA, 0, 7)],
+    ),
+    (OWNED, &[Reading(0), Up(RREQ, 0, 0), Up(REPM, 0, 9)]),
+    (OWNED, &[ReadWrite(0, 9), Writing(0), Up(WREQ, 0, 0)]),
+    (SHARED, &[ReadOnly(0, 7), Reading(0), Up(RREQ, 0, 0)]),
+    (SHARED, &[ReadOnly(0, 7), ReadOnly(0, 7)]),
+    (UNSHARED, &[Reading(0), Reading(0), Up(RREQ, 0, 0)]),
+];
 
 // No message overtakes another one, and a node has one copy and one transaction that go together.
 #[test]
 fn broken_orders_and_pairs(rt: HostRuntime) -> Result<(), Fail> {
-    let alloc = rt.alloc();
-    let writing = home(WT, &[1], 1);
-    let owned = home(RW, &[0], 0);
-    let shared = home(RO, &[0], 0);
-    let unshared = home(RO, &[], 0);
-    assert!(rt;
-        !is_sound(
-            alloc,
-            writing,
-            &[Writing(1), Reading(0), Down(INV, 0, 0), Down(RDATA, 0, 7)]
-        )?
+    assert_eq!(rt;
+        first_other(rt.alloc(), &BROKEN_ORDERS_AND_PAIRS, false)?,
+        None
     );
-    assert!(rt; !is_sound(alloc, owned, &[Reading(0), Up(RREQ, 0, 0), Up(REPM, 0, 9)])?);
-    assert!(rt; !is_sound(alloc, owned, &[ReadWrite(0, 9), Writing(0), Up(WREQ, 0, 0)])?);
-    assert!(rt; !is_sound(alloc, shared, &[ReadOnly(0, 7), Reading(0), Up(RREQ, 0, 0)])?);
-    assert!(rt; !is_sound(alloc, shared, &[ReadOnly(0, 7), ReadOnly(0, 7)])?);
-    assert!(rt; !is_sound(alloc, unshared, &[Reading(0), Reading(0), Up(RREQ, 0, 0)])?);
     Ok(())
 }
+
+const BROKEN_SOFTWARE_SETS: [Row; 5] = [
+    (
+        Entry {
+            software: &[3],
+            ..UNSHARED
+        },
+        &[],
+    ),
+    (
+        Entry {
+            meta: Meta::TrapWrite,
+            ..UNSHARED
+        },
+        &[],
+    ),
+    (IN_PROGRESS, &[]),
+    (
+        Entry {
+            state: RW,
+            meta: Meta::TrapAlways,
+            software: &[3],
+            ..UNSHARED
+        },
+        &[ReadWrite(3, 9)],
+    ),
+    (UNSHARED, &[Reading(4), Packet(RREQ, 4)]),
+];
 
 // The software set and the packet are those of the meta state.
 #[test]
 fn broken_software_sets(rt: HostRuntime) -> Result<(), Fail> {
-    let alloc = rt.alloc();
-    let unshared = home(RO, &[], 0);
-    assert!(rt; !is_sound(alloc, with_software(RO, Meta::Normal, &[3]), &[])?);
-    assert!(rt; !is_sound(alloc, with_software(RO, Meta::TrapWrite, &[]), &[])?);
-    assert!(rt; !is_sound(alloc, with_software(RO, Meta::Progress, &[]), &[])?);
-    assert!(rt;
-        !is_sound(
-            alloc,
-            with_software(RW, Meta::TrapAlways, &[3]),
-            &[ReadWrite(3, 9)]
-        )?
+    assert_eq!(rt;
+        first_other(rt.alloc(), &BROKEN_SOFTWARE_SETS, false)?,
+        None
     );
-    assert!(rt; !is_sound(alloc, unshared, &[Reading(4), Packet(RREQ, 4)])?);
     Ok(())
 }
 
-// The image of a node that stores to the one line of its machine.
-const STORES: [u8; 44] = [
-    0x41, 0x4c, 0x45, 0x57, 0, 1, 1, 1, 1, 0, 0, 1, 0, 0, 0, 2, 0, 0, 0, 0, 0, 0, 0, 1, 0, 0, 0, 0,
-    0x03, 0x10, 0, 0, 0xd0, 0x20, 0x40, 0, 0, 0, 0, 0, 0, 0, 0, 0,
-];
+// One node asks for the one line of its machine, to store to it.
+const ASKS: Play = Play {
+    sizes: "1 1 1 4 4 100",
+    code: "03100000 d0204000",
+    starts: "0 0 0",
+    always: "",
+    rows: "1 I 0 done, 2 I 0 missed",
+};
 
-// The machine once the node has asked for the line.
+// The machine once it has.
 fn asked(alloc: Global) -> Result<Machine, Fail> {
-    let image = read_image(alloc, &STORES)?;
-    let params = Params::new(4, 4, 100, 0).ok_or("no parameters")?;
-    let mut machine = Machine::start(alloc, &image, &params)?;
-    for _ in 0..2 {
-        machine.step(Event::Instr { node: NodeNo(0) })?;
-    }
+    let mut machine = started(alloc, &ASKS)?;
+    goes(&mut machine, ASKS.rows)?;
     Ok(machine)
 }
 

@@ -3,10 +3,12 @@ use alw_cells::{Logs, links_agree};
 use alw_image::{Image, Params, Starts};
 use alw_num::NodeNo;
 use alw_work::{Counting, Gate, OpenGate, Ready, run_workers};
-use std::alloc::Global;
+use std::alloc::{AllocGlobal, Global};
+use std::sync::Wait;
 use std::sync::atomic::{AtomicBool, Ordering};
 use std::test::Fail;
 use std::thread;
+use std::thread::Threads;
 
 // A context stores 0 to the first address of shared data, loads from it, and prints what it loaded.
 const STORE_LOAD_PRINT: [u32; 5] = [
@@ -43,6 +45,15 @@ impl Gate for HoldingGate {
     }
 }
 
+// Such a gate, before the first pass.
+fn holding_gate() -> HoldingGate {
+    HoldingGate {
+        has_held: AtomicBool::new(false),
+        has_passed: AtomicBool::new(false),
+        was_passed: AtomicBool::new(false),
+    }
+}
+
 // A queue of one node.
 struct One;
 
@@ -66,6 +77,17 @@ fn writers(alloc: Global, width: u8, height: u8) -> Result<Image, Fail> {
     image_of(alloc, sizes, &STORE_LOAD_PRINT, starts, &[])
 }
 
+// What so many workers log of an image.
+fn logs_of(
+    rt: &(impl Threads + Wait + Sync + AllocGlobal),
+    image: &Image,
+    params: &Params,
+    workers: u32,
+    gate: &impl Gate,
+) -> Result<Logs, Fail> {
+    Ok(run_workers(rt, rt.alloc(), image, params, workers, gate)?.logs)
+}
+
 // How many events the nodes logged, where there are few.
 fn count_events(logs: &Logs) -> u32 {
     let mut count = 0u32;
@@ -75,32 +97,31 @@ fn count_events(logs: &Logs) -> u32 {
     count
 }
 
+// A worker passes while another one is held in its first pass.
 #[test]
 fn two_workers_run_at_once(rt: HostRuntime) -> Result<(), Fail> {
     let image = writers(rt.alloc(), 2, 1)?;
     let params = Params::new(4, 64, 100, 0).ok_or("no parameters")?;
-    let gate = HoldingGate {
-        has_held: AtomicBool::new(false),
-        has_passed: AtomicBool::new(false),
-        was_passed: AtomicBool::new(false),
-    };
-    let worked = run_workers(&rt, rt.alloc(), &image, &params, 2, &gate)?;
+    let gate = holding_gate();
+    let logs = logs_of(&rt, &image, &params, 2, &gate)?;
     assert!(rt; gate.was_passed.load(Ordering::SeqCst));
-    assert!(rt; links_agree(&worked.logs));
+    assert!(rt; links_agree(&logs));
     Ok(())
 }
 
+// Each of four nodes does its part, and what one logs as sent another logs as taken.
 #[test]
 fn four_workers_step_four_nodes(rt: HostRuntime) -> Result<(), Fail> {
     let image = writers(rt.alloc(), 2, 2)?;
     let params = Params::new(4, 64, 1000, 16).ok_or("no parameters")?;
-    let worked = run_workers(&rt, rt.alloc(), &image, &params, 4, &OpenGate)?;
-    assert_eq!(rt; worked.logs.len(), 4);
-    assert!(rt; links_agree(&worked.logs));
-    assert!(rt; count_events(&worked.logs) > 20);
+    let logs = logs_of(&rt, &image, &params, 4, &OpenGate)?;
+    assert_eq!(rt; logs.len(), 4);
+    assert!(rt; links_agree(&logs));
+    assert!(rt; count_events(&logs) > 20);
     Ok(())
 }
 
+// A queue of one node has it for one pass at a time.
 #[test]
 fn a_node_is_with_one_worker_at_a_time(rt: HostRuntime) -> Result<(), Fail> {
     let (ready, _filler) = Ready::<One>::start(&rt, rt.alloc(), 1)?;
