@@ -83,13 +83,24 @@ fn hop(hops: &mut Hops, at: u16, port: Port) -> Result<Option<Hop>, Fail>
     Ok(Some(hops.hop(NodeNo(at), port)?))
 }
 
-// The message from node 1 comes between the two from node 0 at node 1.
+// The routers once those hops have brought the messages to node 5.
+fn carried(alloc: Global) -> Result<Hops, Fail>
+    ensures wide { IfOk result (λ hops. hops.width ≡ 3) }
+    ensures high { IfOk result (λ hops. hops.height ≡ 2) }
+{
+    let mut hops = sent(alloc)?;
+    for (at, port, done) in HOPS {
+        if hop(&mut hops, at, port)? != Some(done) {
+            return Err(Fail::from("another hop"));
+        }
+    }
+    Ok(hops)
+}
+
+// The message from node 1 comes between the two from node 0 at node 1. Then no queue has one.
 #[test]
 fn two_and_one(rt: HostRuntime) -> Result<(), Fail> {
-    let mut hops = sent(rt.alloc())?;
-    for (at, port, done) in HOPS {
-        assert_eq!(rt; hop(&mut hops, at, port)?, Some(done));
-    }
+    let hops = carried(rt.alloc())?;
     assert!(rt; hops.empty());
     Ok(())
 }
@@ -97,10 +108,7 @@ fn two_and_one(rt: HostRuntime) -> Result<(), Fail> {
 // The two messages from node 0 arrive in order.
 #[test]
 fn two_arrive_in_order(rt: HostRuntime) -> Result<(), Fail> {
-    let mut hops = sent(rt.alloc())?;
-    for (at, port, done) in HOPS {
-        assert_eq!(rt; hop(&mut hops, at, port)?, Some(done));
-    }
+    let hops = carried(rt.alloc())?;
     let list = hops.arrivals(NodeNo(0), NodeNo(5));
     assert_eq!(rt; list.len(), 2);
     assert_eq!(rt; (list.at(0), list.at(1)), (stamped(1), stamped(2)));
@@ -110,10 +118,7 @@ fn two_arrive_in_order(rt: HostRuntime) -> Result<(), Fail> {
 // The three messages have crossed the wires of their routes, and no other.
 #[test]
 fn crossings_of_two_and_one(rt: HostRuntime) -> Result<(), Fail> {
-    let mut hops = sent(rt.alloc())?;
-    for (at, port, done) in HOPS {
-        assert_eq!(rt; hop(&mut hops, at, port)?, Some(done));
-    }
+    let hops = carried(rt.alloc())?;
     for (a, b, count) in [(0, 1, 2), (1, 2, 3), (2, 5, 3), (0, 3, 0), (1, 0, 0)] {
         assert!(rt; a < 6 && b < 6);
         assert_eq!(rt;
