@@ -4,8 +4,8 @@ use sparc_assemble::*;
 use std::alloc::Global;
 use std::test::Fail;
 
-// No source here has more bytes.
-const MOST_BYTES: usize = 4096;
+/// No source here has more bytes.
+pub const MOST_BYTES: usize = 4096;
 
 // Why a source is refused: nothing where it is assembled.
 fn fault_of(alloc: Global, source: &[u8]) -> Option<AsmErr> {

@@ -1,11 +1,12 @@
+use crate::assembling::MOST_BYTES;
 use sparc_asm::{AsmErr, read_source};
 use sparc_place::*;
 use std::alloc::Global;
 use std::test::Fail;
 
-// Why the lines of a source of no more than 4,096 bytes are refused: nothing where they get their places.
+// Why the lines of a source are refused: nothing where they get their places.
 fn fault_of(alloc: Global, source: &[u8]) -> Result<Option<AsmErr>, Fail> {
-    if source.len() > 4096 {
+    if source.len() > MOST_BYTES {
         return Ok(None);
     }
     Ok(lay_out(alloc, &read_source(alloc, source)?).err())
