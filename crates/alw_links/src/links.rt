@@ -76,10 +76,21 @@ impl Links {
         ensures ok { OnOk result (self.new ≡ record self.old { room = max self.old.room count }) }
         ensures err { OnErr result (self.new ≡ self.old) }
     {
-        let had = self.spare.len();
-        if had >= count as usize {
+        if self.spare.len() >= count as usize {
             return Ok(());
         }
+        self.grow(count)
+    }
+
+    // Room for so many messages, where there is less.
+    #[cold]
+    #[inline(never)]
+    fn grow(&mut self, count: u32) -> Result<(), NoMemory>
+        requires { self.old.room < count }
+        ensures ok { OnOk result (self.new ≡ record self.old { room = count }) }
+        ensures err { OnErr result (self.new ≡ self.old) }
+    {
+        let had = self.spare.len();
         if self.count > MOST - count as usize {
             return Err(NoMemory);
         }
