@@ -1,5 +1,5 @@
 -- A tally: what it tells, and room for events to come.
-use Rattle.std.specs.Prelude.{ℕ, ◌*◌, ◌<◌, ◌≤◌, ◌^◌, List, ◌++◌, length}
+use Rattle.std.specs.Prelude.{ℕ, ◌+◌, ◌*◌, ◌<◌, ◌≤◌, ◌^◌, List, ◌++◌, length}
 use Rattle.alw_msg.specs.declared.messages.Msg.{Msg}
 use Rattle.alw_image.specs.declared.parts.Parts.{Parts}
 use Rattle.alw_model.specs.Runs.{turn_in}
@@ -18,6 +18,10 @@ pub record IsWithin (told : Told) : Type 0 where
   pub turns : length told.turns ≤ told.counts.entries
   pub prints : length told.prints ≤ told.counts.entries
   pub counts : AreAtMost (2 ^ 25 * told.counts.entries) told.counts
+
+-- room for so many events: for the entry, the turn and the print of each
+abbrev pub HasRoom : ℕ → ℕ → ℕ → ℕ → Type 0
+HasRoom entries turns prints room = (entries + room < 2 ^ 32) × (room ≤ turns) × (room ≤ prints)
 
 -- what is told with one event more, by what it did, took and sent; where it trapped isn't
 abbrev pub told_logged : Parts → Told → Happened → List (ℕ × Msg) → Told

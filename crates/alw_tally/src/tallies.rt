@@ -15,12 +15,17 @@ use sparc_table::Outcome;
 use std::alloc::Global;
 use std::marker::Model;
 
+// The number of events that memory is asked for at a time.
+const BLOCK: u32 = 1024;
+
 /// What a run tells, kept as it goes: the contexts that took turns, the words that they printed, all
 /// counts, and the first trapping turn.
 ///
-/// Memory is asked for before an event, by `reserve`, so that the event itself needs none.
+/// Memory is asked for before an event, by `reserve`, for a block of them, so that the event itself
+/// needs none.
 #[derive(Debug, Drop)]
 pub struct Tally {
+    room: u32,
     turns: Roomy<u32>,
     prints: Roomy<(u32, u32)>,
     counts: Counts,
@@ -28,17 +33,17 @@ pub struct Tally {
 }
 
 impl Model for Tally {
-    ghost use Rattle.std.specs.Prelude.{◌-◌, ◌^◌, min};
-    ghost use Rattle.alw_tally.specs.Tallies.{Tallied, IsWithin};
+    ghost use Rattle.alw_tally.specs.Tallies.{Tallied, IsWithin, HasRoom};
 
     ghost Value = { Tallied };
 
     ghost view = { λ t. record {
       told = record { turns = t.turns.list; prints = t.prints.list; counts = t.counts; trap = t.trap };
-      room = min (2 ^ 32 - 1 - t.counts.entries) (min t.turns.room t.prints.room);
+      room = t.room;
     } };
 
-    ghost invariant = { λ t. IsWithin (record { turns = t.turns.list; prints = t.prints.list; counts = t.counts; trap = t.trap }) };
+    ghost invariant = { λ t. IsWithin (record { turns = t.turns.list; prints = t.prints.list; counts = t.counts; trap = t.trap })
+        × HasRoom t.counts.entries t.turns.room t.prints.room t.room };
 }
 
 impl Tally {
@@ -47,6 +52,7 @@ impl Tally {
         ensures { (parts : Parts) → result.told ≡ told_of parts [] }
     {
         Tally {
+            room: 0,
             turns: Roomy::empty(alloc),
             prints: Roomy::empty(alloc),
             counts: Counts::default(),
@@ -66,6 +72,7 @@ impl Tally {
         ensures { IfOk result (λ tally. tally.told ≡ record { turns = turns.now; prints = prints.now; counts = counts; trap = trap }) }
     {
         Ok(Tally {
+            room: 0,
             turns: roomy_of(alloc, turns)?,
             prints: roomy_of(alloc, prints)?,
             counts,
@@ -79,11 +86,26 @@ impl Tally {
         ensures ok { OnOk result (1 ≤ self.new.room) }
         ensures room { self.old.room ≤ self.new.room }
     {
-        if self.counts.entries == u64::from(u32::MAX) {
+        if self.room > 0 {
+            return Ok(());
+        }
+        self.grow()
+    }
+
+    // Makes room for a block of events, where there is none.
+    #[cold]
+    #[inline(never)]
+    fn grow(&mut self) -> Result<(), NoMemory>
+        requires { self.old.room ≡ 0 }
+        ensures told { self.new.told ≡ self.old.told }
+        ensures ok { OnOk result (self.new.room ≡ BLOCK) }
+    {
+        if self.counts.entries > u64::from(u32::MAX - BLOCK) {
             return Err(NoMemory);
         }
-        self.turns.reserve(1)?;
-        self.prints.reserve(1)?;
+        self.turns.reserve(BLOCK)?;
+        self.prints.reserve(BLOCK)?;
+        self.room = BLOCK;
         Ok(())
     }
 
@@ -94,6 +116,7 @@ impl Tally {
         ensures told { (moment : Moment) → IsOf happened.now sends.now.messages moment → self.new.told ≡ told_with image.now self.old.told moment }
         ensures room { self.old.room ≤ self.new.room + 1 }
     {
+        self.room -= 1;
         note_trap(&mut self.trap, self.counts.entries as u32, happened);
         count_event(&mut self.counts, image, happened, sends);
         add_turn(&mut self.turns, &mut self.prints, turn_of(image, happened));
@@ -107,6 +130,7 @@ impl Tally {
         ensures told { self.new.told ≡ told_logged image.now self.old.told happened.now sends.now }
         ensures room { self.old.room ≤ self.new.room + 1 }
     {
+        self.room -= 1;
         count_logged(&mut self.counts, image, happened, sends);
         add_turn(&mut self.turns, &mut self.prints, turn_of(image, happened));
     }
@@ -147,6 +171,7 @@ impl Tally {
         ensures prints { result.1 ≡ self.told.prints }
     {
         let Tally {
+            room: _,
             turns,
             prints,
             counts: _,
