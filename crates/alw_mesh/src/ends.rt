@@ -1,9 +1,8 @@
 ghost use Rattle.std.specs.Prelude.{◌≡◌, ◌<◌, find, length, slice_get, filter, None, Some, MatchOption};
 ghost use Rattle.alw_image.specs.Images.{node_count};
-ghost use Rattle.alw_model.specs.Machine.{is_enabled, main_events, end_of};
-ghost use Rattle.alw_model.specs.Ends.{IsEnd};
-ghost use Rattle.alw_mesh.specs.Histories.{state_of, IsRun};
-ghost use Rattle.alw_mesh.specs.Ends.{node_events, next_events};
+ghost use Rattle.alw_model.specs.Machine.{is_enabled, main_events};
+ghost use Rattle.alw_mesh.specs.Histories.{IsRun};
+ghost use Rattle.alw_mesh.specs.Ends.{node_events, next_events, Ends};
 
 use crate::machines::Machine;
 use crate::meshes::Mesh;
@@ -33,8 +32,20 @@ impl Machine {
     #[inline(always)]
     pub fn ended(&self) -> Option<Ended>
         ensures run { IsRun self.now }
-        ensures end { MatchOption result (end_of self.now.image self.now.parameters (state_of self.now) ≡ None)
-            (λ ended. IsEnd self.now.image self.now.parameters self.now.journal ended) }
+        ensures end { Ends self.now result }
+    {
+        if self.ready.count() > 0 && !self.mesh.has_halted() && !self.mesh.any_trapped() {
+            return None;
+        }
+        self.find_end()
+    }
+
+    // The same, of a machine that may have come to an end.
+    #[cold]
+    #[inline(never)]
+    fn find_end(&self) -> Option<Ended>
+        ensures run { IsRun self.now }
+        ensures end { Ends self.now result }
     {
         if self.mesh.any_trapped() {
             let Some(at) = self.tally.trap() else {

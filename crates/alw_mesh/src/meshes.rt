@@ -223,7 +223,8 @@ impl Mesh {
         ensures { Happens self.old self.new event sent.new result }
     {
         let number = event.node();
-        let taken = take(&mut self.links, event);
+        let mut taken = None;
+        take(&mut self.links, event, &mut taken);
         let acted = act(&mut self.nodes, usize::from(number.0), event, &taken, sent);
         self.links.send_all(number, sent);
         self.remains.follow(event, acted.did);

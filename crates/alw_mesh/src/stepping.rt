@@ -1,4 +1,4 @@
-ghost use Rattle.std.specs.Prelude.{◌≡◌, ◌<◌, ◌≤◌, ◌==◌, ◌&&◌, not, true, length, nat_le, map, option_copied, IfOk};
+ghost use Rattle.std.specs.Prelude.{◌≡◌, ◌<◌, ◌≤◌, ◌==◌, ◌&&◌, not, true, length, nat_le, map, option_copied, None, IfOk};
 ghost use Rattle.std.specs.List.{range_with_len};
 ghost use Rattle.std.specs.Arc.{arc_value};
 ghost use Rattle.alw_image.specs.Images.{IsImage, node_count};
@@ -47,15 +47,15 @@ pub fn nodes_start(
     Ok(nodes)
 }
 
-/// The message that an event takes, off its link: the head for a delivery, and none else.
-pub fn take(links: &mut Links, event: Event) -> Option<Msg>
-    requires { IsWithin links.old.nodes event }
-    ensures message { result ≡ taken_from links.old event }
+/// Takes the message that an event takes off its link: the head for a delivery, and none else.
+pub fn take(links: &mut Links, event: Event, taken: &mut Option<Msg>)
+    requires within { IsWithin links.old.nodes event }
+    requires none { taken.old ≡ None }
+    ensures message { taken.new ≡ taken_from links.old event }
     ensures links { links.new ≡ after_taking links.old event }
 {
-    match event {
-        Event::Deliver { from, to } => links.take(from, to),
-        Event::Instr { .. } | Event::Handle { .. } | Event::Evict { .. } => None,
+    if let Event::Deliver { from, to } = event {
+        *taken = links.take(from, to);
     }
 }
 

@@ -1,7 +1,7 @@
 -- The end that holds, from what the machine keeps.
 use Rattle.std.proofs.Common.{sym, ◌∙◌}
 use Rattle.alw_mesh.proofs.Endings.{trap_known, ended_trapped, ended_halted, not_ended, limit_known, ended_limit}
-use Rattle.alw_mesh.proofs.machines.Machine.ended.Goals as goal
+use Rattle.alw_mesh.proofs.machines.Machine.find_end.Goals as goal
 
 pub unreachable-requires : goal.unreachable-requires
 unreachable-requires c =
