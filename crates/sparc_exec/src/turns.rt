@@ -38,6 +38,7 @@ pub fn turn<P: Port>(code: &[u32], regs: &mut Regs, port: &mut P) -> Outcome
 
 // The instruction at an address, or the type of the trap that fetching it gives.
 #[tactic(auto, unfolding(sparc_table::specs::Turns::fetched))]
+#[inline(always)]
 fn fetch(code: &[u32], pc: u32) -> Result<Instr, u8>
     ensures found { result ≡ fetched code.now pc }
     ensures fits { IfOk result (λ instr. Fits instr) }

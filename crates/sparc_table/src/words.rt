@@ -6,6 +6,7 @@ use crate::instructions::{Instr, Operand};
 
 /// The instruction that a word spells. None exactly outside the table (SPARC V8 manual, appendix F).
 #[tactic(auto, using(crate::proofs::Rows::table, crate::proofs::Rows::table_fits), unfolding(crate::specs::Table::instr_of))]
+#[inline(always)]
 pub fn decode(word: u32) -> Option<Instr>
     ensures row { result ≡ instr_of word }
     ensures spelled { MatchOption result (IsOutside word) (λ instr. IsSpelled instr word) }
@@ -22,6 +23,7 @@ pub fn decode(word: u32) -> Option<Instr>
 }
 
 // SETHI and Bicc, by op2.
+#[inline(always)]
 fn decode_format_2(word: u32) -> Option<Instr>
     ensures { result ≡ format_2 word }
 {
@@ -40,6 +42,7 @@ fn decode_format_2(word: u32) -> Option<Instr>
 }
 
 // The rows of format 3 but memory, by op3.
+#[inline(always)]
 fn decode_format_3(word: u32) -> Option<Instr>
     ensures { result ≡ format_3 (op3_of word) word }
 {
@@ -163,6 +166,7 @@ fn is_access(op3: u8) -> bool
     matches!(op3, 0x00..=0x02 | 0x04..=0x06 | 0x09 | 0x0a | 0x0d | 0x0f)
 }
 
+#[inline(always)]
 fn decode_arithmetic(word: u32) -> Option<Instr>
     ensures { result ≡ only_if (is_in arithmetic (op3_of word)) (option_map (Instr.Arith (op3_of word) (rd_of word) (rs1_of word)) (operand_in word)) }
 {
@@ -178,6 +182,7 @@ fn decode_arithmetic(word: u32) -> Option<Instr>
     })
 }
 
+#[inline(always)]
 fn decode_memory(word: u32) -> Option<Instr>
     ensures { result ≡ memory (op3_of word) word }
 {
