@@ -1,5 +1,5 @@
 -- Number k of a set of nodes stands where k members stand below it, and a word is halved by counts of bits.
-use Rattle.std.proofs.Common.{◌≡◌, ℕ, zero, suc, add-zero, add-suc, subst, ◌+◌, ◌-◌, ◌*◌, ◌/◌, ◌%◌, ◌^◌, ◌<◌, ◌≤◌, ◌==◌, nat_lt, Bool, true, false, List, [], ◌∷◌, length, slice_get, Some, refl, sym, ap, ◌∙◌, ◌⊎◌, inl, inr, ⊎_elim, arith, bit_and, count_ones}
+use Rattle.std.proofs.Common.{◌≡◌, ℕ, zero, suc, add-zero, add-suc, subst, ◌+◌, ◌-◌, ◌*◌, ◌/◌, ◌%◌, ◌^◌, ◌<◌, ◌≤◌, ◌==◌, nat_lt, true, List, [], ◌∷◌, slice_get, Some, refl, sym, ap, ◌∙◌, ◌⊎◌, inl, inr, arith, bit_and, count_ones}
 use Rattle.std.specs.Int.{bit_at}
 use Rattle.std.proofs.lemmas.Bool.{lt-ltb, le-ltb, cases_order}
 use Rattle.std.proofs.lemmas.Bool.Decides.{nat_tests}
@@ -8,9 +8,10 @@ use Rattle.std.proofs.lemmas.Nat.Bits.{bit_at-lt, bit_at_above, bit_at_cat_low}
 use Rattle.alw_num.specs.declared.node_sets.NodeSet.{NodeSet}
 use Rattle.alw_num.specs.NodeSets.{Nodes, has_node, members, count_nodes, nodes_of}
 use Rattle.alw_num.specs.Weights.{digit, weigh, times, sum_below}
+use Rattle.alw_num.specs.Ranks.{IsPart, IsFound}
 use Rattle.alw_num.proofs.Sets.{AscendsFrom, times_before, member, members-ascend, count-bits, count-sum}
 use Rattle.alw_num.proofs.Weigh.{cases_lt_then, true_of_digit, digit_other, sum_same, sum_both, sum_one, sum_none}
-use Rattle.alw_num.proofs.Words.{has-low, has-high, counted, nodes_below}
+use Rattle.alw_num.proofs.Words.{has-low, has-high, counted}
 
 -- ---- lists that ascend
 
@@ -84,16 +85,7 @@ bit_at-high word w k = ap (λ n. n % 2) (shr-shr word w k)
 ones_parts : (word w : ℕ) → count_ones word ≡ count_ones (word / 2 ^ w) + count_ones (word % 2 ^ w)
 ones_parts word w = sym (ap count_ones (shr_split word w)) ∙ ones_cat w (word / 2 ^ w) (word % 2 ^ w) (low_below word w)
 
--- of the ones of a word number k is number `left` of those of a part, which has these digits from a place on
-pub record IsWindow (word k rest left at width : ℕ) : Type 0 where
-  pub some : 1 ≤ width
-  pub within : at + width ≤ 128
-  pub fits : rest < 2 ^ width
-  pub digits : (j : ℕ) → j < width → bit_at rest j ≡ bit_at word (at + j)
-  pub before : sum_below at (bit_at word) + left ≡ k
-  pub here : left < count_ones rest
-
-pub begins : (word k : ℕ) → word < 2 ^ 128 → k < count_ones word → IsWindow word k word k 0 128
+pub begins : (word k : ℕ) → word < 2 ^ 128 → k < count_ones word → IsPart word k word k 0 128
 begins word k fits here = record {
   some = omega arith;
   within = omega arith;
@@ -110,16 +102,13 @@ masked rest half l = rw (one_shl half 128 l) (and_mask rest half)
 abbrev pub low_part : ℕ → ℕ → ℕ
 low_part rest half = bit_and rest (1 * 2 ^ half % 340282366920938463463374607431768211456 - 1)
 
-module _ (word k rest left at width : ℕ) (window : IsWindow word k rest left at width) (more : 1 < width) where
-  abbrev half : ℕ
-  half = width / 2
-
+module _ (word k rest left at half : ℕ) (window : IsPart word k rest left at (half * 2)) where
   low_is : low_part rest half ≡ rest % 2 ^ half
-  low_is = masked rest half (omega (arith, window.within))
+  low_is = masked rest half (omega (arith, window.some, window.within))
 
-  pub goes_low : left < count_ones (low_part rest (width / 2)) → IsWindow word k (low_part rest (width / 2)) left at (width / 2)
+  pub goes_low : left < count_ones (low_part rest half) → IsPart word k (low_part rest half) left at half
   goes_low here = record {
-    some = omega arith;
+    some = omega (arith, window.some);
     within = omega (arith, window.within);
     fits = rw low_is (low_below rest half);
     digits = λ j l. rw low_is (bit_at-low rest half j l ∙ window.digits j (omega arith));
@@ -127,31 +116,25 @@ module _ (word k rest left at width : ℕ) (window : IsWindow word k rest left a
     here = here;
   }
 
-  pub goes_high : count_ones (low_part rest (width / 2)) ≤ left → IsWindow word k (rest / 2 ^ (width / 2)) (left - count_ones (low_part rest (width / 2))) (at + width / 2) (width - width / 2)
+  pub goes_high : count_ones (low_part rest half) ≤ left → IsPart word k (rest / 2 ^ half) (left - count_ones (low_part rest half)) (at + half) half
   goes_high past =
       let ones : count_ones (low_part rest half) ≡ count_ones (rest % 2 ^ half) = ap count_ones low_is in
-      let whole : rest < 2 ^ (width - half + half) = let e : width ≡ width - half + half = omega arith in subst (λ w. rest < 2 ^ w) e window.fits in
+      let whole : rest < 2 ^ (half + half) = let e : half * 2 ≡ half + half = omega arith in subst (λ w. rest < 2 ^ w) e window.fits in
       let low : sum_below half (λ j. bit_at word (at + j)) ≡ count_ones (rest % 2 ^ half) =
       sum_same half (λ j. bit_at word (at + j)) (bit_at (rest % 2 ^ half)) (λ j l. sym (bit_at-low rest half j l ∙ window.digits j (omega arith))) ∙ ones_sum half (rest % 2 ^ half) (low_below rest half) in
       record {
-        some = omega arith;
+        some = omega (arith, window.some);
         within = omega (arith, window.within);
-        fits = shr_below rest (width - half) half whole;
+        fits = shr_below rest half half whole;
         digits = λ j l. bit_at-high rest half j ∙ (window.digits (half + j) (omega arith) ∙ ap (bit_at word) (omega arith));
         before = omega (arith, window.before, sum_cat at half (bit_at word), low, ones);
         here = omega (arith, window.here, ones_parts rest half, ones);
       }
 
 -- a part of one digit is the one
-pub record IsFound (word k at : ℕ) : Type 0 where
-  pub within : at < 128
-  pub one : bit_at word at ≡ 1
-  pub before : sum_below at (bit_at word) ≡ k
-
-pub ends : (word k rest left at width : ℕ) → IsWindow word k rest left at width → width ≤ 1 → IsFound word k at
-ends word k rest left at width window last =
-    let single : width ≡ 1 = omega (arith, window.some) in
-    let few : rest < 2 = subst (λ w. rest < 2 ^ w) single window.fits in
+pub ends : (word k rest left at : ℕ) → IsPart word k rest left at 1 → IsFound word k at
+ends word k rest left at window =
+    let few : rest < 2 = window.fits in
     let some : rest ≡ 1 = omega (arith, window.here, ones_le_self rest) in
     let digit_is : bit_at rest 0 ≡ bit_at word at = window.digits 0 (omega arith) ∙ ap (bit_at word) (omega arith) in
     record {

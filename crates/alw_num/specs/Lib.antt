@@ -4,3 +4,4 @@ pub mod Weights
 pub mod Maps
 pub mod Rooms
 pub mod Draws
+pub mod Ranks

@@ -1,7 +1,6 @@
-ghost use Rattle.std.specs.Prelude.{◌≡◌, ◌<◌, ◌↔◌, [], ◌∷◌, slice_get, Some, count_ones, IsTrue, IsNone, IfNone, IfSome};
-ghost use Rattle.std.specs.Int.{bit_at};
+ghost use Rattle.std.specs.Prelude.{◌≡◌, ℕ, ◌<◌, ◌≤◌, ◌+◌, ◌*◌, ◌↔◌, [], ◌∷◌, slice_get, Some, count_ones, IsTrue, IsNone, IfNone, IfSome};
 ghost use Rattle.alw_num.specs.NodeSets.{no_nodes, has_node, add_node, drop_node, join_nodes, count_nodes, members, nodes_of};
-ghost use Rattle.alw_num.specs.Weights.{sum_below};
+ghost use Rattle.alw_num.specs.Ranks.{IsPart, IsFound};
 
 use crate::addresses::NodeNo;
 
@@ -137,27 +136,45 @@ impl NodeSet {
 // The place of one number k of a word, lowest first.
 fn nth_one(word: u128, k: u32) -> u16
     requires { k < count_ones word }
-    ensures within { result < WORD_BITS }
-    ensures one { bit_at word result ≡ 1 }
-    ensures before { sum_below result (bit_at word) ≡ k }
+    ensures { IsFound word k result }
 {
-    let mut rest = word;
-    let mut left = k;
-    let mut at = 0;
-    let mut width = WORD_BITS;
-    while width > 1 {
-        let half = width / 2;
-        let low = rest & ((1 << half) - 1);
+    let whole = Part {
+        bits: word,
+        left: k,
+        at: 0,
+    };
+    let byte = whole.half(64).half(32).half(16).half(8);
+    byte.half(4).half(2).half(1).at
+}
+
+// A part of a word, with the one that is looked for: the part's bits, how many of its ones stand below
+// that one, and the place of the part's lowest bit in the word.
+#[derive(Clone, Copy)]
+struct Part {
+    bits: u128,
+    left: u32,
+    at: u16,
+}
+
+impl Part {
+    // The half of so many bits that has the one.
+    #[inline(always)]
+    fn half(self, width: u16) -> Part
+        requires width { width < WORD_BITS }
+        requires at { self.at + width ≤ WORD_BITS }
+        ensures at { result.at ≤ self.at + width }
+        ensures part { (word k : ℕ) → IsPart word k self.bits self.left self.at (width * 2) → IsPart word k result.bits result.left result.at width }
+    {
+        let low = self.bits & ((1 << width) - 1);
         let ones = low.count_ones();
-        if left < ones {
-            rest = low;
-            width = half;
+        if self.left < ones {
+            Part { bits: low, ..self }
         } else {
-            left -= ones;
-            rest >>= half;
-            at += half;
-            width -= half;
+            Part {
+                bits: self.bits >> width,
+                left: self.left - ones,
+                at: self.at + width,
+            }
         }
     }
-    at
 }

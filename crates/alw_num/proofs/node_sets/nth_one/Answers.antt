@@ -1,11 +1,10 @@
-use Rattle.alw_num.proofs.Ranks.{goes_low, goes_high, ends}
+-- Seven halves of a word are one bit.
+use Rattle.alw_num.proofs.Ranks.{begins, ends}
 use Rattle.alw_num.proofs.node_sets.nth_one.Goals as goal
 
-pub loop-width-preserved-then-left-ones : goal.loop-width-preserved-then-left-ones
-loop-width-preserved-then-left-ones c = goes_low _ _ _ _ _ _ c.loop-width.invariant c.loop-width-test.true c.if-left-ones.true
-
-pub loop-width-preserved : goal.loop-width-preserved
-loop-width-preserved c = goes_high _ _ _ _ _ _ c.loop-width.invariant c.loop-width-test.true c.if-left-ones.false
-
-pub returns-clause-one : goal.returns-clause-one
-returns-clause-one c = (ends _ _ _ _ _ _ c.loop-width.invariant c.loop-width-test.false).one
+pub returns : goal.returns
+returns c =
+    let half = c.half.ensures.part _ _ (begins c.args.word c.args.k c.ranges.word.fits c.requires) in
+    let eighth = c.half-3.ensures.part _ _ (c.half-2.ensures.part _ _ half) in
+    let nibble = c.half-4.ensures.part _ _ (c.half-byte.ensures.part _ _ eighth) in
+    ends _ _ _ _ _ (c.half-6.ensures.part _ _ (c.half-5.ensures.part _ _ nibble))
