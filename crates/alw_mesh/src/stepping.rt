@@ -47,7 +47,8 @@ pub fn nodes_start(
     Ok(nodes)
 }
 
-/// Takes the message that an event takes off its link: the head for a delivery, and none else.
+/// Takes the message that an event takes off its link: the head for a delivery, and none else. It is
+/// written in place, since a message that is answered is copied at each event.
 pub fn take(links: &mut Links, event: Event, taken: &mut Option<Msg>)
     requires within { IsWithin links.old.nodes event }
     requires none { taken.old ≡ None }
