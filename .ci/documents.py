@@ -13,6 +13,7 @@ What is tested:
 - each edit still fits: its old text stands once in its file.
 - each block of README.md that shows commands or C is a file of examples/, of which the checks there run each.
 - docs/ARCHITECTURE.md has each crate of crates.txt, and no other.
+- a crate of crates.txt stands on crates of its own floor and of those that the floor's line names; what it lists else is of the toolchain.
 - docs/REFUSALS.md: each row has calls of its crate, a clause of one of them or a word of it, and tests; and each call of these crates that
   answers a Result or an Option has a row.
 
@@ -436,6 +437,25 @@ def check_architecture(findings, repository):
         findings.say(file, 0, f'{name} stands in its table or in crates.txt, and not in both')
 
 
+FLOOR = re.compile(r'^# (\w+)(?:, on ([\w, ]+))?: .*\n((?:\w+.*\n)+)', re.M)
+
+
+def check_floors(findings, repository):
+    """A crate stands on those of its own floor and of the floors that the line above its floor names."""
+    file = ROOT / 'crates.txt'
+    floors = {name: (set((below or '').split(', ')), re.findall(r'^(\w+)[^:\n]*:(.*)', rows, re.M)) for name, below, rows in FLOOR.findall(file.read_text())}
+    floor_of = {crate: floor for floor, (_, rows) in floors.items() for crate, _ in rows}
+    for name in sorted(set(repository) - set(floor_of)):
+        findings.say(file, 0, f'{name} stands on no floor')
+    for floor, (below, rows) in floors.items():
+        for name in sorted(below - set(floors) - {''}):
+            findings.say(file, 0, f'{floor} names a floor {name} that is none')
+        for crate, used in rows:
+            for other in used.split():
+                if floor_of.get(other, floor) not in below | {floor}:
+                    findings.say(file, 0, f'{crate} of {floor} stands on {other} of {floor_of[other]}')
+
+
 def tests_of(crate):
     """The tests of a crate."""
     return {name for file in crate.folder.glob('src/**/*.rt') for name in re.findall(r'#\[test\]\s+fn (\w+)', file.read_text())}
@@ -515,6 +535,7 @@ def main():
         check_names(findings, file, repository, folder)
         check_links(findings, file)
     check_architecture(findings, repository)
+    check_floors(findings, repository)
     check_words(findings)
     check_refusals(findings, repository)
     check_examples(findings)

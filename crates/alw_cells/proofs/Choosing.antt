@@ -22,7 +22,7 @@ use Rattle.alw_image.specs.Images.{node_count}
 use Rattle.alw_model.specs.Contexts.{Slot, slot_at, all_halted}
 use Rattle.alw_model.specs.NodeStates.{NodeState, stamp_of, is_enabled_at, may, may_deliver}
 use Rattle.alw_model.proofs.Journals.{and_parts, and_is}
-use Rattle.alw_coherence.proofs.MainEvents.{ready_runs}
+use Rattle.law_machine.proofs.MainEvents.{ready_runs}
 use Rattle.alw_ready.specs.declared.rows.Row.{Row}
 use Rattle.alw_ready.specs.Rows.{instr_at, handle_at, delivery, row_events, row_count}
 use Rattle.alw_ready.proofs.MainEvents.{row_is}

@@ -5,7 +5,7 @@ use Rattle.alw_image.specs.Images.{node_count}
 use Rattle.alw_image.specs.Parameters.{Parameters}
 use Rattle.alw_model.specs.NodeStates.{node_start}
 use Rattle.alw_model.specs.Threads.{Logged, log_at, node_after}
-use Rattle.alw_order.specs.Merges.{AreLocalRuns}
+use Rattle.law_order.specs.Merges.{AreLocalRuns}
 use Rattle.alw_node.specs.Nodes.{Whole}
 use Rattle.alw_node.specs.Shares.{share_of}
 use Rattle.alw_cells.specs.declared.parts.Worked.{Worked}

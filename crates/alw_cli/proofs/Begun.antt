@@ -13,9 +13,9 @@ use Rattle.alw_model.specs.NodeStates.{NodeState, node_start}
 use Rattle.alw_model.specs.NodeSteps.{node_step}
 use Rattle.alw_model.specs.Machine.{state, node_at, any_trapped, IsLegal}
 use Rattle.alw_model.specs.Threads.{Logged, Logs, log_at, node_after, IsRunFrom, is_before, placed, in_order, merged}
-use Rattle.alw_order.specs.Merges.{entries_of}
-use Rattle.alw_order.specs.Orders.{Ascends}
-use Rattle.alw_order.proofs.Merging.{merged_legal, merged_ascends, merged_nodes}
+use Rattle.law_order.specs.Merges.{entries_of}
+use Rattle.law_order.specs.Orders.{Ascends}
+use Rattle.law_order.proofs.Merging.{merged_legal, merged_ascends, merged_nodes}
 use Rattle.alw_cells.specs.Cells.{IsSpent}
 use Rattle.alw_tally.specs.Remaining.{trapped_in}
 use Rattle.alw_work.specs.Works.{holds_trap}

@@ -5,7 +5,7 @@ use Rattle.alw_image.specs.declared.parts.Parts.{Parts}
 use Rattle.alw_image.specs.Parameters.{Parameters}
 use Rattle.alw_model.specs.declared.ends.Ended.{Ended}
 use Rattle.alw_model.specs.Runs.{turns_of}
-use Rattle.alw_coherence.proofs.TurnCounts.{always_few_turns}
+use Rattle.law_machine.proofs.TurnCounts.{always_few_turns}
 use Rattle.alw_trace.specs.Readings.{most_turns}
 use Rattle.alw_audit.specs.declared.verdicts.Verdict.{Verdict}
 use Rattle.alw_audit.specs.declared.verdicts.Verdict.TheVariants.{Sound}

@@ -11,7 +11,7 @@ use Rattle.alw_model.specs.Runs.{turns_of, prints_of}
 use Rattle.alw_model.specs.Counts.{memory_words}
 use Rattle.alw_model.specs.Ends.{IsEnd}
 use Rattle.alw_model.specs.Headline.{IsCoherentRun}
-use Rattle.alw_coherence.proofs.CoherentRuns.{coherent_run}
+use Rattle.law_machine.proofs.CoherentRuns.{coherent_run}
 use Rattle.alw_mesh.specs.declared.errors.FitErr.{FitErr}
 use Rattle.alw_mesh.specs.declared.errors.FitErr.TheVariants as fits
 use Rattle.alw_mesh.specs.Histories.{History, IsRun, begun, state_of, stamps_of}

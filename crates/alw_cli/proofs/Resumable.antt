@@ -5,8 +5,8 @@ use Rattle.alw_image.specs.declared.parts.Parts.{Parts}
 use Rattle.alw_image.specs.Parameters.{Parameters}
 use Rattle.alw_model.specs.Machine.{MachineState, IsLegal, state}
 use Rattle.alw_model.proofs.Journals.{legal_take}
-use Rattle.alw_order.specs.Orders.{kept_by}
-use Rattle.alw_order.proofs.Reached.{cut_front}
+use Rattle.law_order.specs.Orders.{kept_by}
+use Rattle.law_order.proofs.Reached.{cut_front}
 use Rattle.alw_mesh.specs.Histories.{History, IsRun, state_of}
 use Rattle.alw_mesh.proofs.Journals.{journal_fits}
 use Rattle.alw_report.specs.Reports.{params_line}

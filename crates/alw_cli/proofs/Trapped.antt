@@ -18,7 +18,7 @@ use Rattle.alw_model.specs.NodeSteps.{handle_by, handle_front, node_step}
 use Rattle.alw_model.specs.Machine.{no_node, node_at, any_trapped, state, IsLegal}
 use Rattle.alw_model.specs.Threads.{Logged, IsRunFrom, node_after}
 use Rattle.alw_model.proofs.Journals.{and_parts}
-use Rattle.alw_order.proofs.Reached.{state_aimed}
+use Rattle.law_order.proofs.Reached.{state_aimed}
 use Rattle.alw_tally.specs.Remaining.{trapped_in, remains_of}
 use Rattle.alw_tally.proofs.Sums.{weigh_at}
 use Rattle.alw_tally.proofs.Ending.{trapped_is}

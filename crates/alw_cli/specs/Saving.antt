@@ -2,7 +2,7 @@
 use Rattle.std.specs.Prelude.{◌≡◌, ◌≢◌, ℕ, Bool, true, false, List, [], Result, Ok, Err}
 use Rattle.alw_msg.specs.declared.events.Entry.{Entry}
 use Rattle.alw_model.specs.Machine.{IsLegal}
-use Rattle.alw_order.specs.Orders.{kept_by}
+use Rattle.law_order.specs.Orders.{kept_by}
 use Rattle.alw_trace.specs.declared.values.Trace.{Trace}
 use Rattle.alw_trace.specs.declared.faults.TextErr.TheVariants as text
 use Rattle.alw_trace.specs.Readings.{ReadsTrace}

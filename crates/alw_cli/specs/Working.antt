@@ -10,8 +10,8 @@ use Rattle.alw_image.specs.Parameters.{Parameters}
 use Rattle.alw_model.specs.declared.ends.Ended.{Ended}
 use Rattle.alw_model.specs.Machine.{state, node_at, any_trapped}
 use Rattle.alw_model.specs.Threads.{Logs, merged}
-use Rattle.alw_order.specs.Orders.{Ascends}
-use Rattle.alw_order.specs.Merges.{AreLocalRuns}
+use Rattle.law_order.specs.Orders.{Ascends}
+use Rattle.law_order.specs.Merges.{AreLocalRuns}
 use Rattle.alw_work.specs.Works.{AreSpent}
 use Rattle.alw_cells.specs.Cells.{IsSpent}
 use Rattle.alw_mesh.specs.Histories.{History, stamps_of, joined_of}

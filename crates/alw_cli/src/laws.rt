@@ -5,7 +5,7 @@ ghost use Rattle.alw_image.specs.Parameters.{Parameters};
 ghost use Rattle.alw_model.specs.declared.ends.Ended.{Ended};
 ghost use Rattle.alw_trace.specs.Texts.{trace_text};
 ghost use Rattle.alw_config.specs.declared.commands.Form.TheVariants as forms;
-ghost use Rattle.alw_order.specs.Orders.{kept_by};
+ghost use Rattle.law_order.specs.Orders.{kept_by};
 ghost use Rattle.alw_mesh.specs.Histories.{History};
 ghost use Rattle.alw_trace.specs.declared.values.Trace.{Trace};
 ghost use Rattle.alw_trace.specs.Readings.{IsTrace, HasTraceTypes};

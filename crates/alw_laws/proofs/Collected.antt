@@ -21,7 +21,7 @@ use Rattle.alw_model.specs.Messages.{home_node, is_at_home, is_fit}
 use Rattle.alw_model.specs.Machine.{MachineState, node_at, link_at}
 use Rattle.alw_model.specs.MachineInvariant.{MachineInvariant, links_rightly}
 use Rattle.alw_model.proofs.Journals.{and_parts}
-use Rattle.alw_coherence.proofs.MachineFacts.{always_invariant}
+use Rattle.law_machine.proofs.MachineFacts.{always_invariant}
 use Rattle.alw_mesh.specs.Histories.{History, IsRun, state_of}
 use Rattle.alw_laws.specs.Views.{Sent, Opened}
 use Rattle.alw_laws.specs.Shown.{of_line, by_node, link_of, message_shown, transaction_shown}

@@ -25,9 +25,9 @@ use Rattle.alw_model.specs.Lines.{LineState, absent, ups, downs, sent_by, entry_
 use Rattle.alw_model.specs.LineInvariant.{LineInvariant}
 use Rattle.alw_model.specs.MachineInvariant.{MachineInvariant}
 use Rattle.alw_model.proofs.Journals.{and_parts, and_is}
-use Rattle.alw_lift.proofs.Following.{home_below}
-use Rattle.alw_coherence.specs.Machines.{OnEveryMachine}
-use Rattle.alw_coherence.proofs.MachineFacts.{always_invariant}
+use Rattle.law_lines.proofs.Following.{home_below}
+use Rattle.law_machine.specs.Machines.{OnEveryMachine}
+use Rattle.law_machine.proofs.MachineFacts.{always_invariant}
 use Rattle.alw_laws.specs.declared.views.LineView.{LineView}
 use Rattle.alw_laws.specs.Views.{Held, Opened, Sent, is_holder, is_opener, copy_in, transaction_in, link_in}
 use Rattle.alw_laws.specs.Views.{entry_of_view, node_in, line_in, pending_in, shows_once, MeetsInvariant}

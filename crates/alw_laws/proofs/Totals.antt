@@ -9,7 +9,7 @@ use Rattle.alw_model.specs.LineInvariant.{all_carried}
 use Rattle.alw_model.specs.Checks.{is_sound_line}
 use Rattle.alw_model.proofs.Journals.{and_parts, and_is}
 use Rattle.alw_model.proofs.Soundness.{each_below, all_below, line_by_test, test_of_line}
-use Rattle.alw_line.proofs.Tests.{carriers_length}
+use Rattle.law_line.proofs.Tests.{carriers_length}
 use Rattle.alw_laws.specs.declared.views.LineView.{LineView}
 use Rattle.alw_laws.specs.Views.{entry_of_view, line_in, pending_in, shows_once, MeetsInvariant}
 

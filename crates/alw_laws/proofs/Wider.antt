@@ -16,7 +16,7 @@ use Rattle.alw_model.specs.LimitLess.{Directory}
 use Rattle.alw_model.specs.Lines.{LineState, absent, carried, carriers, value_by, line_value}
 use Rattle.alw_model.specs.LineInvariant.{LineInvariant, is_reading, is_writing, is_sole, owes, carries, all_carried, counter_by, carrier_by}
 use Rattle.alw_model.proofs.Journals.{and_parts, and_is}
-use Rattle.alw_line.proofs.Homes.{sole_is}
+use Rattle.law_line.proofs.Homes.{sole_is}
 use Rattle.alw_laws.proofs.Totals.{carriers_more}
 
 -- ---- sums and carriers, with nothing at the further nodes

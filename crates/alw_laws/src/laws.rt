@@ -4,7 +4,7 @@ ghost use Rattle.alw_image.specs.Images.{node_count, line_count};
 ghost use Rattle.alw_image.specs.Parameters.{Parameters};
 ghost use Rattle.alw_model.specs.Machine.{MachineState};
 ghost use Rattle.alw_model.specs.MachineInvariant.{MachineInvariant};
-ghost use Rattle.alw_coherence.specs.Machines.{OnEveryMachine};
+ghost use Rattle.law_machine.specs.Machines.{OnEveryMachine};
 ghost use Rattle.alw_laws.specs.declared.views.LineView.{LineView};
 ghost use Rattle.alw_laws.specs.Views.{MeetsInvariant};
 ghost use Rattle.alw_laws.specs.Shown.{Shows};

@@ -13,8 +13,8 @@ use Rattle.alw_model.specs.LimitLess.{Directory, is_trapped, is_in_progress, har
 use Rattle.alw_model.specs.Messages.{to_caches}
 use Rattle.alw_model.specs.Sides.{Memory, entry_at}
 use Rattle.alw_model.specs.MemorySteps.{MemoryStep, Steps, home_at, with_entry, at_home, takes}
-use Rattle.alw_limitless.proofs.Soundness.{trapped_sound, hardware_sound}
-use Rattle.alw_limitless.proofs.Pointers.{hardware_points, trap_points}
+use Rattle.law_entry.proofs.Soundness.{trapped_sound, hardware_sound}
+use Rattle.law_entry.proofs.Pointers.{hardware_points, trap_points}
 use Rattle.dir_full.specs.Reactions.{with_sends, HasRoom}
 use Rattle.alw_home.specs.Deliveries.{Delivers, answer_by, answer_of, after_delivery}
 use Rattle.alw_home.specs.declared.deliveries.Acted.{Acted}

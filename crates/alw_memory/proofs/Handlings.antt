@@ -11,9 +11,9 @@ use Rattle.alw_model.specs.LimitLess.{Directory, handle}
 use Rattle.alw_model.specs.Messages.{to_caches}
 use Rattle.alw_model.specs.Sides.{Memory}
 use Rattle.alw_model.specs.MemorySteps.{home_at, with_entry, handle_by, handle_front}
-use Rattle.alw_limitless.proofs.Soundness.{handler_sound}
-use Rattle.alw_limitless.proofs.Courses.{handled_free}
-use Rattle.alw_limitless.proofs.Pointers.{handler_points}
+use Rattle.law_entry.proofs.Soundness.{handler_sound}
+use Rattle.law_entry.proofs.Courses.{handled_free}
+use Rattle.law_entry.proofs.Pointers.{handler_points}
 use Rattle.dir_full.specs.Reactions.{with_sends, HasRoom}
 use Rattle.dir_soft.specs.Tables.{Table}
 use Rattle.alw_trap.specs.Handling.{Handles, handler_on}

@@ -17,8 +17,8 @@ use Rattle.alw_image.specs.Parameters.{Parameters, AreParameters}
 use Rattle.alw_model.specs.LimitLess.{Directory, directory_start}
 use Rattle.alw_model.specs.Sides.{Memory, entry_at}
 use Rattle.alw_model.specs.NodeStates.{homes_start, node_start, memory_of}
-use Rattle.alw_limitless.proofs.Soundness.{start_sound}
-use Rattle.alw_limitless.proofs.Pointers.{no_points}
+use Rattle.law_entry.proofs.Soundness.{start_sound}
+use Rattle.law_entry.proofs.Pointers.{no_points}
 use Rattle.dir_soft.specs.Tables.{Table, set_or_none, set_of_line, table_of}
 use Rattle.alw_memory.specs.Memories.{IsMemory, Stands, progress_of}
 use Rattle.alw_memory.specs.Lines.{IsTable, entries_from, line_start, lines_start}

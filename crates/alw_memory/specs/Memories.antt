@@ -7,7 +7,7 @@ use Rattle.alw_msg.specs.Sending.{Sending}
 use Rattle.alw_msg.specs.declared.messages.Msg.{Msg}
 use Rattle.alw_model.specs.LimitLess.{Directory, is_in_progress}
 use Rattle.alw_model.specs.Sides.{Memory, entry_at}
-use Rattle.alw_limitless.specs.Entries.{IsSound, PointsBelow}
+use Rattle.law_entry.specs.Entries.{IsSound, PointsBelow}
 
 -- an entry is sound, and points at nodes that exist
 pub record Stands (most nodes : ℕ) (d : Directory) : Type 0 where

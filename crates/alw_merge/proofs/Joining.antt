@@ -17,11 +17,11 @@ use Rattle.alw_model.specs.Runs.{Moment, moments}
 use Rattle.alw_model.specs.Rows.{log_in}
 use Rattle.alw_model.specs.Counts.{counts_of, count_holds}
 use Rattle.alw_model.specs.Threads.{Logged, log_at, merged}
-use Rattle.alw_coherence.proofs.RunFacts.{always_used}
-use Rattle.alw_order.proofs.Aimed.{IsAimed}
-use Rattle.alw_order.proofs.Reached.{state_aimed}
-use Rattle.alw_order.proofs.Merging.{merged_legal, merged_nodes}
-use Rattle.alw_order.proofs.MergedLogs.{log_again}
+use Rattle.law_machine.proofs.RunFacts.{always_used}
+use Rattle.law_order.proofs.Aimed.{IsAimed}
+use Rattle.law_order.proofs.Reached.{state_aimed}
+use Rattle.law_order.proofs.Merging.{merged_legal, merged_nodes}
+use Rattle.law_order.proofs.MergedLogs.{log_again}
 use Rattle.alw_tally.specs.Told.{Told, told_of}
 use Rattle.alw_tally.proofs.Sums.{weigh-map}
 use Rattle.alw_node.specs.Nodes.{Whole}

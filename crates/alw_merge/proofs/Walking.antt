@@ -22,11 +22,11 @@ use Rattle.alw_model.specs.Runs.{Moment, number_of, moment_of, moments}
 use Rattle.alw_model.specs.Rows.{log_in}
 use Rattle.alw_model.specs.Threads.{Logged, Logs, log_at, merged}
 use Rattle.alw_model.proofs.Journals.{and_parts, state_push, legal_take}
-use Rattle.alw_lift.proofs.Links.{read_set}
-use Rattle.alw_lift.proofs.Steps.{enabled_is}
-use Rattle.alw_order.proofs.Aimed.{IsAimed, sends_below}
-use Rattle.alw_order.proofs.Reached.{state_aimed}
-use Rattle.alw_order.proofs.JournalLogs.{logged_of}
+use Rattle.law_lines.proofs.Links.{read_set}
+use Rattle.law_lines.proofs.Steps.{enabled_is}
+use Rattle.law_order.proofs.Aimed.{IsAimed, sends_below}
+use Rattle.law_order.proofs.Reached.{state_aimed}
+use Rattle.law_order.proofs.JournalLogs.{logged_of}
 use Rattle.alw_links.specs.Traffic.{Traffic, links_with_all}
 use Rattle.alw_tally.specs.declared.happenings.Happened.{Happened}
 use Rattle.alw_tally.specs.Told.{Told, told_of, told_with}

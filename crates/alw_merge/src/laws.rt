@@ -1,6 +1,6 @@
 ghost use Rattle.std.specs.Prelude.{◌≡◌, ℕ, length};
 ghost use Rattle.alw_model.specs.Threads.{merged};
-ghost use Rattle.alw_order.specs.Merges.{EveryLogs};
+ghost use Rattle.law_order.specs.Merges.{EveryLogs};
 ghost use Rattle.alw_mesh.specs.Histories.{History};
 ghost use Rattle.alw_merge.specs.Replays.{IsReplayed};
 

@@ -22,7 +22,7 @@ use Rattle.alw_model.specs.Machine.{MachineState, node_at, link_at}
 use Rattle.alw_model.specs.Lines.{LineState, ups, sent_by, entry_of, packets_at, line_node, absent, line_of, up_carried, carried, carriers, value_by, line_value, current_value}
 use Rattle.alw_model.specs.LineInvariant.{LineInvariant, carries, all_carried, carrier_by, is_sole, carrier_fits}
 use Rattle.alw_model.proofs.Journals.{and_parts}
-use Rattle.alw_line.proofs.Tests.{carriers_length}
+use Rattle.law_line.proofs.Tests.{carriers_length}
 use Rattle.alw_mesh.proofs.Finding.{home_more}
 use Rattle.alw_mesh.specs.Values.{brought_home, all_brought_home, all_brought_out, owned_by, shown_at, OnlyBetween, FirstAlone}
 

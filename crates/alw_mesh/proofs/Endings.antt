@@ -13,7 +13,7 @@ use Rattle.alw_model.specs.declared.ends.Ended.TheVariants as ends
 use Rattle.alw_model.specs.declared.ends.TrapAt.{TrapAt}
 use Rattle.alw_model.specs.Ends.{first_trap, IsEnd}
 use Rattle.alw_model.specs.Runs.{moments}
-use Rattle.alw_coherence.proofs.RunFacts.{always_limit}
+use Rattle.law_machine.proofs.RunFacts.{always_limit}
 use Rattle.alw_tally.specs.Told.{Told}
 use Rattle.alw_tally.specs.Tallies.{Tallied}
 use Rattle.alw_ready.specs.declared.rows.Row.{Row}

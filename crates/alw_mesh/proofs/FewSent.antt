@@ -34,12 +34,12 @@ use Rattle.alw_model.specs.NodeSteps.{access, instr_by, instr, at_home, deliver_
 use Rattle.alw_model.specs.Machine.{MachineState, machine_start, node_at, taken_by, is_enabled, stepped_by, step, AreLegal, IsLegal}
 use Rattle.alw_model.specs.Runs.{moment_of, moments_from, moments}
 use Rattle.alw_model.specs.Counts.{hops_between}
-use Rattle.alw_limitless.specs.Entries.{PointsBelow}
-use Rattle.alw_limitless.proofs.Pointers.{no_points}
-use Rattle.alw_lift.specs.Links.{GoBelow}
-use Rattle.alw_lift.proofs.Steps.{enabled_is}
-use Rattle.alw_order.proofs.Aims.{NodeAims, every_at}
-use Rattle.alw_order.proofs.Aimed.{IsAimed, start_aimed, step_aimed, sends_below}
+use Rattle.law_entry.specs.Entries.{PointsBelow}
+use Rattle.law_entry.proofs.Pointers.{no_points}
+use Rattle.law_lines.specs.Links.{GoBelow}
+use Rattle.law_lines.proofs.Steps.{enabled_is}
+use Rattle.law_order.proofs.Aims.{NodeAims, every_at}
+use Rattle.law_order.proofs.Aimed.{IsAimed, start_aimed, step_aimed, sends_below}
 use Rattle.alw_tally.specs.Told.{told_of}
 use Rattle.alw_tally.specs.Tallies.{IsWithin}
 use Rattle.alw_tally.proofs.Within.{SendsFew, within}

@@ -16,10 +16,10 @@ use Rattle.alw_model.specs.Counts.{is_turn}
 use Rattle.alw_model.specs.NodeStates.{NodeState, is_enabled_at}
 use Rattle.alw_model.specs.NodeSteps.{Stepped, node_step}
 use Rattle.alw_model.specs.Machine.{MachineState, node_at, taken_by, links_sent, is_enabled, stepped_by, step}
-use Rattle.alw_lift.specs.Links.{GoBelow}
-use Rattle.alw_lift.proofs.Links.{read_set}
-use Rattle.alw_lift.proofs.Steps.{enabled_is}
-use Rattle.alw_order.proofs.Aimed.{IsAimed, sends_below, step_aimed}
+use Rattle.law_lines.specs.Links.{GoBelow}
+use Rattle.law_lines.proofs.Links.{read_set}
+use Rattle.law_lines.proofs.Steps.{enabled_is}
+use Rattle.law_order.proofs.Aimed.{IsAimed, sends_below, step_aimed}
 use Rattle.alw_links.specs.Traffic.{Traffic, after_sends}
 use Rattle.alw_ready.specs.Changes.{changes_holds}
 use Rattle.alw_tally.specs.declared.remains.Remains.{Remains}

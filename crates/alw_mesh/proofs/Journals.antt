@@ -13,12 +13,12 @@ use Rattle.alw_image.specs.Parameters.{Parameters, AreParameters}
 use Rattle.alw_model.specs.Machine.{MachineState, machine_start, state, has_halted, taken_by, node_at, stamp_at, is_enabled, is_within_limit, step, stepped_by, main_events, IsNext, IsLegal}
 use Rattle.alw_model.specs.Runs.{Moment, moment_of, moments_from, moments}
 use Rattle.alw_model.proofs.Journals.{and_parts, state_push, legal_push, moments_push}
-use Rattle.alw_lift.specs.Links.{GoBelow}
-use Rattle.alw_lift.proofs.Steps.{enabled_is}
-use Rattle.alw_order.proofs.Aimed.{sends_below}
-use Rattle.alw_order.proofs.Reached.{state_aimed}
-use Rattle.alw_coherence.proofs.Bound.{sets_range}
-use Rattle.alw_coherence.proofs.RunFacts.{always_bounded, always_halted}
+use Rattle.law_lines.specs.Links.{GoBelow}
+use Rattle.law_lines.proofs.Steps.{enabled_is}
+use Rattle.law_order.proofs.Aimed.{sends_below}
+use Rattle.law_order.proofs.Reached.{state_aimed}
+use Rattle.law_machine.proofs.Bound.{sets_range}
+use Rattle.law_machine.proofs.RunFacts.{always_bounded, always_halted}
 use Rattle.alw_tally.specs.declared.happenings.Happened.{Happened}
 use Rattle.alw_tally.specs.Remaining.{remains_of, AreFew}
 use Rattle.alw_tally.specs.Told.{Told, told_of, told_with}

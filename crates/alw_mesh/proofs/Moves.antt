@@ -9,7 +9,7 @@ use Rattle.alw_msg.specs.declared.events.Event.TheVariants.{Instr, Handle, Deliv
 use Rattle.alw_image.specs.declared.parts.Parts.{Parts}
 use Rattle.alw_image.specs.Images.{node_count}
 use Rattle.alw_model.specs.Machine.{MachineState, taken_by, links_taken, links_sent}
-use Rattle.alw_lift.specs.Links.{GoBelow}
+use Rattle.law_lines.specs.Links.{GoBelow}
 use Rattle.alw_links.specs.Traffic.{Traffic, links_with_all}
 use Rattle.alw_node.specs.Nodes.{IsGiven}
 use Rattle.alw_mesh.specs.Keeping.{taken_from, after_taking}

@@ -31,11 +31,11 @@ use Rattle.alw_model.specs.Messages.{home_node}
 use Rattle.alw_model.specs.Runs.{Moment, moments_from, moments, flat_context, flat_view}
 use Rattle.alw_model.specs.Counts.{is_data, count_holds}
 use Rattle.alw_model.proofs.Journals.{and_parts}
-use Rattle.alw_coherence.proofs.FlatStarts.{flat_view_is}
-use Rattle.alw_coherence.proofs.FlatViews.{HaveSlots, context_read}
-use Rattle.alw_coherence.proofs.MachineFacts.{always_invariant}
-use Rattle.alw_coherence.proofs.RunFacts.{always_used}
-use Rattle.alw_order.proofs.Reached.{state_aimed}
+use Rattle.law_machine.proofs.FlatStarts.{flat_view_is}
+use Rattle.law_machine.proofs.FlatViews.{HaveSlots, context_read}
+use Rattle.law_machine.proofs.MachineFacts.{always_invariant}
+use Rattle.law_machine.proofs.RunFacts.{always_used}
+use Rattle.law_order.proofs.Reached.{state_aimed}
 use Rattle.alw_tally.specs.Told.{Told}
 use Rattle.alw_tally.specs.Tallies.{Tallied}
 use Rattle.alw_ready.specs.declared.rows.Row.{Row}

@@ -17,7 +17,7 @@ use Rattle.alw_model.specs.declared.steps.Did.TheVariants.{Turn, Missed, Took, P
 use Rattle.alw_model.specs.Machine.{MachineState, machine_start, step, stepped_by, after, state, any_trapped, AreLegal, IsLegal}
 use Rattle.alw_model.specs.Runs.{Moment, moment_of, moments_from, moments}
 use Rattle.alw_model.specs.Ends.{trap_in, or_else, first_trap}
-use Rattle.alw_order.proofs.Aimed.{start_aimed}
+use Rattle.law_order.proofs.Aimed.{start_aimed}
 use Rattle.alw_tally.specs.declared.remains.Remains.{Remains}
 use Rattle.alw_tally.specs.Remaining.{remains_of, left_by, remains_after, AreFew}
 use Rattle.alw_tally.proofs.Following.{remains_are, grows_by_one}

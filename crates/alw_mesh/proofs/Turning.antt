@@ -32,7 +32,7 @@ use Rattle.alw_model.specs.Counts.{is_turn, uses_hold}
 use Rattle.alw_ready.specs.Changes.{hold_count}
 use Rattle.alw_tally.specs.Happenings.{HasPc}
 use Rattle.alw_tally.proofs.Sums.{weigh_set}
-use Rattle.alw_coherence.proofs.FlatSlots.{runs_ready}
+use Rattle.law_machine.proofs.FlatSlots.{runs_ready}
 use Rattle.alw_mesh.specs.Keeping.{PcOf, HasTrapPc}
 
 pub record TurnLeft (node : NodeState) (slot : ℕ) (outcome : Outcome) (after : List Slot) : Type 0 where

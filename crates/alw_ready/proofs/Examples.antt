@@ -13,7 +13,7 @@ use Rattle.alw_model.specs.Caches.{Copy}
 use Rattle.alw_model.specs.Contexts.{is_held}
 use Rattle.alw_model.specs.Machine.{node_at, link_at, is_enabled}
 use Rattle.alw_model.proofs.Journals.{and_parts}
-use Rattle.alw_lift.proofs.Steps.{enabled_is}
+use Rattle.law_lines.proofs.Steps.{enabled_is}
 use Rattle.alw_ready.specs.Rows.{instr_at, handle_at, delivery}
 use Rattle.alw_ready.specs.Fits.{may_happen, is_in_time}
 use Rattle.alw_ready.specs.Example.{example_image, example_parameters, example_machine, example_may}

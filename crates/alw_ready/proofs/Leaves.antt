@@ -21,12 +21,12 @@ use Rattle.alw_model.specs.NodeStates.{NodeState, stamp_of, may_reach, may_deliv
 use Rattle.alw_model.specs.NodeSteps.{Stepped, event_at}
 use Rattle.alw_model.specs.Machine.{MachineState, node_at, no_node, link_at, taken_by, is_enabled, is_within_limit, has_halted, stepped_by, step}
 use Rattle.alw_model.proofs.Journals.{and_parts, and_is}
-use Rattle.alw_lift.specs.Links.{msgs_to}
-use Rattle.alw_lift.proofs.Steps.{enabled_is}
-use Rattle.alw_order.specs.Orders.{SeesAlike, takes_from}
-use Rattle.alw_order.proofs.Local.{enabled_alike, stamp_alike, node_kept}
-use Rattle.alw_order.proofs.LinksAfter.{link_is}
-use Rattle.alw_order.proofs.Aimed.{IsAimed}
+use Rattle.law_lines.specs.Links.{msgs_to}
+use Rattle.law_lines.proofs.Steps.{enabled_is}
+use Rattle.law_order.specs.Orders.{SeesAlike, takes_from}
+use Rattle.law_order.proofs.Local.{enabled_alike, stamp_alike, node_kept}
+use Rattle.law_order.proofs.LinksAfter.{link_is}
+use Rattle.law_order.proofs.Aimed.{IsAimed}
 use Rattle.alw_ready.specs.declared.rows.Row.{Row}
 use Rattle.alw_ready.specs.Rows.{instr_at, handle_at, delivery, no_row, row_at}
 use Rattle.alw_ready.specs.Fits.{may_happen, is_in_time, SaysBut, RowFitsBut, RowsFit}

@@ -18,7 +18,7 @@ use Rattle.alw_num.specs.Maps.{passes}
 use Rattle.alw_model.specs.NodeStates.{stamp_of, may, may_deliver}
 use Rattle.alw_model.specs.Machine.{MachineState, node_at, link_at, taken_by, is_enabled, is_within_limit, stamp_at, has_halted, main_events, goes_on}
 use Rattle.alw_model.proofs.Journals.{and_parts, and_is}
-use Rattle.alw_lift.proofs.Steps.{enabled_is}
+use Rattle.law_lines.proofs.Steps.{enabled_is}
 use Rattle.alw_ready.specs.declared.rows.Row.{Row}
 use Rattle.alw_ready.specs.Rows.{instr_at, handle_at, delivery, event_if, row_events, events_from, events_of, row_at}
 use Rattle.alw_ready.specs.Fits.{may_happen, is_in_time, SaysBut, RowFits, RowsFit, nobody}

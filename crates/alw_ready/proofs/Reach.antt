@@ -33,8 +33,8 @@ use Rattle.alw_model.specs.NodeStates.{NodeState, home_at, with_home, place_of, 
 use Rattle.alw_model.specs.ProcessorSteps.{status_after, written, slots_after}
 use Rattle.alw_model.specs.NodeSteps.{Stepped, take_turn, miss, access, instr_by, instr, at_home, at_cache, deliver_by, deliver, handle_by, handle_front, evict_from, event_at}
 use Rattle.alw_model.proofs.Journals.{and_parts}
-use Rattle.alw_lift.proofs.Instructions.{kept_is}
-use Rattle.alw_lift.proofs.Steps.{not_is}
+use Rattle.law_lines.proofs.Instructions.{kept_is}
+use Rattle.law_lines.proofs.Steps.{not_is}
 use Rattle.alw_ready.specs.Changes.{brings, hold_count, is_wide_step}
 
 -- a copy of a held line

@@ -19,9 +19,9 @@ use Rattle.alw_image.specs.Parameters.{Parameters}
 use Rattle.alw_model.specs.NodeStates.{may_deliver}
 use Rattle.alw_model.specs.Machine.{MachineState, node_at, link_at, is_enabled}
 use Rattle.alw_model.proofs.Journals.{and_parts}
-use Rattle.alw_lift.specs.Links.{msgs_to, GoBelow}
-use Rattle.alw_lift.proofs.Steps.{enabled_is}
-use Rattle.alw_order.specs.Orders.{takes_from}
+use Rattle.law_lines.specs.Links.{msgs_to, GoBelow}
+use Rattle.law_lines.proofs.Steps.{enabled_is}
+use Rattle.law_order.specs.Orders.{takes_from}
 use Rattle.alw_ready.specs.declared.rows.Row.{Row}
 use Rattle.alw_ready.specs.Rows.{instr_at, handle_at, delivery, no_row, row_at}
 use Rattle.alw_ready.specs.Fits.{may_happen, is_in_time, SaysBut, RowFitsBut, RowFits, RowsFit, nobody}

@@ -18,8 +18,8 @@ use Rattle.alw_model.specs.Contexts.{Slot}
 use Rattle.alw_model.specs.NodeStates.{NodeState}
 use Rattle.alw_model.specs.NodeSteps.{Stepped}
 use Rattle.alw_model.specs.Machine.{MachineState, node_at, taken_by, state, is_enabled, has_halted, stepped_by, step}
-use Rattle.alw_order.specs.Orders.{EveryJournal, takes_from}
-use Rattle.alw_lift.specs.Links.{msgs_to}
+use Rattle.law_order.specs.Orders.{EveryJournal, takes_from}
+use Rattle.law_lines.specs.Links.{msgs_to}
 use Rattle.alw_ready.specs.declared.changes.Happened.{Happened}
 use Rattle.alw_ready.specs.declared.rows.Row.{Row}
 use Rattle.alw_ready.specs.Rows.{instr_at, handle_at, delivery, row_at}

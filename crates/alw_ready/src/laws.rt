@@ -6,7 +6,7 @@ ghost use Rattle.alw_image.specs.declared.parts.Parts.{Parts};
 ghost use Rattle.alw_image.specs.Images.{node_count};
 ghost use Rattle.alw_image.specs.Parameters.{Parameters};
 ghost use Rattle.alw_model.specs.Machine.{MachineState, main_events, goes_on, stepped_by};
-ghost use Rattle.alw_order.specs.Orders.{EveryJournal, takes_from};
+ghost use Rattle.law_order.specs.Orders.{EveryJournal, takes_from};
 ghost use Rattle.alw_ready.specs.declared.rows.Row.{Row};
 ghost use Rattle.alw_ready.specs.Rows.{delivery, events_of};
 ghost use Rattle.alw_ready.specs.Fits.{may_happen, is_in_time, RowsFit};

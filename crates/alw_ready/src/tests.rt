@@ -1,6 +1,6 @@
 ghost use Rattle.std.specs.Prelude.{◌≡◌, IfOk};
 ghost use Rattle.alw_msg.specs.Events.{node_of};
-ghost use Rattle.alw_lift.specs.Links.{GoBelow};
+ghost use Rattle.law_lines.specs.Links.{GoBelow};
 ghost use Rattle.alw_ready.specs.Example.{example_image, example_parameters, example_machine, example_may};
 
 use crate::*;

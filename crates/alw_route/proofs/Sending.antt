@@ -14,10 +14,10 @@ use Rattle.alw_image.specs.Parameters.{Parameters}
 use Rattle.alw_model.specs.Machine.{MachineState, machine_start, state, step, stepped_by, is_enabled, IsNext, AreLegal, IsLegal}
 use Rattle.alw_model.specs.Runs.{Moment, moment_of, moments_from, moments, number_of}
 use Rattle.alw_model.proofs.Journals.{and_parts, legal_push, moments_push}
-use Rattle.alw_lift.specs.Links.{GoBelow}
-use Rattle.alw_lift.proofs.Steps.{enabled_is}
-use Rattle.alw_order.proofs.Aimed.{IsAimed, start_aimed, step_aimed, sends_below}
-use Rattle.alw_order.proofs.Reached.{state_aimed}
+use Rattle.law_lines.specs.Links.{GoBelow}
+use Rattle.law_lines.proofs.Steps.{enabled_is}
+use Rattle.law_order.proofs.Aimed.{IsAimed, start_aimed, step_aimed, sends_below}
+use Rattle.law_order.proofs.Reached.{state_aimed}
 use Rattle.alw_mesh.specs.Histories.{History, state_of, entry_of, grown, last_sends}
 use Rattle.alw_mesh.proofs.Journals.{last_push}
 use Rattle.alw_merge.specs.Replays.{may_follow}

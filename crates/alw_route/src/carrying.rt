@@ -1,5 +1,5 @@
 ghost use Rattle.std.specs.Prelude.{◌≡◌, ◌<◌, IfOk, OnOk};
-ghost use Rattle.alw_lift.specs.Links.{GoBelow};
+ghost use Rattle.law_lines.specs.Links.{GoBelow};
 ghost use Rattle.alw_merge.specs.Replays.{Replays, Takes, taken_on};
 ghost use Rattle.mesh_route.specs.Meshes.{count_of};
 ghost use Rattle.alw_route.specs.Loading.{IsLoaded, replayed_in, after_sends, IsUnderWay};

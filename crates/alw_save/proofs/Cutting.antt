@@ -4,8 +4,8 @@ use Rattle.alw_msg.specs.declared.events.Entry.{Entry}
 use Rattle.alw_image.specs.declared.parts.Parts.{Parts}
 use Rattle.alw_image.specs.Parameters.{Parameters}
 use Rattle.alw_model.specs.Machine.{IsLegal, state}
-use Rattle.alw_order.specs.Orders.{kept_by, later_than}
-use Rattle.alw_order.proofs.Reached.{cut_whole, cut_state, cut_front}
+use Rattle.law_order.specs.Orders.{kept_by, later_than}
+use Rattle.law_order.proofs.Reached.{cut_whole, cut_state, cut_front}
 use Rattle.alw_mesh.specs.Histories.{History, IsRun, stamps_of}
 use Rattle.alw_mesh.specs.declared.errors.FitErr.{FitErr}
 use Rattle.alw_mesh.specs.declared.errors.FitErr.TheVariants as fits

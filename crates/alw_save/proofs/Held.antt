@@ -20,9 +20,9 @@ use Rattle.alw_model.specs.Contexts.{Slot, slot_at}
 use Rattle.alw_model.specs.Machine.{state, node_at}
 use Rattle.alw_model.specs.MachineInvariant.{transaction_stands, caches_rightly}
 use Rattle.alw_model.proofs.Journals.{and_parts}
-use Rattle.alw_coherence.proofs.Bound.{sets_range}
-use Rattle.alw_coherence.proofs.MachineRuns.{always_kept}
-use Rattle.alw_coherence.proofs.MachineFacts.{always_invariant}
+use Rattle.law_machine.proofs.Bound.{sets_range}
+use Rattle.law_machine.proofs.MachineRuns.{always_kept}
+use Rattle.law_machine.proofs.MachineFacts.{always_invariant}
 use Rattle.std.proofs.lemmas.Nat.{mul-le}
 use Rattle.alw_mesh.proofs.OneNode.{few_nodes}
 use Rattle.alw_mesh.specs.Histories.{History, IsRun, state_of}

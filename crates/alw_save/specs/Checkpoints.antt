@@ -4,7 +4,7 @@ use Rattle.alw_msg.specs.declared.events.Entry.{Entry}
 use Rattle.alw_image.specs.declared.parts.Parts.{Parts}
 use Rattle.alw_image.specs.Parameters.{Parameters}
 use Rattle.alw_model.specs.Machine.{MachineState, state}
-use Rattle.alw_order.specs.Orders.{kept_by}
+use Rattle.law_order.specs.Orders.{kept_by}
 use Rattle.alw_trace.specs.declared.values.Trace.{Trace}
 use Rattle.alw_trace.specs.Fronts.{front_text}
 use Rattle.alw_save.specs.declared.faults.CutErr.{CutErr}

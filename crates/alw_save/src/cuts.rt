@@ -1,5 +1,5 @@
 ghost use Rattle.std.specs.Prelude.{◌≡◌, ◌<◌, ◌^◌, IfOk, length};
-ghost use Rattle.alw_order.specs.Orders.{kept_by, later_than};
+ghost use Rattle.law_order.specs.Orders.{kept_by, later_than};
 ghost use Rattle.alw_save.specs.Cuts.{Cuts, LeavesAll, LeavesCut};
 
 use crate::faults::CutErr;

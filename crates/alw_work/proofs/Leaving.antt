@@ -12,7 +12,7 @@ use Rattle.alw_msg.specs.declared.messages.Msg.{Msg}
 use Rattle.alw_model.specs.declared.steps.Did.{Did}
 use Rattle.alw_model.specs.NodeStates.{NodeState, node_start}
 use Rattle.alw_model.specs.Threads.{Logged, Logs, log_at, IsLocalRun, node_after, took_from, sent_to, IsFront, LinksAgree}
-use Rattle.alw_order.specs.Merges.{AreLocalRuns}
+use Rattle.law_order.specs.Merges.{AreLocalRuns}
 use Rattle.alw_node.specs.Nodes.{Whole}
 use Rattle.alw_cells.specs.declared.parts.Worked.{Worked}
 use Rattle.alw_cells.specs.Cells.{Cell, in_from, dids_of, IsSpent}

@@ -1,5 +1,5 @@
 use Rattle.alw_model.specs.Machine.{state}
-use Rattle.alw_order.proofs.Reached.{state_aimed}
+use Rattle.law_order.proofs.Reached.{state_aimed}
 use Rattle.alw_ready.proofs.Leaves.{others_in_time, other_stays}
 use Rattle.alw_ready.proofs.laws.other_nodes_are_left.Goals as goal
 

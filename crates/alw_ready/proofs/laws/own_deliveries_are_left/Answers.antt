@@ -1,5 +1,5 @@
 use Rattle.alw_model.specs.Machine.{state}
-use Rattle.alw_order.proofs.Reached.{state_aimed}
+use Rattle.law_order.proofs.Reached.{state_aimed}
 use Rattle.alw_ready.proofs.Leaves.{was_in_time, own_stays}
 use Rattle.alw_ready.proofs.laws.own_deliveries_are_left.Goals as goal
 

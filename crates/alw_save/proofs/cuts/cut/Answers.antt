@@ -1,7 +1,7 @@
 -- Both parts are those of the cut.
 use Rattle.std.proofs.Common.{List, ap, ◌∙◌}
 use Rattle.alw_msg.specs.declared.events.Entry.{Entry}
-use Rattle.alw_order.specs.Orders.{kept_by, later_than}
+use Rattle.law_order.specs.Orders.{kept_by, later_than}
 use Rattle.alw_save.proofs.Cutting.{cut_is, few_entries}
 use Rattle.alw_save.proofs.cuts.cut.Goals as goal
 

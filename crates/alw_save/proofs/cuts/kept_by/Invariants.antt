@@ -1,6 +1,6 @@
 -- What is kept so far, and what is left to look at, give the whole.
 use Rattle.std.proofs.Common.{◌≡◌, ◌≤◌, ◌++◌, drop, length}
-use Rattle.alw_order.specs.Orders.{kept_by}
+use Rattle.law_order.specs.Orders.{kept_by}
 use Rattle.alw_save.proofs.cuts.kept_by.Given as goal
 
 abbrev pub invariant-loop-entry : goal.invariant-loop-entry

@@ -1,6 +1,6 @@
 -- What is kept so far, and what is left to look at, give the whole.
 use Rattle.std.proofs.Common.{◌≡◌, ◌≤◌, ◌++◌, drop, length}
-use Rattle.alw_order.specs.Orders.{later_than}
+use Rattle.law_order.specs.Orders.{later_than}
 use Rattle.alw_save.proofs.cuts.later_than.Given as goal
 
 abbrev pub invariant-loop-entry : goal.invariant-loop-entry

@@ -2,7 +2,7 @@
 use Rattle.std.proofs.Common.{List, length, sym, ap, ◌∙◌}
 use Rattle.std.proofs.lemmas.Result.{err_from_is_err_and}
 use Rattle.alw_msg.specs.declared.events.Entry.{Entry}
-use Rattle.alw_order.specs.Orders.{kept_by}
+use Rattle.law_order.specs.Orders.{kept_by}
 use Rattle.alw_save.proofs.Cutting.{not_started, cut_none, cut_taken}
 use Rattle.alw_save.proofs.cuts.machine_at.Goals as goal
 

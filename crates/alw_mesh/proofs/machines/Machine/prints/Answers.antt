@@ -1,6 +1,6 @@
 -- The prints are those of the flat machine.
 use Rattle.std.proofs.Common.{ap, ◌∙◌}
-use Rattle.alw_coherence.proofs.FlatStarts.{prints_are}
+use Rattle.law_machine.proofs.FlatStarts.{prints_are}
 use Rattle.alw_tally.specs.Told.{Told}
 use Rattle.alw_mesh.proofs.machines.Machine.prints.Goals as goal
 

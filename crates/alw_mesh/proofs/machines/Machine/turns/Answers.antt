@@ -1,7 +1,7 @@
 -- Each context is Ready at its turn on the flat machine.
 use Rattle.std.proofs.Common.{ℕ, List, sym, ap, subst, ◌∙◌}
 use Rattle.alw_model.specs.Flat.{AreReady}
-use Rattle.alw_coherence.proofs.FlatStarts.{turns_are_ready}
+use Rattle.law_machine.proofs.FlatStarts.{turns_are_ready}
 use Rattle.alw_tally.specs.Told.{Told}
 use Rattle.alw_mesh.proofs.machines.Machine.turns.Goals as goal
 

@@ -2,7 +2,7 @@ use Rattle.std.proofs.Common.{refl}
 use Rattle.std.proofs.lemmas.Option.{slice_get-get_or}
 use Rattle.alw_msg.specs.Events.{node_of}
 use Rattle.alw_model.specs.Machine.{state}
-use Rattle.alw_order.proofs.Reached.{state_aimed}
+use Rattle.law_order.proofs.Reached.{state_aimed}
 use Rattle.alw_ready.specs.Rows.{no_row, row_at}
 use Rattle.alw_ready.proofs.Leaves.{told_left}
 use Rattle.alw_ready.proofs.ready.Ready.renew.Goals as goal

@@ -1,9 +1,0 @@
--- What stands of slots and of transactions.
-use Rattle.alw_coherence.proofs.MachineFacts.{always_open, always_once}
-use Rattle.alw_coherence.proofs.machine_laws.waiting_has_a_transaction.Goals as goal
-
-pub returns-clause-open : goal.returns-clause-open
-returns-clause-open c = always_open
-
-pub returns-clause-once : goal.returns-clause-once
-returns-clause-once c = always_once

@@ -1,5 +1,0 @@
-use Rattle.alw_lift.proofs.Acted.{event_comes}
-use Rattle.alw_lift.proofs.events_followed.messages_keep_their_order.Goals as goal
-
-pub returns-clause-comes : goal.returns-clause-comes
-returns-clause-comes c = event_comes

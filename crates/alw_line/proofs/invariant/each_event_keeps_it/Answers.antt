@@ -1,6 +1,0 @@
--- Each event has its lemma.
-use Rattle.alw_line.proofs.Steps.{event_keeps}
-use Rattle.alw_line.proofs.invariant.each_event_keeps_it.Goals as goal
-
-pub returns : goal.returns
-returns c = event_keeps

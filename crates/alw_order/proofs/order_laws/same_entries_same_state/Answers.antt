@@ -1,6 +1,0 @@
--- Both come to what the sorted journal comes to.
-use Rattle.alw_order.proofs.Unique.{same_state}
-use Rattle.alw_order.proofs.order_laws.same_entries_same_state.Goals as goal
-
-pub returns : goal.returns
-returns c = same_state

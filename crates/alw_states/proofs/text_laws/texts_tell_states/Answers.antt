@@ -1,6 +1,0 @@
--- Two machines have one text exactly where they are the same.
-use Rattle.alw_states.proofs.Laws.{one_text}
-use Rattle.alw_states.proofs.text_laws.texts_tell_states.Goals as goal
-
-pub returns : goal.returns
-returns c = one_text

@@ -1,7 +1,0 @@
-pub mod Turns
-mod Messages
-mod HomeTable
-mod CacheSide
-mod NodeEvents
-mod Starts
-pub mod Runs

@@ -1,0 +1,20 @@
+mod Turns
+mod Messages
+mod HomeTable
+mod CacheSide
+mod NodeEvents
+mod Starts
+pub mod Journals
+mod Readings
+mod Words
+mod Choices
+mod Doings
+mod Runs
+mod NodeLines
+mod HomeLines
+mod MessageLines
+mod Homes
+mod NodeTexts
+mod States
+mod Told
+mod Laws
