@@ -5,8 +5,8 @@ What is tested:
 - README.md's maps of promises: each row has a promise, functions with their clauses, crates, and edits. The functions
   and edits stand in one of the row's crates, and each row has an edit. The promises are those of the list of claims,
   '- **promise**: claim', in its order, and a claim has a line of at most 100 characters.
-- each crate's README: its headings, its table (the same without the crates), that each edit of the crate has a row, and
-  that 'Left open' speaks of want of memory where a public function may answer nothing but that.
+- each crate's README: its headings, its table (the same without the crates, and a row needs no edit), that each edit of the
+  crate has a row, and that 'Left open' speaks of want of memory where a public function may answer nothing but that.
 - README.md, docs/ and each crate's README: each name in `code` that looks like one of the repository's is declared in it,
   and each path is there, as is what links lead to. CHANGES.md may name what is gone.
 - the manual page, the completions, the launcher's help and README.md have the command words of alw_config, and no other options.
@@ -258,8 +258,6 @@ def check_edits(findings, file, row, cell, crates, repository):
         if not holders:
             findings.say(file, row.line, f'there is no edit {name} in {", ".join(c.name for c in owners)}')
         found |= {(holder, name) for holder in holders}
-    if not found:
-        findings.say(file, row.line, 'a row without an edit')
     return found
 
 
@@ -294,7 +292,8 @@ def check_maps(findings, file, repository):
             findings.say(file, row.line, 'a row without its crates')
             continue
         check_contract(findings, file, row, row.cells[1], crates)
-        check_edits(findings, file, row, row.cells[3], crates, repository)
+        if not check_edits(findings, file, row, row.cells[3], crates, repository):
+            findings.say(file, row.line, 'a row without an edit')
 
 
 def check_form(findings, file, text, crate):
