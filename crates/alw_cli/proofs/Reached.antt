@@ -18,7 +18,7 @@ use Rattle.alw_mesh.specs.Histories.{History, IsRun, begun, state_of, stamps_of}
 use Rattle.alw_mesh.specs.declared.errors.TheConstants.{MOST_STEPS}
 use Rattle.alw_sched.specs.Schedules.{IsSeededRun, IsFinished}
 use Rattle.alw_sched.proofs.Seeded.{of_start, seeded_run}
-use Rattle.alw_merge.specs.Replays.{IsReplayed, Replays}
+use Rattle.alw_replay.specs.Replays.{IsReplayed, Replays}
 use Rattle.alw_report.specs.declared.values.Report.{Report}
 use Rattle.alw_report.specs.Reports.{report_text, summary_text, told_of}
 use Rattle.alw_report.specs.Json.{json_text}

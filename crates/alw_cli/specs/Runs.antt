@@ -10,7 +10,7 @@ use Rattle.alw_mesh.specs.Histories.{History, stamps_of}
 use Rattle.alw_mesh.specs.declared.errors.TheConstants.{MOST_STEPS}
 use Rattle.alw_mesh.specs.declared.errors.FitErr.{FitErr}
 use Rattle.alw_mesh.specs.declared.errors.FitErr.TheVariants as fits
-use Rattle.alw_merge.specs.Replays as replays
+use Rattle.alw_replay.specs.Replays as replays
 use Rattle.alw_sched.specs.Schedules.{IsSeededRun}
 use Rattle.alw_trace.specs.declared.values.Trace.{Trace}
 use Rattle.alw_config.specs.declared.commands.Form.{Form}

@@ -7,8 +7,7 @@ use crate::answers::{Cause, Done, InputErr};
 use alw_audit::{Place, Verdict, audit};
 use alw_io::{Sink, write_whole};
 use alw_num::NoMemory;
-use alw_report::put_number;
-use alw_text::{Spell, Text};
+use alw_text::{Spell, Text, put_number};
 use alw_trace::{TextErr, read_claim};
 use std::alloc::Global;
 

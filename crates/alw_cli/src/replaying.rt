@@ -2,14 +2,14 @@ ghost use Rattle.std.specs.Prelude.{◌≡◌, ◌≤◌};
 ghost use Rattle.alw_trace.specs.Readings.{IsTrace};
 ghost use Rattle.alw_cli.specs.Replaying.{ReplayAnswer};
 ghost use Rattle.alw_cli.specs.Runs.{EndsTrace, RanAgain};
-ghost use Rattle.alw_merge.specs.Replays.{IsReplayed};
+ghost use Rattle.alw_replay.specs.Replays.{IsReplayed};
 ghost use Rattle.alw_cli.specs.Streams.{stream_of};
 
 use crate::answers::{Cause, Done, InputErr};
 use crate::runs::{Run, told, write_run};
 use alw_config::Form;
 use alw_io::Sink;
-use alw_merge::{Replayed, replay};
+use alw_replay::{Replayed, replay};
 use alw_mesh::{FitErr, Machine};
 use alw_model::Ended;
 use alw_num::NoMemory;

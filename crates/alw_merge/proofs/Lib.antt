@@ -1,5 +1,3 @@
-pub mod Fronts
-pub mod Kept
 pub mod Whole
 pub mod Merging
 pub mod Stepping

@@ -8,7 +8,7 @@ use Rattle.alw_model.specs.Threads.{Logs, merged}
 use Rattle.alw_mesh.specs.Histories.{History}
 use Rattle.law_order.specs.Merges.{AreLocalRuns}
 use Rattle.law_order.proofs.Merging.{merged_legal}
-use Rattle.alw_merge.specs.Replays.{IsReplayed}
+use Rattle.alw_replay.specs.Replays.{IsReplayed}
 
 pub keeps_all : (parts : Parts) (parameters : Parameters) (logs : Logs) → AreLocalRuns parts parameters logs → (machine : History) (kept : ℕ) → IsReplayed parts parameters (merged logs) machine kept
     → kept ≡ length (merged logs)

@@ -2,7 +2,7 @@ ghost use Rattle.std.specs.Prelude.{◌≡◌, ℕ, length};
 ghost use Rattle.alw_model.specs.Threads.{merged};
 ghost use Rattle.law_order.specs.Merges.{EveryLogs};
 ghost use Rattle.alw_mesh.specs.Histories.{History};
-ghost use Rattle.alw_merge.specs.Replays.{IsReplayed};
+ghost use Rattle.alw_replay.specs.Replays.{IsReplayed};
 
 /// A replay keeps the whole merge of local runs whose links agree.
 pub fn merges_are_kept()

@@ -1,5 +1,4 @@
-//! Journals made of others: the logs of all nodes merged, with the machine that they leave, and the
-//! events of a trace taken again.
+//! The logs of all nodes merged, with the machine that they leave. The replay of a trace is handed on.
 #![tactic(auto)]
 
 mod joins;
@@ -9,8 +8,9 @@ mod replays;
 mod streams;
 mod walks;
 
+pub use alw_replay::{Replayed, replay, take};
 pub use joins::join;
 pub use laws::merges_are_kept;
 pub use merges::{merge, stream};
-pub use replays::{Replayed, replay, replay_logs, take};
+pub use replays::replay_logs;
 pub use streams::Stream;

@@ -5,3 +5,4 @@ pub mod Words
 pub mod MapLaws
 pub mod Ranks
 pub mod MapLengths
+mod Sums

@@ -5,3 +5,4 @@ pub mod Maps
 pub mod Rooms
 pub mod Draws
 pub mod Ranks
+pub mod PlaceCounts

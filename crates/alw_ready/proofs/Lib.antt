@@ -1,4 +1,3 @@
-pub mod Sums
 pub mod RowEvents
 pub mod MainEvents
 pub mod Reach

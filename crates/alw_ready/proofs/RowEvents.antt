@@ -12,7 +12,7 @@ use Rattle.alw_msg.specs.declared.events.Event.{Event}
 use Rattle.alw_model.proofs.Journals.{and_parts}
 use Rattle.alw_ready.specs.declared.rows.Row.{Row}
 use Rattle.alw_ready.specs.Rows.{instr_at, handle_at, delivery, event_if, row_events, row_count, events_from, events_of, no_row, row_at, AreCounted}
-use Rattle.alw_ready.specs.Tallies.{sum_before, total, IsPlace}
+use Rattle.alw_num.specs.PlaceCounts.{sum_before, total, IsPlace}
 
 -- ---- one row
 

@@ -6,14 +6,12 @@ mod laws;
 mod ready;
 mod renewals;
 mod rows;
-mod tallies;
 mod views;
 
 pub use changes::{Happened, is_wide};
 pub use laws::{other_nodes_are_left, own_deliveries_are_left, rows_say_what_may_happen};
 pub use ready::Ready;
 pub use rows::Row;
-pub use tallies::Tally;
 pub use views::View;
 
 #[cfg(test)]

@@ -8,6 +8,7 @@ use Rattle.alw_num.specs.declared.states.State.TheVariants.{RO, RW, RT, WT}
 use Rattle.alw_num.specs.declared.states.Meta.{Meta}
 use Rattle.alw_num.specs.declared.states.Meta.TheVariants.{Normal, Progress, TrapWrite, TrapAlways}
 use Rattle.alw_text.specs.Numbers.{hex_byte, hex_word}
+use Rattle.alw_text.specs.Pieces.{nodes_text}
 use Rattle.alw_msg.specs.declared.events.Entry.{Entry}
 use Rattle.alw_msg.specs.Stretches.{stretches}
 use Rattle.alw_image.specs.declared.parts.Parts.{Parts}
@@ -107,15 +108,6 @@ meta_text Normal = codes "normal"
 meta_text Progress = codes "progress"
 meta_text TrapWrite = codes "trap-write"
 meta_text TrapAlways = codes "trap-always"
-
--- a node behind others
-abbrev pub next_node : ℕ → List ℕ
-next_node node = codes "," ++ decimal node
-
--- node numbers with commas, or `-` where there is none
-abbrev pub nodes_text : List ℕ → List ℕ
-nodes_text [] = codes "-"
-nodes_text (first ∷ rest) = decimal first ++ flat_map next_node rest
 
 -- an entry of the directory: its states; then its pointers and its counter
 unfoldable pub states_text : DirectoryLine → List ℕ

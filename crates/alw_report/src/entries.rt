@@ -1,12 +1,9 @@
 ghost use Rattle.std.specs.Prelude.{◌≡◌, ◌++◌, OnOk};
-ghost use Rattle.std.specs.List.{flat_map};
-ghost use Rattle.alw_num.specs.NodeSets.{nodes_of, members};
-ghost use Rattle.alw_report.specs.Reports.{state_text, meta_text, next_node, nodes_text, states_text, pointers_text, directory_line};
+ghost use Rattle.alw_report.specs.Reports.{state_text, meta_text, states_text, pointers_text, directory_line};
 
-use crate::head::put_number;
 use crate::values::DirectoryLine;
-use alw_num::{Meta, NoMemory, NodeSet, State};
-use alw_text::{Spell, Text};
+use alw_num::{Meta, NoMemory, State};
+use alw_text::{Spell, Text, put_nodes, put_number};
 
 /// An entry of the directory.
 pub fn put_entry(text: &mut Text, entry: &DirectoryLine) -> Result<(), NoMemory>
@@ -66,29 +63,4 @@ pub fn meta_name(meta: Meta) -> &'static str
         Meta::TrapWrite => "trap-write",
         Meta::TrapAlways => "trap-always",
     }
-}
-
-/// Node numbers with commas, or `-` where there is none.
-pub fn put_nodes(text: &mut Text, nodes: NodeSet) -> Result<(), NoMemory>
-    ensures { OnOk result (text.new ≡ text.old ++ nodes_text (members (nodes_of nodes))) }
-{
-    match nodes.lowest() {
-        Some(first) => {
-            text.put_decimal(u64::from(first.0))?;
-            put_more_nodes(text, nodes.without(first))
-        }
-        None => text.put(b"-"),
-    }
-}
-
-// Nodes behind the first, each behind a comma.
-fn put_more_nodes(text: &mut Text, nodes: NodeSet) -> Result<(), NoMemory>
-    ensures { OnOk result (text.new ≡ text.old ++ flat_map next_node (members (nodes_of nodes))) }
-{
-    let mut rest = nodes;
-    while let Some(node) = rest.lowest() {
-        put_number(text, b",", u64::from(node.0))?;
-        rest = rest.without(node);
-    }
-    Ok(())
 }

@@ -7,7 +7,7 @@ use crate::values::Report;
 use alw_image::Params;
 use alw_model::{Counts, Ended, TrapAt};
 use alw_num::NoMemory;
-use alw_text::{Spell, Text};
+use alw_text::{Spell, Text, put_number};
 
 /// The seven lines of a summary.
 #[tactic(auto, unfolding(crate::specs::Reports::summary_text))]
@@ -40,15 +40,6 @@ fn put_counts(text: &mut Text, counts: &Counts) -> Result<(), NoMemory>
     put_requests(text, counts)?;
     put_replies(text, counts)?;
     put_hops(text, counts)?;
-    Ok(())
-}
-
-/// A word and a number.
-pub fn put_number(text: &mut Text, word: &[u8], n: u64) -> Result<(), NoMemory>
-    ensures { OnOk result (text.new ≡ text.old ++ (word.now ++ decimal n)) }
-{
-    text.put(word)?;
-    text.put_decimal(n)?;
     Ok(())
 }
 

@@ -10,8 +10,8 @@ mod reports;
 mod values;
 mod worked_runs;
 
-pub use entries::{meta_name, put_nodes, state_name};
-pub use head::{put_number, put_params};
+pub use entries::{meta_name, state_name};
+pub use head::put_params;
 pub use json_text::json;
 pub use lists::{put_memory, put_prints, put_runs};
 pub use memory::put_line;

@@ -3,11 +3,10 @@ ghost use Rattle.std.specs.List.{flat_map};
 ghost use Rattle.alw_report.specs.Reports.{heading, run_line, print_line, word_line, directory_line, runs_text, prints_text, memory_text, directory_text, lists_text};
 
 use crate::entries::put_entry;
-use crate::head::put_number;
 use crate::values::{DirectoryLine, DirectoryLines, Report};
 use alw_msg::{Prints, Stretches, Words};
 use alw_num::NoMemory;
-use alw_text::{Spell, Text};
+use alw_text::{Spell, Text, put_number};
 
 /// The four lists, each behind its heading.
 #[tactic(auto, unfolding(crate::specs::Reports::lists_text))]

@@ -9,7 +9,7 @@ use Rattle.mesh_route.specs.declared.ports.Port.{Port}
 use Rattle.mesh_route.specs.declared.ports.Port.TheVariants.{Local, West, East, North, South}
 use Rattle.mesh_route.specs.declared.queues.Packet.{Packet}
 use Rattle.mesh_route.specs.Meshes.{Mesh, count_of, queue_of}
-use Rattle.alw_ready.specs.Tallies.{total}
+use Rattle.alw_num.specs.PlaceCounts.{total}
 use Rattle.alw_route.specs.Waiting.{five_ports, waiting_at, AreCounted, AreEmpty}
 use Rattle.alw_route.proofs.Hopping.{IsCrossing, IsArrival}
 

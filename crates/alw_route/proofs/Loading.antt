@@ -11,7 +11,7 @@ use Rattle.alw_image.specs.Parameters.{Parameters}
 use Rattle.alw_model.specs.Machine.{IsLegal}
 use Rattle.alw_model.specs.Runs.{moments}
 use Rattle.alw_mesh.specs.Histories.{History, begun, grown, entry_of, last_sends}
-use Rattle.alw_merge.specs.Replays.{may_follow}
+use Rattle.alw_replay.specs.Replays.{may_follow}
 use Rattle.mesh_route.specs.declared.queues.Packet.{Packet}
 use Rattle.mesh_route.specs.Meshes.{Mesh, Act, Injects, count_of, mesh_start, after_act, after_acts, hop_run, injections, IsWithin}
 use Rattle.mesh_route.specs.Deliveries.{IsAfter}

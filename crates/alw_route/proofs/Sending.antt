@@ -20,7 +20,7 @@ use Rattle.law_order.proofs.Aimed.{IsAimed, start_aimed, step_aimed, sends_below
 use Rattle.law_order.proofs.Reached.{state_aimed}
 use Rattle.alw_mesh.specs.Histories.{History, state_of, entry_of, grown, last_sends}
 use Rattle.alw_mesh.proofs.Journals.{last_push}
-use Rattle.alw_merge.specs.Replays.{may_follow}
+use Rattle.alw_replay.specs.Replays.{may_follow}
 use Rattle.mesh_route.specs.declared.queues.Packet.{Packet}
 use Rattle.mesh_route.specs.Meshes.{Act, Injects, IsWithin}
 use Rattle.alw_route.specs.Sending.{packet_from, packets_in, packets_of}

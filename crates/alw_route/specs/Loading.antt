@@ -9,7 +9,7 @@ use Rattle.mesh_route.specs.declared.queues.Packet.{Packet}
 use Rattle.mesh_route.specs.Meshes.{Mesh, Injects, after_acts, hop_run}
 use Rattle.alw_mesh.specs.declared.errors.FitErr.{FitErr}
 use Rattle.alw_mesh.specs.Histories.{History}
-use Rattle.alw_merge.specs.declared.replays.Replayed.{Replayed}
+use Rattle.alw_replay.specs.declared.replays.Replayed.{Replayed}
 use Rattle.alw_route.specs.declared.carrying.Carried.{Carried}
 use Rattle.alw_route.specs.Sending.{packet_from, packets_of}
 

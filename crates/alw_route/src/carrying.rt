@@ -1,14 +1,14 @@
 ghost use Rattle.std.specs.Prelude.{◌≡◌, ◌<◌, IfOk, OnOk};
 ghost use Rattle.law_lines.specs.Links.{GoBelow};
-ghost use Rattle.alw_merge.specs.Replays.{Replays, Takes, taken_on};
+ghost use Rattle.alw_replay.specs.Replays.{Replays, Takes, taken_on};
 ghost use Rattle.mesh_route.specs.Meshes.{count_of};
 ghost use Rattle.alw_route.specs.Loading.{IsLoaded, replayed_in, after_sends, IsUnderWay};
 
 use alw_image::{Image, Params};
-use alw_merge::take;
 use alw_mesh::{FitErr, Machine};
 use alw_msg::{Entry, Journal, Sends};
 use alw_num::{NoMemory, NodeNo};
+use alw_replay::take;
 use mesh_route::Hops;
 use std::alloc::Global;
 

@@ -1,11 +1,10 @@
 ghost use Rattle.std.specs.Prelude.{◌≡◌, ◌≢◌, ◌<◌, ◌≤◌, [], length, slice_set, IsTrue, IfOk, OnOk};
 ghost use Rattle.alw_msg.specs.Lists.{is_nonempty};
 ghost use Rattle.mesh_route.specs.Meshes.{count_of, queue_of, hop_from, mesh_or};
-ghost use Rattle.alw_ready.specs.Tallies.{total};
+ghost use Rattle.alw_num.specs.PlaceCounts.{total};
 ghost use Rattle.alw_route.specs.Waiting.{waiting_at, AreCounted, AreEmpty, IsOnItsWay, HopsTo};
 
-use alw_num::{Draws, NoMemory, NodeNo};
-use alw_ready::Tally;
+use alw_num::{Draws, NoMemory, NodeNo, PlaceCounts};
 use mesh_route::{Hop, HopErr, Hops, Port};
 use std::alloc::Global;
 
@@ -37,12 +36,12 @@ pub fn deliver(alloc: Global, hops: &mut Hops, nodes: u16, seed: u64) -> Result<
 }
 
 // The queues that have a message, counted by node.
-fn count_all(alloc: Global, hops: &Hops, nodes: u16) -> Result<Tally, NoMemory>
+fn count_all(alloc: Global, hops: &Hops, nodes: u16) -> Result<PlaceCounts, NoMemory>
     requires nodes { nodes ≡ count_of hops.now }
     requires few { nodes ≤ 256 }
     ensures { IfOk result (λ tally. AreCounted hops.now tally) }
 {
-    let mut tally = Tally::zeros(alloc, u32::from(nodes))?;
+    let mut tally = PlaceCounts::zeros(alloc, u32::from(nodes))?;
     for node in 0..nodes {
         renew(&mut tally, hops, NodeNo(node));
     }
@@ -50,7 +49,7 @@ fn count_all(alloc: Global, hops: &Hops, nodes: u16) -> Result<Tally, NoMemory>
 }
 
 // The count of a node is made anew.
-fn renew(tally: &mut Tally, hops: &Hops, node: NodeNo)
+fn renew(tally: &mut PlaceCounts, hops: &Hops, node: NodeNo)
     requires counted { length tally.old ≡ count_of hops.now }
     requires here { node.0 < count_of hops.now }
     ensures { tally.new ≡ slice_set tally.old node.0 (waiting_at hops.now node.0) }
@@ -73,7 +72,7 @@ fn waiting_at(hops: &Hops, node: NodeNo) -> u16
 }
 
 // The queue that a drawn number picks.
-fn pick(hops: &Hops, tally: &Tally, number: u32) -> (NodeNo, Port)
+fn pick(hops: &Hops, tally: &PlaceCounts, number: u32) -> (NodeNo, Port)
     requires counted { AreCounted hops.now tally.now }
     requires some { 0 < total tally.now }
     ensures here { result.0.0 < count_of hops.now }
@@ -104,7 +103,12 @@ fn waiting_port(hops: &Hops, node: NodeNo, k: u32) -> Port
 }
 
 // One hop from a queue that has a message.
-fn hop_once(hops: &mut Hops, tally: &mut Tally, at: NodeNo, port: Port) -> Result<(), NoMemory>
+fn hop_once(
+    hops: &mut Hops,
+    tally: &mut PlaceCounts,
+    at: NodeNo,
+    port: Port,
+) -> Result<(), NoMemory>
     requires here { at.0 < count_of hops.old }
     requires some { queue_of hops.old at.0 port ≢ [] }
     requires on_its_way { IsOnItsWay hops.old }

@@ -7,8 +7,7 @@ use crate::delivering::deliver;
 use crate::wires::{Wire, Wires, crossed_wires};
 use alw_mesh::Machine;
 use alw_num::NoMemory;
-use alw_report::put_number;
-use alw_text::{Spell, Text};
+use alw_text::{Spell, Text, put_number};
 use mesh_route::Hops;
 use std::alloc::Global;
 

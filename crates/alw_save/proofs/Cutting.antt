@@ -10,9 +10,9 @@ use Rattle.alw_mesh.specs.Histories.{History, IsRun, stamps_of}
 use Rattle.alw_mesh.specs.declared.errors.FitErr.{FitErr}
 use Rattle.alw_mesh.specs.declared.errors.FitErr.TheVariants as fits
 use Rattle.alw_mesh.proofs.Journals.{journal_fits}
-use Rattle.alw_merge.specs.declared.replays.Replayed.{Replayed}
-use Rattle.alw_merge.specs.Replays.{Replays, IsReplayed}
-use Rattle.alw_merge.proofs.Kept.{first_illegal, all_legal, all_taken, legal_taken}
+use Rattle.alw_replay.specs.declared.replays.Replayed.{Replayed}
+use Rattle.alw_replay.specs.Replays.{Replays, IsReplayed}
+use Rattle.alw_replay.proofs.Kept.{first_illegal, all_legal, all_taken, legal_taken}
 use Rattle.alw_trace.specs.declared.values.Trace.{Trace}
 use Rattle.alw_save.specs.declared.faults.CutErr.{CutErr}
 use Rattle.alw_save.specs.declared.faults.CutErr.TheVariants.{DoesNotFit, NotLegal, NoMemory}

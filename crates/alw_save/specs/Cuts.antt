@@ -9,7 +9,7 @@ use Rattle.alw_mesh.specs.Histories.{History, IsRun, stamps_of}
 use Rattle.alw_mesh.specs.declared.errors.FitErr.{FitErr}
 use Rattle.alw_mesh.specs.declared.errors.FitErr.TheVariants as fits
 use Rattle.alw_mesh.specs.declared.errors.TheConstants.{MOST_STEPS}
-use Rattle.alw_merge.specs.Replays.{IsFirstIllegal}
+use Rattle.alw_replay.specs.Replays.{IsFirstIllegal}
 use Rattle.alw_trace.specs.declared.values.Trace.{Trace}
 use Rattle.alw_save.specs.declared.values.Cut.{Cut}
 use Rattle.alw_save.specs.declared.faults.CutErr.{CutErr}

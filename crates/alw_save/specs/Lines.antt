@@ -15,7 +15,8 @@ use Rattle.alw_msg.specs.declared.messages.Kind.TheVariants as kinds
 use Rattle.alw_msg.specs.declared.messages.Msg.{Msg}
 use Rattle.alw_model.specs.Caches.{Copy, Transaction}
 use Rattle.alw_model.specs.LimitLess.{Directory}
-use Rattle.alw_report.specs.Reports.{state_text, meta_text, nodes_text}
+use Rattle.alw_report.specs.Reports.{state_text, meta_text}
+use Rattle.alw_text.specs.Pieces.{nodes_text}
 
 -- ---- pieces
 

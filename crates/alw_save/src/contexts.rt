@@ -12,8 +12,7 @@ use crate::pieces::put_word;
 use alw_mesh::Machine;
 use alw_msg::Status;
 use alw_num::{LineNo, NoMemory, NodeNo};
-use alw_report::put_number;
-use alw_text::{Spell, Text};
+use alw_text::{Spell, Text, put_number};
 use sparc_table::Regs;
 
 /// The contexts of a node, by slot.

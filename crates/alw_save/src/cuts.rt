@@ -4,10 +4,10 @@ ghost use Rattle.alw_save.specs.Cuts.{Cuts, LeavesAll, LeavesCut};
 
 use crate::faults::CutErr;
 use crate::values::Cut;
-use alw_merge::{Replayed, replay};
 use alw_mesh::Machine;
 use alw_msg::{Entry, Journal};
 use alw_num::NoMemory;
+use alw_replay::{Replayed, replay};
 use alw_trace::Trace;
 use std::alloc::Global;
 

@@ -13,8 +13,7 @@ use crate::pieces::{mode_name, put_body};
 use alw_mesh::Machine;
 use alw_msg::Status;
 use alw_num::{Line, LineNo, Mode, NoMemory, NodeNo};
-use alw_report::put_number;
-use alw_text::Text;
+use alw_text::{Text, put_number};
 
 /// The transactions of a node, by line: each slot that opened one waits on its line, so that no other lines
 /// are looked at.

@@ -11,8 +11,8 @@ use crate::pieces::put_body;
 use alw_memory::HomeView;
 use alw_mesh::Machine;
 use alw_num::{Line, LineNo, Meta, NoMemory, NodeNo, State};
-use alw_report::{meta_name, put_nodes, put_number, state_name};
-use alw_text::Text;
+use alw_report::{meta_name, state_name};
+use alw_text::{Text, put_nodes, put_number};
 
 /// The home lines of a node that differ from their start, ascending.
 pub fn put_homes(text: &mut Text, machine: &Machine, n: NodeNo) -> Result<(), NoMemory>

@@ -10,8 +10,7 @@ use crate::pieces::put_body;
 use alw_mesh::Machine;
 use alw_msg::{Kind, Msg};
 use alw_num::{NoMemory, NodeNo};
-use alw_report::put_number;
-use alw_text::Text;
+use alw_text::{Text, put_number};
 
 /// The packets of a node, in queue order.
 pub fn put_packets(text: &mut Text, machine: &Machine, n: NodeNo) -> Result<(), NoMemory>

@@ -12,8 +12,7 @@ use crate::memory::put_homes;
 use crate::messages::{put_links, put_packets};
 use alw_mesh::Machine;
 use alw_num::{NoMemory, NodeNo};
-use alw_report::put_number;
-use alw_text::Text;
+use alw_text::{Text, put_number};
 use std::alloc::Global;
 
 /// The text of a machine's state: its lines behind their number.

@@ -5,8 +5,7 @@ ghost use Rattle.alw_trace.specs.Texts.{event_text, entry_line, entries_text};
 
 use alw_msg::{Entry, Event, Journal};
 use alw_num::{NoMemory, NodeNo};
-use alw_report::put_number;
-use alw_text::{Spell, Text};
+use alw_text::{Spell, Text, put_number};
 
 /// The entries of a journal, behind their number.
 #[tactic(auto, unfolding(crate::specs::Texts::entries_text))]

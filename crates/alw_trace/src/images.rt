@@ -3,8 +3,7 @@ ghost use Rattle.std.specs.List.{flat_map};
 ghost use Rattle.alw_trace.specs.Texts.{byte_digits, hex_line, hex_lines, line_number, image_text};
 
 use alw_num::NoMemory;
-use alw_report::put_number;
-use alw_text::{Text, digit_of};
+use alw_text::{Text, digit_of, put_number};
 
 // Bytes to a line.
 const ROW: usize = 32;

@@ -8,7 +8,7 @@ use Rattle.alw_num.specs.declared.states.Meta.{Meta}
 use Rattle.alw_num.specs.NodeSets.{Nodes, members, has_node}
 use Rattle.alw_num.specs.Weights.{digit, times}
 use Rattle.alw_num.proofs.Sets.{same_nodes, member}
-use Rattle.alw_report.specs.Reports.{nodes_text}
+use Rattle.alw_text.specs.Pieces.{nodes_text}
 use Rattle.alw_model.specs.LimitLess.{Directory}
 use Rattle.alw_trace.specs.Lines.{IsNumber}
 use Rattle.law_texts.specs.Words.{AreWords}

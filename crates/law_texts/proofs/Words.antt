@@ -11,7 +11,7 @@ use Rattle.alw_num.specs.declared.addresses.Line.{Line}
 use Rattle.alw_text.specs.Numbers.{hex_byte, hex_word}
 use Rattle.alw_text.proofs.Numerals.{length-hex_digits}
 use Rattle.alw_image.specs.Numbers.{IsWord}
-use Rattle.alw_report.specs.Reports.{nodes_text, next_node}
+use Rattle.alw_text.specs.Pieces.{nodes_text, next_node}
 use Rattle.alw_trace.proofs.OneLine.{one_digit}
 use Rattle.alw_trace.proofs.OneClaim.{one_print}
 use Rattle.alw_trace.specs.Lines.{IsNumber}

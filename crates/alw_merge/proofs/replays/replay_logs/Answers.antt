@@ -2,8 +2,8 @@
 use Rattle.std.proofs.Common.{◌∙◌, ap, length}
 use Rattle.alw_model.specs.Threads.{merged}
 use Rattle.alw_cells.specs.Logs.{logged}
-use Rattle.alw_merge.specs.Replays.{taken_on}
-use Rattle.alw_merge.proofs.Fronts.{replayed}
+use Rattle.alw_replay.specs.Replays.{taken_on}
+use Rattle.alw_replay.proofs.Fronts.{replayed}
 use Rattle.alw_merge.proofs.replays.replay_logs.Goals as goal
 
 pub returns : goal.returns

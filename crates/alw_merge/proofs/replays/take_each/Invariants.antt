@@ -1,7 +1,7 @@
 -- What is left to take gives what all give.
 use Rattle.std.proofs.Common.{◌≡◌, length}
 use Rattle.alw_model.specs.Threads.{merged}
-use Rattle.alw_merge.specs.Replays.{taken_on}
+use Rattle.alw_replay.specs.Replays.{taken_on}
 use Rattle.alw_merge.proofs.replays.take_each.Given as goal
 
 abbrev pub invariant-loop-entry : goal.invariant-loop-entry

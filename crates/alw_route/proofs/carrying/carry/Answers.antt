@@ -1,7 +1,7 @@
 -- What the machine took from its start on is the longest legal front.
 use Rattle.std.proofs.Common.{◌∙◌, ap, length}
-use Rattle.alw_merge.specs.Replays.{taken_on}
-use Rattle.alw_merge.proofs.Fronts.{replayed}
+use Rattle.alw_replay.specs.Replays.{taken_on}
+use Rattle.alw_replay.proofs.Fronts.{replayed}
 use Rattle.alw_route.proofs.Loading.{begins}
 use Rattle.alw_route.proofs.carrying.carry.Goals as goal
 

@@ -1,6 +1,6 @@
 -- What is left to take gives what all give.
 use Rattle.std.proofs.Common.{◌≡◌, drop}
-use Rattle.alw_merge.specs.Replays.{taken_on}
+use Rattle.alw_replay.specs.Replays.{taken_on}
 use Rattle.alw_route.specs.Loading.{IsUnderWay}
 use Rattle.alw_route.proofs.carrying.carry_all.Given as goal
 

@@ -2,8 +2,8 @@
 use Rattle.std.proofs.Common.{◌≡◌, ◌++◌}
 use Rattle.std.specs.List.{flat_map}
 use Rattle.alw_num.specs.NodeSets.{nodes_of, members, count_nodes}
-use Rattle.alw_report.specs.Reports.{next_node}
-use Rattle.alw_report.proofs.entries.put_more_nodes.Given as goal
+use Rattle.alw_text.specs.Pieces.{next_node}
+use Rattle.alw_text.proofs.pieces.put_more_nodes.Given as goal
 
 abbrev pub invariant-loop-node : goal.invariant-loop-node
 invariant-loop-node l =

@@ -1,6 +1,6 @@
 use Rattle.std.proofs.Common.{◌≡◌, ◌*◌, drop, arith}
-use Rattle.alw_ready.proofs.Sums.{all_groups, rest_has, place_is}
-use Rattle.alw_ready.proofs.tallies.Tally.find.Goals as goal
+use Rattle.alw_num.proofs.Sums.{all_groups, rest_has, place_is}
+use Rattle.alw_num.proofs.place_counts.PlaceCounts.find.Goals as goal
 
 pub scan-group-requires : goal.scan-group-requires
 scan-group-requires c =

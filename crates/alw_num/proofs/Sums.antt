@@ -5,7 +5,7 @@ use Rattle.std.proofs.lemmas.List.{get_or-set_same, get_or-set_other, get_or-dro
 use Rattle.alw_num.specs.Weights.{sum_below}
 use Rattle.alw_num.proofs.Weigh.{is_node, sum_same, sum_le, sum_none, sum_scale, sum_ones, le_sum, sum_at}
 use Rattle.alw_num.proofs.Ranks.{sum_cat}
-use Rattle.alw_ready.specs.Tallies.{sum_before, total, IsPlace, AreSummed}
+use Rattle.alw_num.specs.PlaceCounts.{sum_before, total, IsPlace, AreSummed}
 
 -- one count more
 pub sum_more : (counts : List ℕ) (n : ℕ) → sum_before counts (n + 1) ≡ sum_before counts n + slice_index counts n

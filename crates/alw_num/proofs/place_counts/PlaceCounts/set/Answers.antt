@@ -1,7 +1,7 @@
 use Rattle.std.proofs.Common.{◌≡◌, ◌<◌, length, slice_index, arith}
 use Rattle.std.proofs.lemmas.List.{get_or_read}
-use Rattle.alw_ready.proofs.Sums.{old_in_all, all_small, resummed}
-use Rattle.alw_ready.proofs.tallies.Tally.set.Goals as goal
+use Rattle.alw_num.proofs.Sums.{old_in_all, all_small, resummed}
+use Rattle.alw_num.proofs.place_counts.PlaceCounts.set.Goals as goal
 
 pub overflow_sub-self-2 : goal.overflow_sub-self-2
 overflow_sub-self-2 c =

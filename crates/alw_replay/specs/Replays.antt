@@ -8,7 +8,7 @@ use Rattle.alw_mesh.specs.declared.errors.FitErr.{FitErr}
 use Rattle.alw_mesh.specs.declared.errors.FitErr.TheVariants as fits
 use Rattle.alw_mesh.specs.declared.errors.TheConstants.{MOST_STEPS}
 use Rattle.alw_mesh.specs.Histories.{History, IsRun, grown, state_of, stamps_of}
-use Rattle.alw_merge.specs.declared.replays.Replayed.{Replayed}
+use Rattle.alw_replay.specs.declared.replays.Replayed.{Replayed}
 
 -- a machine has taken so many of the entries, which are legal, and no longer front of them is
 pub record IsReplayed (image : Parts) (parameters : Parameters) (entries : List Entry) (machine : History) (kept : ℕ) : Type 0 where

@@ -9,7 +9,7 @@ use Rattle.alw_image.specs.Parameters.{Parameters}
 use Rattle.alw_model.specs.Machine.{MachineState, state, stamp_at, is_next, IsNext, AreLegal}
 use Rattle.alw_model.proofs.Journals.{and_parts, state_push}
 use Rattle.alw_mesh.specs.Histories.{History, IsRun, begun, state_of, entry_of, grown}
-use Rattle.alw_merge.specs.Replays.{IsReplayed, may_follow, taken_on}
+use Rattle.alw_replay.specs.Replays.{IsReplayed, may_follow, taken_on}
 
 -- the test says what is next
 passes : (image : Parts) (parameters : Parameters) (s : MachineState) (entry : Entry) → IsNext image parameters s entry → is_next image parameters s entry ≡ true

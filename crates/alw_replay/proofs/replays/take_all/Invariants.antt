@@ -1,7 +1,7 @@
 -- What is left to take gives what all give.
 use Rattle.std.proofs.Common.{◌≡◌, drop}
-use Rattle.alw_merge.specs.Replays.{taken_on}
-use Rattle.alw_merge.proofs.replays.take_all.Given as goal
+use Rattle.alw_replay.specs.Replays.{taken_on}
+use Rattle.alw_replay.proofs.replays.take_all.Given as goal
 
 abbrev pub invariant-loop-entry : goal.invariant-loop-entry
 invariant-loop-entry l = taken_on l.machine (drop l.entry-index l.entries) ≡ taken_on l.fn.machine l.entries
