@@ -26,7 +26,7 @@ use Rattle.alw_model.specs.Headline.{IsCoherentRun}
 use Rattle.alw_model.specs.Runs.{turns_of, prints_of}
 use Rattle.alw_trace.specs.Readings.{IsClaim, IsSharedAddress, most_turns}
 use Rattle.alw_audit.specs.Claims.{claim_of}
-use Rattle.alw_audit.specs.Verdicts.{AreFrom}
+use Rattle.alw_audit.specs.Verdicts.{WordsAreFrom}
 use Rattle.alw_audit.proofs.RunClaims.{is_nonzero, kept_from, four, all_words, kept_is, all_from}
 
 -- ---- turns and prints
@@ -91,7 +91,7 @@ all_shared parts value first (suc lines) within = (
   ),
 )
 
-ascending : (low : ℕ) (words : List (ℕ × ℕ)) → AreFrom low words → IsStrictlyIncreasing (map (λ word. word.0) words)
+ascending : (low : ℕ) (words : List (ℕ × ℕ)) → WordsAreFrom low words → IsStrictlyIncreasing (map (λ word. word.0) words)
 ascending low [] from = λ k within. absurd (omega (arith, within))
 ascending low (word ∷ []) from = λ k within. absurd (omega (arith, within))
 ascending low (word ∷ next ∷ rest) from = step (ascending (word.0 + 4) (next ∷ rest) from.2)

@@ -13,7 +13,7 @@ use Rattle.alw_audit.specs.declared.verdicts.Place.{Place}
 use Rattle.alw_audit.specs.declared.verdicts.Place.TheVariants.{Turn, PrintCount, PrintContext, Print, Memory}
 use Rattle.alw_audit.specs.declared.verdicts.Verdict.{Verdict}
 use Rattle.alw_audit.specs.declared.verdicts.Verdict.TheVariants.{Sound, Differs}
-use Rattle.alw_audit.specs.Verdicts.{IsSound, stop_number, claimed_word, or_else, turns_verdict, pairs_verdict, prints_verdict, words_verdict, verdict_of}
+use Rattle.alw_audit.specs.Verdicts.{ClaimIsSound, stop_number, claimed_word, or_else, turns_verdict, pairs_verdict, prints_verdict, words_verdict, verdict_of}
 
 pub both_sound : (a b : Verdict) → or_else a b ≡ Sound → (a ≡ Sound) × (b ≡ Sound)
 both_sound Sound b e = (refl, e)
@@ -128,7 +128,7 @@ number_is lines addr aligned low high = (omega arith, omega arith)
 address_is : (parts : Parts) (i : ℕ) → i < 4 * line_count parts → IsSharedWord parts (SHARED_BASE + 4 * i)
 address_is parts i l = (omega arith, omega arith, omega arith)
 
-sound_one : (claim : Claim) → verdict_of claim ≡ Sound → IsSound claim
+sound_one : (claim : Claim) → verdict_of claim ≡ Sound → ClaimIsSound claim
 unfolding verdict_of are_ready
 sound_one claim e =
     let parts = claim.image in
@@ -143,7 +143,7 @@ sound_one claim e =
           subst (λ (a : ℕ). claimed_word claim.memory a ≡ word_of flat a) n.0 (words_same claim.memory flat SHARED_BASE (4 * line_count parts) ((addr - SHARED_BASE) / 4) n.1 second.1);
     }
 
-sound_other : (claim : Claim) → IsSound claim → verdict_of claim ≡ Sound
+sound_other : (claim : Claim) → ClaimIsSound claim → verdict_of claim ≡ Sound
 unfolding verdict_of are_ready
 sound_other claim s =
     let parts = claim.image in
@@ -154,5 +154,5 @@ sound_other claim s =
     ap (λ (v : Verdict). or_else v (or_else (prints_verdict claim.prints (flat_prints parts claim.turns)) (words_verdict claim.memory flat SHARED_BASE (4 * line_count parts)))) turns
     ∙ ap (λ (v : Verdict). or_else v (words_verdict claim.memory flat SHARED_BASE (4 * line_count parts))) prints ∙ memory
 
-pub sound_is : (claim : Claim) → (verdict_of claim ≡ Sound) ↔ IsSound claim
+pub sound_is : (claim : Claim) → (verdict_of claim ≡ Sound) ↔ ClaimIsSound claim
 sound_is claim = (sound_one claim, sound_other claim)

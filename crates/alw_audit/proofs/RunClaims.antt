@@ -20,7 +20,7 @@ use Rattle.alw_model.specs.Headline.{IsCoherentRun}
 use Rattle.alw_model.specs.Runs.{turns_of}
 use Rattle.alw_flat.specs.Machines.{IsSharedWord, word_of}
 use Rattle.alw_audit.specs.Claims.{claim_of}
-use Rattle.alw_audit.specs.Verdicts.{AreFrom, IsSound, claimed_word}
+use Rattle.alw_audit.specs.Verdicts.{WordsAreFrom, ClaimIsSound, claimed_word}
 use Rattle.alw_audit.proofs.Walks.{none_below, lower, first_word}
 
 -- ---- words that are 0 needn't be listed
@@ -28,15 +28,15 @@ use Rattle.alw_audit.proofs.Walks.{none_below, lower, first_word}
 abbrev pub is_nonzero : ℕ × ℕ → Bool
 is_nonzero word = not (word.1 == 0)
 
-pub kept_from : (low : ℕ) (words : List (ℕ × ℕ)) → AreFrom low words → AreFrom low (filter is_nonzero words)
+pub kept_from : (low : ℕ) (words : List (ℕ × ℕ)) → WordsAreFrom low words → WordsAreFrom low (filter is_nonzero words)
 kept_from low [] from = tt
 kept_from low (word ∷ rest) from = by_test (is_nonzero word) (kept_from (word.0 + 4) rest from.2)
   where
-    by_test : (b : Bool) → AreFrom (word.0 + 4) (filter is_nonzero rest) → AreFrom low (cond b (word ∷ filter is_nonzero rest) (filter is_nonzero rest))
+    by_test : (b : Bool) → WordsAreFrom (word.0 + 4) (filter is_nonzero rest) → WordsAreFrom low (cond b (word ∷ filter is_nonzero rest) (filter is_nonzero rest))
     by_test true more = (from.0, from.1, more)
     by_test false more = lower low (word.0 + 4) (filter is_nonzero rest) (omega (arith, from.0)) more
 
-kept_same : (low addr : ℕ) (words : List (ℕ × ℕ)) → AreFrom low words → claimed_word (filter is_nonzero words) addr ≡ claimed_word words addr
+kept_same : (low addr : ℕ) (words : List (ℕ × ℕ)) → WordsAreFrom low words → claimed_word (filter is_nonzero words) addr ≡ claimed_word words addr
 kept_same low addr [] from = refl
 kept_same low addr (word ∷ rest) from = by_test (word.1 == 0) refl (word.0 == addr) refl (kept_same (word.0 + 4) addr rest from.2)
   where
@@ -66,10 +66,10 @@ kept_is value first (suc lines) =
     ap (λ (rest : List (ℕ × ℕ)). words_of first (value first) ++ rest) (kept_is value (first + 1) lines)
     ∙ sym (filter-append is_nonzero (four first (value first)) (all_words value (first + 1) lines))
 
-pub all_from : (value : ℕ → Line) (first lines : ℕ) → AreFrom (SHARED_BASE + 16 * first) (all_words value first lines)
+pub all_from : (value : ℕ → Line) (first lines : ℕ) → WordsAreFrom (SHARED_BASE + 16 * first) (all_words value first lines)
 all_from value first zero = tt
 all_from value first (suc lines) =
-    let rest : AreFrom (SHARED_BASE + 16 * first + 12 + 4) (all_words value (first + 1) lines) =
+    let rest : WordsAreFrom (SHARED_BASE + 16 * first + 12 + 4) (all_words value (first + 1) lines) =
     lower (SHARED_BASE + 16 * first + 12 + 4) (SHARED_BASE + 16 * (first + 1)) (all_words value (first + 1) lines) (omega arith) (all_from value (first + 1) lines) in
     (omega arith, omega arith, (omega arith, omega arith, (omega arith, omega arith, (omega arith, omega arith, rest))))
 
@@ -123,7 +123,7 @@ listed_gives parts flat addr is =
     ∙ kept_same (SHARED_BASE + 16 * 0) addr (all_words (line_at flat) 0 lines) (all_from (line_at flat) 0 lines)
     ∙ all_give (line_at flat) 0 lines addr is.0 is.1 (omega (arith, is.2))
 
-pub runs_sound : (image : Parts) → (parameters : Parameters) → (journal : List Entry) → (ended : Ended) → IsCoherentRun image parameters journal ended → IsSound (claim_of image parameters journal)
+pub runs_sound : (image : Parts) → (parameters : Parameters) → (journal : List Entry) → (ended : Ended) → IsCoherentRun image parameters journal ended → ClaimIsSound (claim_of image parameters journal)
 runs_sound image parameters journal ended run = record {
   turns = run.ready;
   prints = run.prints;

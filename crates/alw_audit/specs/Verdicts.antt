@@ -23,7 +23,7 @@ claimed_word [] addr = 0
 claimed_word (word ∷ rest) addr = if word.0 == addr then word.1 else claimed_word rest addr
 
 -- the flat run of the claim's turns is defined, and gives its prints and its memory
-pub record IsSound (claim : Claim) : Type 0 where
+pub record ClaimIsSound (claim : Claim) : Type 0 where
   pub turns : AreReady claim.image claim.turns
   pub prints : claim.prints ≡ flat_prints claim.image claim.turns
   pub memory : (addr : ℕ) → IsSharedWord claim.image addr → claimed_word claim.memory addr ≡ word_of (flat_after claim.image claim.turns) addr
@@ -88,6 +88,6 @@ pub record IsAuditable (claim : Claim) : Type 0 where
   pub ascends : IsStrictlyIncreasing (map (λ word. word.0) claim.memory)
 
 -- words listed from an address on, each at a multiple of 4 above the one before
-abbrev pub AreFrom : ℕ → List (ℕ × ℕ) → Type 0
-AreFrom low [] = ⊤
-AreFrom low (word ∷ rest) = (low ≤ word.0) × (word.0 % 4 ≡ 0) × AreFrom (word.0 + 4) rest
+abbrev pub WordsAreFrom : ℕ → List (ℕ × ℕ) → Type 0
+WordsAreFrom low [] = ⊤
+WordsAreFrom low (word ∷ rest) = (low ≤ word.0) × (word.0 % 4 ≡ 0) × WordsAreFrom (word.0 + 4) rest

@@ -4,7 +4,7 @@ ghost use Rattle.alw_image.specs.Images.{IsImage, context_count, line_count};
 ghost use Rattle.alw_msg.specs.Statuses.{is_ready};
 ghost use Rattle.alw_model.specs.Flat.{print_of, turns_after, turns_print};
 ghost use Rattle.alw_audit.specs.declared.verdicts.Verdict.TheVariants.{Sound};
-ghost use Rattle.alw_audit.specs.Verdicts.{AreWords, IsAuditable, IsSound, stop_number, turns_verdict, verdict_of};
+ghost use Rattle.alw_audit.specs.Verdicts.{AreWords, IsAuditable, ClaimIsSound, stop_number, turns_verdict, verdict_of};
 
 use crate::memory::words_verdict;
 use crate::prints::prints_verdict;
@@ -23,7 +23,7 @@ use std::alloc::Global;
 pub fn audit(alloc: Global, claim: &Claim) -> Result<Verdict, NoMemory>
     requires { IsAuditable claim.now }
     ensures verdict { IfOk result (λ verdict. verdict ≡ verdict_of claim.now) }
-    ensures sound { IfOk result (λ verdict. (verdict ≡ Sound) ↔ IsSound claim.now) }
+    ensures sound { IfOk result (λ verdict. (verdict ≡ Sound) ↔ ClaimIsSound claim.now) }
     ensures words { IfOk result AreWords }
 {
     first_difference(alloc, claim)

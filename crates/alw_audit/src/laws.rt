@@ -9,7 +9,7 @@ ghost use Rattle.alw_model.specs.Headline.{IsCoherentRun};
 ghost use Rattle.alw_model.specs.Runs.{turns_of};
 ghost use Rattle.alw_trace.specs.Readings.{HasClaimTypes, IsClaim, most_turns};
 ghost use Rattle.alw_audit.specs.Claims.{claim_of};
-ghost use Rattle.alw_audit.specs.Verdicts.{IsSound};
+ghost use Rattle.alw_audit.specs.Verdicts.{ClaimIsSound};
 
 /// What a coherent run claims is sound: the flat run of its turns is defined, and gives its prints and each word
 /// of shared data at its end, where a word that it doesn't list is 0. Where the run has at most 8,388,608 turns,
@@ -18,7 +18,7 @@ ghost use Rattle.alw_audit.specs.Verdicts.{IsSound};
 #[tactic(auto, using(crate::proofs::RunClaims::runs_sound, crate::proofs::ClaimForms::runs_claim, crate::proofs::ClaimTypes::runs_types))]
 pub fn runs_claim_what_is_sound()
     ensures sound { (image : Parts) → (parameters : Parameters) → (journal : List Entry) → (ended : Ended) →
-        IsCoherentRun image parameters journal ended → IsSound (claim_of image parameters journal) }
+        IsCoherentRun image parameters journal ended → ClaimIsSound (claim_of image parameters journal) }
     ensures claim { (image : Parts) → (parameters : Parameters) → (journal : List Entry) → (ended : Ended) → IsImage image →
         IsCoherentRun image parameters journal ended → length (turns_of image parameters journal) ≤ most_turns →
         IsClaim (claim_of image parameters journal) }

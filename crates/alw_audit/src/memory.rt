@@ -1,6 +1,6 @@
 ghost use Rattle.std.specs.Prelude.{◌≡◌, ◌<◌, ◌≤◌, ◌+◌, ◌*◌, ◌%◌, ◌^◌, ℕ};
 ghost use Rattle.alw_image.specs.Images.{line_count};
-ghost use Rattle.alw_audit.specs.Verdicts.{AreFrom, AreWords, claimed_word, words_verdict};
+ghost use Rattle.alw_audit.specs.Verdicts.{WordsAreFrom, AreWords, claimed_word, words_verdict};
 
 use crate::verdicts::{Place, Verdict};
 use alw_flat::Flat;
@@ -10,7 +10,7 @@ use alw_num::SHARED_BASE;
 pub fn words_verdict(flat: &Flat, lines: u32, memory: &[(u32, u32)]) -> Verdict
     requires lines { lines ≡ line_count flat.now.parts }
     requires few { lines ≤ 2 ^ 20 }
-    requires words { AreFrom SHARED_BASE memory.now }
+    requires words { WordsAreFrom SHARED_BASE memory.now }
     ensures verdict { result ≡ words_verdict memory.now flat.now.flat SHARED_BASE (4 * lines) }
     ensures words { AreWords result }
 {
@@ -34,9 +34,9 @@ pub fn words_verdict(flat: &Flat, lines: u32, memory: &[(u32, u32)]) -> Verdict
 // The word that a list gives an address, and what is listed behind it: nothing is listed before the address.
 fn word_at(words: &[(u32, u32)], addr: u32) -> (u32, &[(u32, u32)])
     requires aligned { addr % 4 ≡ 0 }
-    requires words { AreFrom addr words.now }
+    requires words { WordsAreFrom addr words.now }
     ensures word { result.0 ≡ claimed_word words.now addr }
-    ensures rest { AreFrom (addr + 4) result.1.now }
+    ensures rest { WordsAreFrom (addr + 4) result.1.now }
     ensures same { (later : ℕ) → addr < later → claimed_word result.1.now later ≡ claimed_word words.now later }
 {
     let Some((word, behind)) = words.split_first() else {

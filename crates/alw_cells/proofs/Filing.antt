@@ -14,7 +14,7 @@ use Rattle.alw_model.proofs.Journals.{and_parts}
 use Rattle.alw_node.specs.Nodes.{Whole, Steps}
 use Rattle.alw_cells.specs.Cells.{Cell, IsCell}
 use Rattle.alw_cells.specs.Choice.{taken_by, may_happen}
-use Rattle.alw_cells.specs.Records.{IsPlain, AreOfEvent, IsRecord, AreBelow}
+use Rattle.alw_cells.specs.Records.{BodyIsPlain, SendsAreOfEvent, IsRecord, AreBelow}
 use Rattle.alw_cells.proofs.Runs.{enabled, may_be, takes, stamp_above, stamps_within}
 use Rattle.alw_cells.proofs.Sends.{step_so}
 
@@ -37,19 +37,19 @@ rises cell event taken sent sent' after did stamp log is log_is steps stamp_is =
 
 -- as the calls in it say
 pub filed : (cell : Cell) (event : Event) (taken : Option Msg) (sent sent' : Sending) (after : Whole) (did : Did) (stamp number : ℕ)
-    → may_happen cell event ≡ true → taken ≡ taken_by cell.come event → IfSome taken IsPlain
+    → may_happen cell event ≡ true → taken ≡ taken_by cell.come event → IfSome taken BodyIsPlain
     → Steps cell.node after sent sent' did (node_step cell.node.parts cell.node.parameters cell.node.number cell.node.state event taken)
     → stamp ≡ after.state.clock → number ≡ cell.node.number → length sent'.messages < 2 ^ 16
     → IsRecord number (record { entry = record { stamp = stamp; event = event }; taken = taken; sent = sent'.messages })
 filed cell event taken sent sent' after did stamp number may taken_is plain steps stamp_is own few =
     let stamped : stamp ≡ stamp_of cell.node.state.clock taken = stamp_is ∙ ap (λ (w : Whole). w.state.clock) steps.node in
-    let sends : AreOfEvent cell.node.number (stamp_of cell.node.state.clock taken)
+    let sends : SendsAreOfEvent cell.node.number (stamp_of cell.node.state.clock taken)
     (node_step cell.node.parts cell.node.parameters cell.node.number cell.node.state event taken).sends =
     step_so cell.node.parts cell.node.parameters cell.node.number cell.node.state event taken in
     record {
       node = eqb-true (node_of event) cell.node.number (and_parts (node_of event == cell.node.number) _ (enabled cell event may)).0 ∙ sym own;
       taken = subst (λ (o : Option Msg). takes_rightly event o ≡ true) (sym taken_is) (takes cell event (may_be cell event may));
       plain = plain;
-      sent = subst (λ (P : Type 0). P) (λ x. AreOfEvent (sym own x) (sym stamped x) (sym steps.sends x).messages) sends;
+      sent = subst (λ (P : Type 0). P) (λ x. SendsAreOfEvent (sym own x) (sym stamped x) (sym steps.sends x).messages) sends;
       few = few;
     }

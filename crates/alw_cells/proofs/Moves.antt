@@ -21,10 +21,10 @@ use Rattle.alw_model.specs.Threads.{Logged, sent_to}
 use Rattle.alw_node.specs.Nodes.{Whole, Steps, whole_start}
 use Rattle.alw_node.proofs.KeptMembers.{start_same}
 use Rattle.alw_cells.specs.Logs.{Written}
-use Rattle.alw_cells.specs.Cells.{Cell, IsBack, in_from, picked, without_first}
+use Rattle.alw_cells.specs.Cells.{Cell, IsBackPart, in_from, picked, without_first}
 use Rattle.alw_cells.specs.Choice.{taken_by, come_taken, may_happen, stepped_by, entry_by, logged_by, after_event, Happens}
 use Rattle.alw_cells.specs.declared.cells.Stepped.TheVariants as result
-use Rattle.alw_cells.specs.Keeping.{AreSenders, IsKept, IsFiled}
+use Rattle.alw_cells.specs.Keeping.{AreSenders, CellIsKept, LogIsFiled}
 use Rattle.alw_cells.proofs.Receivers.{picked_behind, picked_other}
 use Rattle.alw_cells.proofs.Runs.{back_shrinks, grows, is_next}
 
@@ -67,8 +67,8 @@ senders_popped come senders after from list rest are here read is set_is empty =
 -- ---- the whole
 
 pub keeps_coming : (node : Whole) (log : List Logged) (come : List (List Msg)) (senders after : NodeSet) (pending : List (ℕ × Msg)) (sent : Sending) (dids : List Did) (from : ℕ) (msg : Msg)
-    → IsKept node log come senders pending sent dids → from < length come → nodes_of after ≡ add_node (nodes_of senders) from
-    → IsKept node log (set come from (in_from come from ++ msg ∷ [])) after pending sent dids
+    → CellIsKept node log come senders pending sent dids → from < length come → nodes_of after ≡ add_node (nodes_of senders) from
+    → CellIsKept node log (set come from (in_from come from ++ msg ∷ [])) after pending sent dids
 keeps_coming node log come senders after pending sent dids from msg is here set_is = record {
   replayed = record { run = is.replayed.run; state = is.replayed.state; outs = is.replayed.outs; ins = length-set come from (in_from come from ++ msg ∷ []) ∙ is.replayed.ins; answers = is.replayed.answers };
   sent_by = senders_more come senders after from msg is.sent_by here set_is;
@@ -78,22 +78,22 @@ keeps_coming node log come senders after pending sent dids from msg is here set_
 
 -- the same, where the list was read and pushed to
 pub keeps_pushing : (node : Whole) (log : List Logged) (come : List (List Msg)) (senders after : NodeSet) (pending : List (ℕ × Msg)) (sent : Sending) (dids : List Did) (from : ℕ) (msg : Msg) (list more : List Msg)
-    → IsKept node log come senders pending sent dids → from < length come → list ≡ get_or come from list → more ≡ list ++ msg ∷ [] → nodes_of after ≡ add_node (nodes_of senders) from
-    → IsKept node log (set come from more) after pending sent dids
+    → CellIsKept node log come senders pending sent dids → from < length come → list ≡ get_or come from list → more ≡ list ++ msg ∷ [] → nodes_of after ≡ add_node (nodes_of senders) from
+    → CellIsKept node log (set come from more) after pending sent dids
 keeps_pushing node log come senders after pending sent dids from msg list more is here read more_is set_is =
     let whole : more ≡ in_from come from ++ msg ∷ [] = more_is ∙ ap (λ (xs : List Msg). xs ++ msg ∷ []) (get_or_read come from list here read []) in
-    subst (λ (xs : List Msg). IsKept node log (set come from xs) after pending sent dids) (sym whole) (keeps_coming node log come senders after pending sent dids from msg is here set_is)
+    subst (λ (xs : List Msg). CellIsKept node log (set come from xs) after pending sent dids) (sym whole) (keeps_coming node log come senders after pending sent dids from msg is here set_is)
 
 pub keeps_giving : (node : Whole) (log : List Logged) (come : List (List Msg)) (senders : NodeSet) (pending : List (ℕ × Msg)) (sent : Sending) (dids : List Did) (to : ℕ)
-    → IsKept node log come senders pending sent dids → IsKept node log come senders (without_first to pending) sent dids
+    → CellIsKept node log come senders pending sent dids → CellIsKept node log come senders (without_first to pending) sent dids
 keeps_giving node log come senders pending sent dids to is = record {
   replayed = record {
     run = is.replayed.run;
     state = is.replayed.state;
     outs = λ other. is_node _ other to
-        (λ same. subst (λ (k : ℕ). IsBack (picked k (without_first to pending)) (sent_to k log)) (sym same)
-        (subst (λ (xs : List Msg). IsBack xs (sent_to to log)) (sym (picked_behind to pending)) (back_shrinks (picked to pending) (sent_to to log) (is.replayed.outs to))))
-        (λ differ. subst (λ (xs : List Msg). IsBack xs (sent_to other log)) (sym (picked_other to other pending differ)) (is.replayed.outs other));
+        (λ same. subst (λ (k : ℕ). IsBackPart (picked k (without_first to pending)) (sent_to k log)) (sym same)
+        (subst (λ (xs : List Msg). IsBackPart xs (sent_to to log)) (sym (picked_behind to pending)) (back_shrinks (picked to pending) (sent_to to log) (is.replayed.outs to))))
+        (λ differ. subst (λ (xs : List Msg). IsBackPart xs (sent_to other log)) (sym (picked_other to other pending differ)) (is.replayed.outs other));
     ins = is.replayed.ins;
     answers = is.replayed.answers;
   };
@@ -108,7 +108,7 @@ none_at (suc count) zero = refl
 none_at (suc count) (suc from) = none_at count from
 
 pub keeps_start : (parts : Parts) (parameters : Parameters) (number count : ℕ) (senders : NodeSet) (sent : Sending) → count ≡ node_count parts → count ≤ 256 → nodes_of senders ≡ no_nodes → sent.room ≡ count
-    → IsKept (whole_start parts parameters number) [] (replicate count []) senders [] sent []
+    → CellIsKept (whole_start parts parameters number) [] (replicate count []) senders [] sent []
 keeps_start parts parameters number count senders sent count_is few none room = record {
   replayed = record { run = tt; state = sym (start_same parts number); outs = λ to. ([], refl); ins = length-replicate count [] ∙ count_is; answers = refl };
   sent_by = λ from. ap (λ S. has_node S from) none ∙ (has-none from ∙ none_at count from);
@@ -119,13 +119,13 @@ keeps_start parts parameters number count senders sent count_is few none room = 
 -- a node at its start, as the calls that make it say
 pub kept_start : (parts : Parts) (parameters : Parameters) (number count : ℕ) (node : Whole) (log : Written) (come : List (List Msg)) (senders : NodeSet) (pending : List (ℕ × Msg)) (sent : Sending) (dids : List Did)
     → node ≡ whole_start parts parameters number → log ≡ record { number = number; entries = []; room = 0 } → come ≡ replicate count [] → nodes_of senders ≡ no_nodes → pending ≡ [] → sent.room ≡ count → count ≡ node_count parts → count ≤ 256
-    → dids ≡ [] → IsFiled node log come senders pending sent dids
+    → dids ≡ [] → LogIsFiled node log come senders pending sent dids
 kept_start parts parameters number count node log come senders pending sent dids node_is log_is come_is none pending_is room count_is few dids_is =
-    subst (λ (w : Whole). IsFiled w log come senders pending sent dids) (sym node_is)
-    (subst (λ (l : Written). IsFiled (whole_start parts parameters number) l come senders pending sent dids) (sym log_is)
-    (subst (λ (lists : List (List Msg)). IsFiled (whole_start parts parameters number) (record { number = number; entries = []; room = 0 }) lists senders pending sent dids) (sym come_is)
-    (subst (λ (p : List (ℕ × Msg)). IsFiled (whole_start parts parameters number) (record { number = number; entries = []; room = 0 }) (replicate count []) senders p sent dids) (sym pending_is)
-    (subst (λ (done : List Did). IsFiled (whole_start parts parameters number) (record { number = number; entries = []; room = 0 }) (replicate count []) senders [] sent done) (sym dids_is)
+    subst (λ (w : Whole). LogIsFiled w log come senders pending sent dids) (sym node_is)
+    (subst (λ (l : Written). LogIsFiled (whole_start parts parameters number) l come senders pending sent dids) (sym log_is)
+    (subst (λ (lists : List (List Msg)). LogIsFiled (whole_start parts parameters number) (record { number = number; entries = []; room = 0 }) lists senders pending sent dids) (sym come_is)
+    (subst (λ (p : List (ℕ × Msg)). LogIsFiled (whole_start parts parameters number) (record { number = number; entries = []; room = 0 }) (replicate count []) senders p sent dids) (sym pending_is)
+    (subst (λ (done : List Did). LogIsFiled (whole_start parts parameters number) (record { number = number; entries = []; room = 0 }) (replicate count []) senders [] sent done) (sym dids_is)
     (record { kept = keeps_start parts parameters number count senders sent count_is few none room; own = refl })))))
 
 -- ---- an event
@@ -141,11 +141,11 @@ module _ (cell : Cell) (event : Event) (sent sent' : Sending) (after : Whole) (d
   abbrev pub put_in : Logged
   put_in = record { entry = record { stamp = after.state.clock; event = event }; taken = taken_by cell.come event; sent = sent'.messages }
 
-  pub keeps_event : (senders senders' : NodeSet) → may_happen cell event ≡ true → (cell.node.parameters.evict ≡ 0 → is_evict event ≡ false) → IsKept cell.node cell.log cell.come senders cell.pending sent cell.dids
+  pub keeps_event : (senders senders' : NodeSet) → may_happen cell event ≡ true → (cell.node.parameters.evict ≡ 0 → is_evict event ≡ false) → CellIsKept cell.node cell.log cell.come senders cell.pending sent cell.dids
       → AreSenders (come_taken cell.come event) senders'
-      → IsKept after (cell.log ++ put_in ∷ []) (come_taken cell.come event) senders' (cell.pending ++ sent'.messages) sent' (cell.dids ++ did ∷ [])
+      → CellIsKept after (cell.log ++ put_in ∷ []) (come_taken cell.come event) senders' (cell.pending ++ sent'.messages) sent' (cell.dids ++ did ∷ [])
   keeps_event senders senders' may evicts is are =
-      let P : Whole → Sending → Type 0 = λ w s. IsKept w (cell.log ++ record { entry = record { stamp = w.state.clock; event = event }; taken = taken_by cell.come event; sent = s.messages } ∷ [])
+      let P : Whole → Sending → Type 0 = λ w s. CellIsKept w (cell.log ++ record { entry = record { stamp = w.state.clock; event = event }; taken = taken_by cell.come event; sent = s.messages } ∷ [])
       (come_taken cell.come event) senders' (cell.pending ++ s.messages) s (cell.dids ++ did ∷ []) in
       let step = stepped_by cell event in
       let replayed = grows cell.node cell.log cell.come (come_taken cell.come event) cell.pending cell.dids (logged_by cell event) step.node did is.replayed (is_next cell event may evicts) refl steps.outcome (length_taken cell.come event) in
@@ -182,13 +182,13 @@ module _ (cell : Cell) (event : Event) (taken : Option Msg) (sent sent' : Sendin
   dids_whole : dids' ≡ cell.dids ++ did ∷ []
   dids_whole = answered ∙ ap (λ (done : List Did). done ++ did ∷ []) dids_is
 
-  pub kept : (senders senders' : NodeSet) → IsKept cell.node cell.log cell.come senders cell.pending sent cell.dids → may_happen cell event ≡ true → (cell.node.parameters.evict ≡ 0 → is_evict event ≡ false)
-      → AreSenders come' senders' → IsKept after log' come' senders' pending' sent' dids'
+  pub kept : (senders senders' : NodeSet) → CellIsKept cell.node cell.log cell.come senders cell.pending sent cell.dids → may_happen cell event ≡ true → (cell.node.parameters.evict ≡ 0 → is_evict event ≡ false)
+      → AreSenders come' senders' → CellIsKept after log' come' senders' pending' sent' dids'
   kept senders senders' is may evicts are =
-      subst (λ (l : List Logged). IsKept after l come' senders' pending' sent' dids') (sym log_whole)
-      (subst (λ (come : List (List Msg)). IsKept after its_log come senders' pending' sent' dids') (sym come_is)
-      (subst (λ (p : List (ℕ × Msg)). IsKept after its_log (come_taken cell.come event) senders' p sent' dids') (sym pending_whole)
-      (subst (λ (done : List Did). IsKept after its_log (come_taken cell.come event) senders' (cell.pending ++ sent'.messages) sent' done) (sym dids_whole)
+      subst (λ (l : List Logged). CellIsKept after l come' senders' pending' sent' dids') (sym log_whole)
+      (subst (λ (come : List (List Msg)). CellIsKept after its_log come senders' pending' sent' dids') (sym come_is)
+      (subst (λ (p : List (ℕ × Msg)). CellIsKept after its_log (come_taken cell.come event) senders' p sent' dids') (sym pending_whole)
+      (subst (λ (done : List Did). CellIsKept after its_log (come_taken cell.come event) senders' (cell.pending ++ sent'.messages) sent' done) (sym dids_whole)
       (keeps_event cell event sent sent' after did steps senders senders' may evicts is (subst (λ (come : List (List Msg)). AreSenders come senders') come_is are)))))
 
   pub happens : Happens cell event (record { node = after; log = log'; come = come'; pending = pending'; dids = dids' }) (Ok (result.Did (record { stamp = stamp; event = event }) did))

@@ -11,7 +11,7 @@ use Rattle.alw_msg.specs.declared.messages.Msg.{Msg}
 use Rattle.alw_msg.specs.Kinds.{has_body, kind_number}
 use Rattle.alw_msg.specs.Sending.{carried_body}
 use Rattle.alw_cells.specs.Layout.{word, half, body_bytes, taken_bytes, sent_bytes}
-use Rattle.alw_cells.specs.Records.{IsPlain, IsOfEvent, AreOfEvent, FitsLine, FitsMsg, FitsSend, word_in, half_in, kind_by, body_size, body_in, taken_msg}
+use Rattle.alw_cells.specs.Records.{BodyIsPlain, SendIsOfEvent, SendsAreOfEvent, FitsLine, FitsMsg, FitsSend, word_in, half_in, kind_by, body_size, body_in, taken_msg}
 use Rattle.alw_cells.specs.Records.{msg_size, sent_msg, sent_size, sends_in, behind_sends, HasSends}
 
 -- ---- numbers
@@ -88,7 +88,7 @@ module _ (number stamp : ℕ) (send : ℕ × Msg) (rest : List ℕ) where
   unfolding sent_bytes half word
   sent_front = refl
 
-  sent_back : IsOfEvent number stamp send.1 → FitsSend send → sent_msg number stamp (sent_bytes send ++ rest) ≡ send
+  sent_back : SendIsOfEvent number stamp send.1 → FitsSend send → sent_msg number stamp (sent_bytes send ++ rest) ≡ send
   unfolding sent_msg sent_bytes half word
   sent_back is fits =
       let body : body_in (kind_by (kind_number send.1.kind)) (its_body ++ rest) ≡ send.1.body =
@@ -131,7 +131,7 @@ pub record AreBack (number stamp : ℕ) (sent : List (ℕ × Msg)) (bytes rest :
   pub behind : behind_sends (length sent) bytes ≡ rest
   pub has : HasSends (length sent) bytes
 
-pub sends_back : (number stamp : ℕ) (sent : List (ℕ × Msg)) (rest : List ℕ) → AreOfEvent number stamp sent → AllByRecursion FitsSend sent
+pub sends_back : (number stamp : ℕ) (sent : List (ℕ × Msg)) (rest : List ℕ) → SendsAreOfEvent number stamp sent → AllByRecursion FitsSend sent
     → AreBack number stamp sent (flat_map sent_bytes sent ++ rest) rest
 sends_back number stamp [] rest are fit = record { read = refl; behind = refl; has = tt }
 sends_back number stamp (send ∷ sent) rest are fit =
@@ -150,7 +150,7 @@ module _ (msg : Msg) (rest : List ℕ) where
   abbrev took_body : List ℕ
   took_body = body_bytes msg.kind msg.body
 
-  pub taken_back : IsPlain msg → FitsMsg msg → taken_msg (taken_bytes (Some msg) ++ rest) ≡ msg
+  pub taken_back : BodyIsPlain msg → FitsMsg msg → taken_msg (taken_bytes (Some msg) ++ rest) ≡ msg
   unfolding taken_msg taken_bytes half word
   taken_back plain fits =
       let body : body_in (kind_by (kind_number msg.kind)) (took_body ++ rest) ≡ msg.body =

@@ -18,10 +18,10 @@ use Rattle.alw_model.specs.NodeStates.{NodeState, stamp_of, node_start, is_enabl
 use Rattle.alw_model.specs.NodeSteps.{node_step}
 use Rattle.alw_model.specs.Threads.{Logged, IsNextLogged, IsRunFrom, IsLocalRun, node_after, sent_to, takes_rightly}
 use Rattle.alw_model.proofs.Journals.{and_parts}
-use Rattle.alw_node.specs.Nodes.{Whole, IsGiven}
+use Rattle.alw_node.specs.Nodes.{Whole, MessageIsGiven}
 use Rattle.alw_node.specs.Shares.{share_of}
 use Rattle.alw_node.proofs.KeptMembers.{start_same, enabled_same, step_same}
-use Rattle.alw_cells.specs.Cells.{Cell, IsReplayed, IsBack, picked, in_from, dids_from, dids_of}
+use Rattle.alw_cells.specs.Cells.{Cell, IsReplayed, IsBackPart, picked, in_from, dids_from, dids_of}
 use Rattle.alw_cells.specs.Choice.{taken_by, may_happen, logged_by}
 use Rattle.alw_cells.proofs.Receivers.{picked-append}
 
@@ -81,10 +81,10 @@ sent_push : (to : ℕ) (log : List Logged) (one : Logged) → sent_to to (log ++
 sent_push to log one =
     flat_map-append (λ logged. picked to logged.sent) log (one ∷ []) ∙ ap (λ (xs : List Msg). sent_to to log ++ xs) (append-nil (picked to one.sent))
 
-back_grows : (some all more : List Msg) → IsBack some all → IsBack (some ++ more) (all ++ more)
+back_grows : (some all more : List Msg) → IsBackPart some all → IsBackPart (some ++ more) (all ++ more)
 back_grows some all more (first, is) = (first, sym (append_assoc first some more) ∙ ap (λ (xs : List Msg). xs ++ more) is)
 
-pub back_shrinks : (some all : List Msg) → IsBack some all → IsBack (behind some) all
+pub back_shrinks : (some all : List Msg) → IsBackPart some all → IsBackPart (behind some) all
 back_shrinks [] all is = is
 back_shrinks (msg ∷ rest) all (first, is) = (first ++ msg ∷ [], append_assoc first (msg ∷ []) rest ∙ is)
 
@@ -98,8 +98,8 @@ grows node log come after pending dids one next did is logged next_is did_is sam
   run = run_push node.parts node.parameters node.number (node_start node.parts node.number) log one is.run (subst (λ state. IsNextLogged node.parts node.parameters node.number state one) is.state logged);
   state = next_is ∙ (ap (λ state. (node_step node.parts node.parameters node.number state one.entry.event one.taken).node) is.state
       ∙ sym (after_push node.parts node.parameters node.number (node_start node.parts node.number) log one));
-  outs = λ to. subst (λ (xs : List Msg). IsBack xs (sent_to to (log ++ one ∷ []))) (sym (picked-append to pending one.sent))
-      (subst (λ (ys : List Msg). IsBack (picked to pending ++ picked to one.sent) ys) (sym (sent_push to log one)) (back_grows (picked to pending) (sent_to to log) (picked to one.sent) (is.outs to)));
+  outs = λ to. subst (λ (xs : List Msg). IsBackPart xs (sent_to to (log ++ one ∷ []))) (sym (picked-append to pending one.sent))
+      (subst (λ (ys : List Msg). IsBackPart (picked to pending ++ picked to one.sent) ys) (sym (sent_push to log one)) (back_grows (picked to pending) (sent_to to log) (picked to one.sent) (is.outs to)));
   ins = same ∙ is.ins;
   answers =
       let did_there = did_is ∙ ap (λ state. (node_step node.parts node.parameters node.number state one.entry.event one.taken).did) is.state in
@@ -108,7 +108,7 @@ grows node log come after pending dids one next did is logged next_is did_is sam
 
 -- ---- an event that may happen
 
-given : (come : List (List Msg)) (event : Event) → IsGiven event (taken_by come event)
+given : (come : List (List Msg)) (event : Event) → MessageIsGiven event (taken_by come event)
 given come (Instr at) = tt
 given come (Handle at) = tt
 given come (Deliver from to) = tt
@@ -145,7 +145,7 @@ module _ (cell : Cell) (event : Event) (is : may_happen cell event ≡ true) whe
     sent = refl;
   }
 
-pub given_event : (come : List (List Msg)) (event : Event) → IsGiven event (taken_by come event)
+pub given_event : (come : List (List Msg)) (event : Event) → MessageIsGiven event (taken_by come event)
 given_event come event = given come event
 
 -- ---- runs by a share

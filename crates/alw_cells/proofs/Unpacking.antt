@@ -12,7 +12,7 @@ use Rattle.alw_msg.specs.declared.events.Entry.{Entry}
 use Rattle.alw_msg.specs.Events.{node_of}
 use Rattle.alw_model.specs.Threads.{Logged, takes_rightly}
 use Rattle.alw_cells.specs.Layout.{word, half, tag_of, argument_of, taken_bytes, sent_bytes, front_bytes, back_bytes, record_bytes, log_bytes}
-use Rattle.alw_cells.specs.Records.{IsPlain, IsRecord, FitsMsg, FitsEvent, FitsRecord, AreRecords, word_in, half_in, event_by, event_in}
+use Rattle.alw_cells.specs.Records.{BodyIsPlain, IsRecord, FitsMsg, FitsEvent, FitsRecord, AreRecords, word_in, half_in, event_by, event_in}
 use Rattle.alw_cells.specs.Records.{sends_in, behind_sends, HasSends, taken_in, taken_size, entry_in, count_in, sends_at, behind_record, logged_in, records_in}
 use Rattle.alw_cells.specs.Records.{HasRecords, AreBelow, Ascends, ArePacked}
 use Rattle.alw_cells.proofs.Packing.{word_back, half_back, half_length, taken_back, msg_size_is, taken_length, sends_back}
@@ -52,7 +52,7 @@ none_length : 0 ≡ length (taken_bytes None)
 unfolding taken_bytes
 none_length = refl
 
-took : (stamp : ℕ) (event : Event) (taken : Option Msg) (behind : List ℕ) → IsTrue (takes_rightly event taken) → IfSome taken IsPlain → IfSome taken FitsMsg
+took : (stamp : ℕ) (event : Event) (taken : Option Msg) (behind : List ℕ) → IsTrue (takes_rightly event taken) → IfSome taken BodyIsPlain → IfSome taken FitsMsg
     → IsTaken taken (whole (record { stamp = stamp; event = event }) (taken_bytes taken ++ behind))
 unfolding taken_in taken_size front_bytes word
 took stamp (Instr node) None behind right plain fits = record { read = refl; size = none_length }

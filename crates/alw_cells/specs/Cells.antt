@@ -40,8 +40,8 @@ abbrev pub out_to : Cell → ℕ → List Msg
 out_to cell to = picked to cell.pending
 
 -- some messages are the last ones of all
-abbrev pub IsBack : List Msg → List Msg → Type 0
-IsBack some all = (first : List Msg) × (first ++ some ≡ all)
+abbrev pub IsBackPart : List Msg → List Msg → Type 0
+IsBackPart some all = (first : List Msg) × (first ++ some ≡ all)
 
 -- what each event of a log does, from a node on, and from the node's start
 abbrev pub dids_from : Parts → Parameters → ℕ → NodeState → List Logged → List Did
@@ -58,7 +58,7 @@ dids_of parts parameters number log = dids_from parts parameters number (node_st
 pub record IsReplayed (node : Whole) (log : List Logged) (come : List (List Msg)) (pending : List (ℕ × Msg)) (dids : List Did) : Type 0 where
   pub run : IsLocalRun node.parts node.parameters node.number log
   pub state : node.state ≡ node_after node.parts node.parameters node.number (node_start node.parts node.number) log
-  pub outs : (to : ℕ) → IsBack (picked to pending) (sent_to to log)
+  pub outs : (to : ℕ) → IsBackPart (picked to pending) (sent_to to log)
   pub ins : length come ≡ node_count node.parts
   pub answers : dids ≡ dids_of node.parts node.parameters node.number log
 
@@ -67,7 +67,7 @@ abbrev pub IsCell : Cell → Type 0
 IsCell cell = IsReplayed cell.node cell.log cell.come cell.pending cell.dids
 
 -- what a cell was of
-pub record IsSplit (cell : Cell) (parts : CellParts) : Type 0 where
+pub record CellIsSplit (cell : Cell) (parts : CellParts) : Type 0 where
   pub node : parts.node ≡ cell.node
   pub log : parts.log.entries ≡ cell.log
   pub dids : parts.dids ≡ cell.dids

@@ -17,7 +17,7 @@ use Rattle.alw_cells.specs.Logs.{Written}
 abbrev pub AreSenders : List (List Msg) → NodeSet → Type 0
 AreSenders come senders = (from : ℕ) → has_node (nodes_of senders) from ≡ is_nonempty (in_from come from)
 
-pub record IsKept (node : Whole) (log : List Logged) (come : List (List Msg)) (senders : NodeSet) (pending : List (ℕ × Msg)) (sent : Sending)
+pub record CellIsKept (node : Whole) (log : List Logged) (come : List (List Msg)) (senders : NodeSet) (pending : List (ℕ × Msg)) (sent : Sending)
     (dids : List Did) : Type 0 where
   pub replayed : IsReplayed node log come pending dids
   pub sent_by : AreSenders come senders
@@ -25,7 +25,7 @@ pub record IsKept (node : Whole) (log : List Logged) (come : List (List Msg)) (s
   pub few : length come ≤ MOST_NODES
 
 -- all of that, and the log is the node's
-pub record IsFiled (node : Whole) (log : Written) (come : List (List Msg)) (senders : NodeSet) (pending : List (ℕ × Msg)) (sent : Sending)
+pub record LogIsFiled (node : Whole) (log : Written) (come : List (List Msg)) (senders : NodeSet) (pending : List (ℕ × Msg)) (sent : Sending)
     (dids : List Did) : Type 0 where
-  pub kept : IsKept node log.entries come senders pending sent dids
+  pub kept : CellIsKept node log.entries come senders pending sent dids
   pub own : log.number ≡ node.number

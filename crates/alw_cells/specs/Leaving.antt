@@ -22,7 +22,7 @@ whole_after image parameters n log = record {
 }
 
 -- the logs are local runs of this image whose links agree; at each place stands that node after its log, and what the log's events did
-pub record IsWorked (image : Parts) (parameters : Parameters) (worked : Worked) : Type 0 where
+pub record LogsAreWorked (image : Parts) (parameters : Parameters) (worked : Worked) : Type 0 where
   pub runs : AreLocalRuns image parameters (logged worked.logs)
   pub node_places : length worked.nodes ≡ node_count image
   pub nodes_are : (n : ℕ) → n < node_count image → slice_get worked.nodes n ≡ Some (whole_after image parameters n (log_at (logged worked.logs) n))

@@ -20,27 +20,27 @@ use Rattle.alw_cells.specs.Logs.{Reading}
 -- ---- what a record can hold
 
 -- a message has no bytes that its kind doesn't carry
-abbrev pub IsPlain : Msg → Type 0
-IsPlain msg = carried_body msg.kind msg.body ≡ msg.body
+abbrev pub BodyIsPlain : Msg → Type 0
+BodyIsPlain msg = carried_body msg.kind msg.body ≡ msg.body
 
 -- a message that an event sent is its node's, with its stamp
-pub record IsOfEvent (number stamp : ℕ) (msg : Msg) : Type 0 where
+pub record SendIsOfEvent (number stamp : ℕ) (msg : Msg) : Type 0 where
   pub src : msg.src.0 ≡ number
   pub at : msg.stamp ≡ stamp
-  pub plain : IsPlain msg
+  pub plain : BodyIsPlain msg
 
-abbrev pub ArePlain : List Msg → Type 0
-ArePlain messages = AllByRecursion IsPlain messages
+abbrev pub BodiesArePlain : List Msg → Type 0
+BodiesArePlain messages = AllByRecursion BodyIsPlain messages
 
-abbrev pub AreOfEvent : ℕ → ℕ → List (ℕ × Msg) → Type 0
-AreOfEvent number stamp sent = AllByRecursion (λ (send : ℕ × Msg). IsOfEvent number stamp send.1) sent
+abbrev pub SendsAreOfEvent : ℕ → ℕ → List (ℕ × Msg) → Type 0
+SendsAreOfEvent number stamp sent = AllByRecursion (λ (send : ℕ × Msg). SendIsOfEvent number stamp send.1) sent
 
 -- the record of an event of the node of this number
 pub record IsRecord (number : ℕ) (logged : Logged) : Type 0 where
   pub node : node_of logged.entry.event ≡ number
   pub taken : IsTrue (takes_rightly logged.entry.event logged.taken)
-  pub plain : IfSome logged.taken IsPlain
-  pub sent : AreOfEvent number logged.entry.stamp logged.sent
+  pub plain : IfSome logged.taken BodyIsPlain
+  pub sent : SendsAreOfEvent number logged.entry.stamp logged.sent
   pub few : length logged.sent < 2 ^ 16
 
 -- its numbers are in the ranges of their fields

@@ -8,8 +8,8 @@ ghost use Rattle.alw_msg.specs.Statuses as statuses;
 ghost use Rattle.alw_image.specs.Images.{node_count};
 ghost use Rattle.alw_model.specs.NodeStates.{is_enabled_at, stamp_of};
 ghost use Rattle.alw_node.specs.Nodes.{IsNode};
-ghost use Rattle.alw_cells.specs.Cells.{IsCell, IsSpent, cell_start, in_from, out_to, as_carried, after_coming, after_giving, IsSplit};
-ghost use Rattle.alw_cells.specs.Records.{IsPlain};
+ghost use Rattle.alw_cells.specs.Cells.{IsCell, IsSpent, cell_start, in_from, out_to, as_carried, after_coming, after_giving, CellIsSplit};
+ghost use Rattle.alw_cells.specs.Records.{BodyIsPlain};
 ghost use Rattle.alw_cells.specs.Choice.{taken_by, come_taken, may_happen, next_events, asked_eviction, is_evicted, picked_event, Happens, StepsCell};
 ghost use Rattle.alw_cells.specs.Keeping.{AreSenders};
 ghost use Rattle.alw_cells.specs.declared.cells.Stepped.TheVariants as Stepped;
@@ -55,13 +55,13 @@ pub struct NodeCell {
 
 impl Model for NodeCell {
     ghost use Rattle.alw_cells.specs.Cells.{Cell};
-    ghost use Rattle.alw_cells.specs.Keeping.{IsFiled};
+    ghost use Rattle.alw_cells.specs.Keeping.{LogIsFiled};
 
     ghost Value = { Cell };
 
     ghost view = { λ c. record { node = c.node; log = c.log.entries; come = c.come.items; pending = c.pending.items; dids = c.dids.list } };
 
-    ghost invariant = { λ c. IsFiled c.node c.log c.come.items c.senders c.pending.items c.sent c.dids.list };
+    ghost invariant = { λ c. LogIsFiled c.node c.log c.come.items c.senders c.pending.items c.sent c.dids.list };
 }
 
 impl NodeCell {
@@ -172,7 +172,7 @@ impl NodeCell {
 
     /// The node, its log, and what each event of the log did.
     pub fn split(self) -> CellParts
-        ensures parts { IsSplit self result }
+        ensures parts { CellIsSplit self result }
         ensures stands { IsCell self }
     {
         let NodeCell {
@@ -371,7 +371,7 @@ fn take(come: &mut Vec<InList>, senders: &mut NodeSet, event: Event) -> Option<M
     requires { AreSenders come.old.items senders.old }
     ensures message { result ≡ taken_by come.old.items event }
     ensures left { come.new.items ≡ come_taken come.old.items event }
-    ensures plain { IfSome result IsPlain }
+    ensures plain { IfSome result BodyIsPlain }
     ensures senders { AreSenders come.new.items senders.new }
 {
     let Event::Deliver { from, .. } = event else {

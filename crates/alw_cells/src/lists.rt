@@ -3,7 +3,7 @@ ghost use Rattle.std.specs.Option.{option_copied};
 ghost use Rattle.std.specs.VecDeque.{deque_len, deque_capacity};
 ghost use Rattle.alw_msg.specs.Lists.{front, behind, is_nonempty};
 ghost use Rattle.alw_cells.specs.Cells.{picked, without_first, as_carried};
-ghost use Rattle.alw_cells.specs.Records.{IsPlain};
+ghost use Rattle.alw_cells.specs.Records.{BodyIsPlain};
 
 use alw_msg::{Msg, Sends};
 use alw_num::{Line, NoMemory, NodeNo};
@@ -26,9 +26,9 @@ impl Model for InList {
 
     ghost view = { λ l. l.messages.items };
 
-    ghost use Rattle.alw_cells.specs.Records.{ArePlain};
+    ghost use Rattle.alw_cells.specs.Records.{BodiesArePlain};
 
-    ghost invariant = { λ l. ArePlain l.messages.items };
+    ghost invariant = { λ l. BodiesArePlain l.messages.items };
 }
 
 impl InList {
@@ -61,7 +61,7 @@ impl InList {
     pub fn pop(&mut self) -> Option<Msg>
         ensures message { result ≡ front self.old }
         ensures left { self.new ≡ behind self.old }
-        ensures plain { IfSome result IsPlain }
+        ensures plain { IfSome result BodyIsPlain }
     {
         self.messages.pop_front()
     }

@@ -20,7 +20,7 @@ use Rattle.alw_cells.specs.Cells.{IsSpent}
 use Rattle.alw_tally.specs.Remaining.{trapped_in}
 use Rattle.alw_work.specs.Works.{holds_trap}
 use Rattle.alw_mesh.specs.Histories.{History, joined_of}
-use Rattle.alw_sched.specs.Schedules.{IsSeeded, IsFinished}
+use Rattle.alw_sched.specs.Schedules.{MachineIsSeeded, RunIsFinished}
 use Rattle.alw_sched.proofs.Seeded.{seeded_front, seeded_stays, seeded_evicts}
 use Rattle.alw_config.specs.declared.commands.Form.{Form}
 use Rattle.alw_cli.specs.declared.runs.Run.{Run}
@@ -92,9 +92,9 @@ module _ (image : Parts) (params : Parameters) (machine : History) (left : IsJoi
   spent none n below = subst (IsSpent params) (sym (node_is n below)) (left.spent (untrapped none) n below)
 
   -- the schedule of seed 0 went on from there
-  module _ (after : History) (e : Ended) (finished : IsFinished machine 0 after e) where
-    from_all : IsSeeded (joined_of image params entries) 0 after
-    from_all = subst (λ (h : History). IsSeeded h 0 after) left.is finished.seeded
+  module _ (after : History) (e : Ended) (finished : RunIsFinished machine 0 after e) where
+    from_all : MachineIsSeeded (joined_of image params entries) 0 after
+    from_all = subst (λ (h : History). MachineIsSeeded h 0 after) left.is finished.seeded
 
     after_is : after ≡ record { image = image; parameters = params; journal = after.journal; joined = length entries }
     after_is = seeded_stays _ 0 after from_all
@@ -112,8 +112,8 @@ module _ (image : Parts) (params : Parameters) (machine : History) (left : IsJoi
           ascends = subst Ascends (sym front_is) (merged_ascends image params left.logs left.runs);
           spent = subst (λ (es : List Entry). any_trapped (state image params es) ≡ false → (n : ℕ) → n < node_count image → IsSpent params (node_at (state image params es) n))
               (sym front_is) spent;
-          later = subst (λ (h : History). IsSeeded (record { image = image; parameters = params; journal = take (length entries) after.journal; joined = length entries }) 0 h) after_is
-              (subst (λ (es : List Entry). IsSeeded (record { image = image; parameters = params; journal = es; joined = length entries }) 0 after) (sym front_is) from_all);
+          later = subst (λ (h : History). MachineIsSeeded (record { image = image; parameters = params; journal = take (length entries) after.journal; joined = length entries }) 0 h) after_is
+              (subst (λ (es : List Entry). MachineIsSeeded (record { image = image; parameters = params; journal = es; joined = length entries }) 0 after) (sym front_is) from_all);
         }
 
     pub run_by_workers : (workers : ℕ) (form : Form) (run : Run) (worked : Worked) → workers ≤ node_count image → IsToldOf after e form run →

@@ -16,7 +16,7 @@ use Rattle.alw_trace.specs.declared.values.Trace.{Trace}
 use Rattle.alw_trace.specs.declared.values.Claim.{Claim}
 use Rattle.alw_audit.specs.declared.verdicts.Verdict.{Verdict}
 use Rattle.alw_audit.specs.declared.verdicts.Verdict.TheVariants as verdict
-use Rattle.alw_audit.specs.Verdicts.{verdict_of, IsSound}
+use Rattle.alw_audit.specs.Verdicts.{verdict_of, ClaimIsSound}
 use Rattle.alw_config.specs.declared.commands.Form.{Form}
 use Rattle.alw_config.specs.declared.commands.Form.TheVariants.{Report}
 use Rattle.alw_cli.specs.declared.answers.Cause.{Cause}
@@ -203,7 +203,7 @@ module _ (bytes : List ℕ) (trace : Trace) (spells : Spells bytes trace) where
 
 -- a verdict that was written is the answer
 pub audit_answer : (bytes : List ℕ) (claim : Claim) (v : Verdict) (text : List ℕ) (out out' : Stream) (journal : List Entry) → SpellsClaim bytes claim →
-    v ≡ verdict_of claim → (v ≡ verdict.Sound) ↔ IsSound claim → text ≡ verdict_text v → Gained out out' text → journal ≡ [] →
+    v ≡ verdict_of claim → (v ≡ verdict.Sound) ↔ ClaimIsSound claim → text ≡ verdict_text v → Gained out out' text → journal ≡ [] →
     AuditAnswer bytes out out' (cause_of_verdict v) journal
 audit_answer bytes claim verdict.Sound text out out' journal spells is sound same written none =
     record { claim = claim; spelled = spells; verdict_is = is; sound = sound; text = subst (Gained out out') same written; no_journal = none }

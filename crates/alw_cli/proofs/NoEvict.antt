@@ -29,7 +29,7 @@ use Rattle.alw_model.specs.Ends.{IsEnd, first_trap}
 use Rattle.alw_model.proofs.Journals.{and_parts}
 use Rattle.alw_report.specs.declared.values.Report.{Report}
 use Rattle.alw_report.specs.Reports.{report_text, summary_text, head_text, mesh_line, params_line, lists_text, told_of, report_of}
-use Rattle.alw_trace.specs.Readings.{IsOfMachine, IsStamped}
+use Rattle.alw_trace.specs.Readings.{IsOfMachine, EntryIsStamped}
 
 -- the same parameters, where none is tried
 abbrev pub calm : Parameters → Parameters
@@ -230,7 +230,7 @@ module _ (parts : Parts) (p : Parameters) where
       delivered_stamp from.0 to.0 (node_at m to.0) (front (link_at parts m from.0 to.0)) low (and_parts (nat_lt from.0 (node_count parts)) _ is).1
   short_stamp m (Evict at set) low is = omega (arith, low)
 
-  entry_stamped : (m : MachineState) (entry : Entry) → IsNext parts p m entry → IsStamped (node_count parts) p.sets entry
+  entry_stamped : (m : MachineState) (entry : Entry) → IsNext parts p m entry → EntryIsStamped (node_count parts) p.sets entry
   entry_stamped m entry next =
       let n = node_of entry.event in
       let a = and_parts (n == n) _ next.enabled in
@@ -245,10 +245,10 @@ module _ (parts : Parts) (p : Parameters) where
         ),
       )
 
-  are_stamped : (m : MachineState) (journal : List Entry) → AreLegal parts p m journal → AllByRecursion (IsStamped (node_count parts) p.sets) journal
+  are_stamped : (m : MachineState) (journal : List Entry) → AreLegal parts p m journal → AllByRecursion (EntryIsStamped (node_count parts) p.sets) journal
   are_stamped m [] legal = tt
   are_stamped m (entry ∷ rest) (next, legal) = (entry_stamped m entry next, are_stamped (step parts p m entry.event) rest legal)
 
   -- the entries of a legal journal have stamps of 32 bits, and are of the machine
-  pub stamped : (journal : List Entry) → IsLegal parts p journal → AllByRecursion (IsStamped (node_count parts) p.sets) journal
+  pub stamped : (journal : List Entry) → IsLegal parts p journal → AllByRecursion (EntryIsStamped (node_count parts) p.sets) journal
   stamped journal legal = are_stamped (machine_start parts) journal legal

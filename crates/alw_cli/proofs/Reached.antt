@@ -16,7 +16,7 @@ use Rattle.alw_mesh.specs.declared.errors.FitErr.{FitErr}
 use Rattle.alw_mesh.specs.declared.errors.FitErr.TheVariants as fits
 use Rattle.alw_mesh.specs.Histories.{History, IsRun, begun, state_of, stamps_of}
 use Rattle.alw_mesh.specs.declared.errors.TheConstants.{MOST_STEPS}
-use Rattle.alw_sched.specs.Schedules.{IsSeededRun, IsFinished}
+use Rattle.alw_sched.specs.Schedules.{IsSeededRun, RunIsFinished}
 use Rattle.alw_sched.proofs.Seeded.{of_start, seeded_run}
 use Rattle.alw_replay.specs.Replays.{IsReplayed, Replays}
 use Rattle.alw_report.specs.declared.values.Report.{Report}
@@ -50,9 +50,9 @@ made h e form run is end told = record {
 }
 
 pub run_by : (image : Parts) (params : Parameters) (seed : ℕ) (before after : History) (e : Ended) (form : Form) (run : Run) →
-    before ≡ begun image params → IsFinished before seed after e → IsToldOf after e form run → IsRunBy seed image params form run
+    before ≡ begun image params → RunIsFinished before seed after e → IsToldOf after e form run → IsRunBy seed image params form run
 run_by image params seed before after e form run started finished told =
-    let done : IsFinished (begun image params) seed after e = subst (λ (h : History). IsFinished h seed after e) started finished in
+    let done : RunIsFinished (begun image params) seed after e = subst (λ (h : History). RunIsFinished h seed after e) started finished in
     let is : after ≡ record { image = image; parameters = params; journal = after.journal; joined = 0 } = of_start image params seed after done.seeded in
     record {
       made = subst (λ (h : History). IsMade h.image h.parameters form run) is (made after e form run done.run done.end told);

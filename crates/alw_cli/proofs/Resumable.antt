@@ -17,10 +17,10 @@ use Rattle.alw_trace.specs.Fronts.{front_text, IsFrontOf}
 use Rattle.alw_save.proofs.FrontBack.{one_front, front_back}
 use Rattle.alw_save.specs.declared.faults.RestoreErr.{RestoreErr}
 use Rattle.alw_save.specs.declared.faults.RestoreErr.TheVariants.{Text, DoesNotFit, NotLegal, StateDiffers, NoMemory}
-use Rattle.alw_save.specs.Cuts.{IsSound}
+use Rattle.alw_save.specs.Cuts.{TraceIsSound}
 use Rattle.alw_save.specs.Checkpoints.{save_title, state_part, checkpoint_text}
 use Rattle.alw_save.specs.Differences.{DiffersAt, ended_lines}
-use Rattle.alw_save.specs.Restoring.{with_evict, IsCheckpoint, IsReadAs, Restores}
+use Rattle.alw_save.specs.Restoring.{with_evict, IsCheckpoint, TextIsReadAs, Restores}
 use Rattle.alw_cli.specs.Resuming.{IsSomeCheckpoint}
 use Rattle.alw_cli.proofs.NoEvict.{calm, state_same, legal_same, legal_back, stamped}
 
@@ -67,7 +67,7 @@ module _ (bytes : List ℕ) (evict : ℕ) (machine : History) (is : IsCheckpoint
   legal_so = subst (λ (p : Parameters). IsLegal machine.image p machine.journal) params_are is.run.legal
 
   -- what is read of it as another is of this trace
-  read_so : {Holds : Trace → List ℕ → Type 0} (read : IsReadAs bytes evict Holds) → Holds (with_evict trace evict) rest
+  read_so : {Holds : Trace → List ℕ → Type 0} (read : TextIsReadAs bytes evict Holds) → Holds (with_evict trace evict) rest
   read_so {Holds} read =
       let same = one_front save_title bytes read.trace trace read.rest rest read.front front in
       subst (λ (t : List ℕ). Holds (with_evict trace evict) t) same.1 (subst (λ (t : Trace). Holds (with_evict t evict) read.rest) same.0 read.holds)
@@ -87,7 +87,7 @@ module _ (bytes : List ℕ) (evict : ℕ) (machine : History) (is : IsCheckpoint
 
 -- ---- what is saved
 
-module _ (trace : Trace) (at evict : ℕ) (of : IsTrace trace) (types : HasTraceTypes trace) (sound : IsSound trace) (few : evict ≤ 255) where
+module _ (trace : Trace) (at evict : ℕ) (of : IsTrace trace) (types : HasTraceTypes trace) (sound : TraceIsSound trace) (few : evict ≤ 255) where
   abbrev kept : List Entry
   kept = kept_by at trace.journal
 

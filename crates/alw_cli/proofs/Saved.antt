@@ -9,7 +9,7 @@ use Rattle.alw_model.specs.declared.ends.Ended.{Ended}
 use Rattle.alw_model.specs.declared.ends.Ended.TheVariants as ended
 use Rattle.alw_model.specs.Machine.{IsLegal}
 use Rattle.alw_mesh.specs.Histories.{History, IsRun, grown, entry_of}
-use Rattle.alw_sched.specs.Schedules.{AreDrawn, IsSeeded, IsFinished}
+use Rattle.alw_sched.specs.Schedules.{EventsAreDrawn, MachineIsSeeded, RunIsFinished}
 use Rattle.alw_num.specs.Draws.{drawn}
 use Rattle.alw_trace.specs.declared.values.Trace.{Trace}
 use Rattle.alw_save.specs.declared.faults.CutErr.{CutErr}
@@ -78,7 +78,7 @@ record IsGrown (before after : History) : Type 0 where
   pub later : List Entry
   pub is : after ≡ record before { journal = before.journal ++ later }
 
-grown_from : (h : History) (x : ℕ) (events : List Event) (after : History) (y : ℕ) → AreDrawn h x events after y → IsGrown h after
+grown_from : (h : History) (x : ℕ) (events : List Event) (after : History) (y : ℕ) → EventsAreDrawn h x events after y → IsGrown h after
 grown_from h x [] after y same = record { later = []; is = sym same.0 ∙ ap (λ (j : List Entry). record h { journal = j }) (sym (append-nil h.journal)) }
 grown_from h x (event ∷ rest) after y are =
     let more = grown_from (grown h event) (drawn x) rest after y are.1 in
@@ -88,7 +88,7 @@ grown_from h x (event ∷ rest) after y are =
     }
 
 pub resumed : (seed evict : ℕ) (form : Form) (bytes : List ℕ) (machine after : History) (e : Ended) (run : Run) → IsCheckpoint bytes evict machine
-    → IsFinished machine seed after e → IsToldOf after e form run → IsResumed seed evict form bytes run
+    → RunIsFinished machine seed after e → IsToldOf after e form run → IsResumed seed evict form bytes run
 resumed seed evict form bytes machine after e run checkpoint finished told =
     let more = grown_from machine seed finished.seeded.events after finished.seeded.last finished.seeded.drawn_are in
     let same : after ≡ record machine { journal = run.journal } =
@@ -99,7 +99,7 @@ resumed seed evict form bytes machine after e run checkpoint finished told =
       goes_on = record {
         later = more.later;
         begins = told.journal ∙ ap (λ (h : History). h.journal) more.is;
-        seeded = subst (λ (h : History). IsSeeded machine seed h) same finished.seeded;
+        seeded = subst (λ (h : History). MachineIsSeeded machine seed h) same finished.seeded;
       };
       made = subst (λ (h : History). IsMade h.image h.parameters form run) more.is (made after e form run finished.run finished.end told);
     }

@@ -14,7 +14,7 @@ use Rattle.alw_trace.proofs.OneTrace.{same_trace, read_back}
 use Rattle.alw_trace.proofs.ReadClaims.{same_claim, claim_back}
 use Rattle.alw_audit.specs.declared.verdicts.Place.{Place}
 use Rattle.alw_audit.specs.declared.verdicts.Verdict.TheVariants as verdict
-use Rattle.alw_audit.specs.Verdicts.{IsSound}
+use Rattle.alw_audit.specs.Verdicts.{ClaimIsSound}
 use Rattle.alw_config.specs.declared.commands.AsmForm.{AsmForm}
 use Rattle.alw_config.specs.declared.commands.Form.{Form}
 use Rattle.alw_config.specs.declared.commands.Form.TheVariants.{Report}
@@ -156,10 +156,10 @@ one_spelled bytes one other is are = same_trace one other is.is are.is is.types 
 finished_so : (bytes : List ℕ) (other : Trace) → IsFinishedText bytes → Spells bytes other → IsFinishedTrace other
 finished_so bytes other accepted spells = subst IsFinishedTrace (one_spelled bytes accepted.trace other accepted.spelled spells) accepted.holds
 
-pub sound_so : (bytes : List ℕ) (other : Claim) → IsSoundText bytes → SpellsClaim bytes other → IsSound other
+pub sound_so : (bytes : List ℕ) (other : Claim) → IsSoundText bytes → SpellsClaim bytes other → ClaimIsSound other
 sound_so bytes other accepted spells =
     let mine = accepted.spelled in
-    subst IsSound (same_claim accepted.claim other mine.is spells.is mine.types spells.types (sym mine.text ∙ spells.text)) accepted.sound
+    subst ClaimIsSound (same_claim accepted.claim other mine.is spells.is mine.types spells.types (sym mine.text ∙ spells.text)) accepted.sound
 
 -- ---- replay
 
@@ -253,8 +253,8 @@ gen_kept asked = record {
 
 -- ---- save
 
-sound_trace : (bytes : List ℕ) (other : Trace) → IsTraceThat cuts.IsSound bytes → Spells bytes other → cuts.IsSound other
-sound_trace bytes other accepted spells = subst cuts.IsSound (one_spelled bytes accepted.trace other accepted.spelled spells) accepted.holds
+sound_trace : (bytes : List ℕ) (other : Trace) → IsTraceThat cuts.TraceIsSound bytes → Spells bytes other → cuts.TraceIsSound other
+sound_trace bytes other accepted spells = subst cuts.TraceIsSound (one_spelled bytes accepted.trace other accepted.spelled spells) accepted.holds
 
 module _ (at : ℕ) (bytes : List ℕ) (out out' : Stream) (journal : List Entry) where
   save_inside : (c : Cause) → IsOutside c → SaveAnswer at bytes out out' c journal → ⊥

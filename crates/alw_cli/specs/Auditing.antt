@@ -11,7 +11,7 @@ use Rattle.alw_audit.specs.declared.verdicts.Place.{Place}
 use Rattle.alw_audit.specs.declared.verdicts.Place.TheVariants.{Turn, PrintCount, PrintContext, Print, Memory}
 use Rattle.alw_audit.specs.declared.verdicts.Verdict.{Verdict}
 use Rattle.alw_audit.specs.declared.verdicts.Verdict.TheVariants.{Sound, Differs}
-use Rattle.alw_audit.specs.Verdicts.{verdict_of, IsSound}
+use Rattle.alw_audit.specs.Verdicts.{verdict_of, ClaimIsSound}
 use Rattle.alw_cli.specs.declared.answers.Cause.{Cause}
 use Rattle.alw_cli.specs.declared.answers.Cause.TheVariants as cause
 use Rattle.alw_cli.specs.declared.answers.InputErr.TheVariants as reason
@@ -53,7 +53,7 @@ pub record Audits (bytes : List ℕ) (journal : List Entry) (verdict : Verdict) 
   pub claim : Claim
   pub spelled : SpellsClaim bytes claim
   pub verdict_is : verdict ≡ verdict_of claim
-  pub sound : (verdict ≡ Sound) ↔ IsSound claim
+  pub sound : (verdict ≡ Sound) ↔ ClaimIsSound claim
   pub text : Written (verdict_text verdict)
   pub no_journal : journal ≡ []
 
@@ -92,7 +92,7 @@ cause_of_verdict (Differs place claimed real) = cause.Differs place claimed real
 pub record IsSoundText (bytes : List ℕ) : Type 0 where
   pub claim : Claim
   pub spelled : SpellsClaim bytes claim
-  pub sound : IsSound claim
+  pub sound : ClaimIsSound claim
 
 abbrev pub audit_task : Task
 audit_task = record { reads = true; Answers = AuditAnswer; Merges = MergesNone; Accepts = IsSoundText; is_done = is_sound }

@@ -3,7 +3,7 @@ use Rattle.std.specs.Prelude.{◌≡◌, ℕ, true, List, [], ◌++◌, Result, 
 use Rattle.alw_msg.specs.declared.events.Entry.{Entry}
 use Rattle.alw_model.specs.declared.ends.Ended.{Ended}
 use Rattle.alw_mesh.specs.Histories.{History}
-use Rattle.alw_sched.specs.Schedules.{IsSeeded}
+use Rattle.alw_sched.specs.Schedules.{MachineIsSeeded}
 use Rattle.alw_config.specs.declared.commands.Form.{Form}
 use Rattle.alw_save.specs.declared.faults.RestoreErr.{RestoreErr}
 use Rattle.alw_save.specs.declared.faults.RestoreErr.TheVariants as restore
@@ -23,7 +23,7 @@ use Rattle.alw_cli.specs.Tasks.{Task, MergesNone}
 pub record GoesOn (machine : History) (seed : ℕ) (journal : List Entry) : Type 0 where
   pub later : List Entry
   pub begins : journal ≡ machine.journal ++ later
-  pub seeded : IsSeeded machine seed (record machine { journal = journal })
+  pub seeded : MachineIsSeeded machine seed (record machine { journal = journal })
 
 -- the bytes are the checkpoint of a machine, which went on to an end: the whole journal is a coherent run
 pub record Resumes (seed evict : ℕ) (form : Form) (bytes : List ℕ) (journal : List Entry) (ended : Ended) (Written : List ℕ → Type 0) : Type 0 where

@@ -6,7 +6,7 @@ use Rattle.law_order.specs.Orders.{kept_by}
 use Rattle.alw_trace.specs.declared.values.Trace.{Trace}
 use Rattle.alw_trace.specs.declared.faults.TextErr.TheVariants as text
 use Rattle.alw_trace.specs.Readings.{ReadsTrace}
-use Rattle.alw_save.specs.Cuts.{IsSound}
+use Rattle.alw_save.specs.Cuts.{TraceIsSound}
 use Rattle.alw_save.specs.Checkpoints.{checkpoint_text}
 use Rattle.alw_cli.specs.declared.answers.Cause.{Cause}
 use Rattle.alw_cli.specs.declared.answers.Cause.TheVariants as cause
@@ -21,7 +21,7 @@ use Rattle.alw_cli.specs.Tasks.{Task, MergesNone}
 pub record Saves (at : ℕ) (bytes : List ℕ) (journal : List Entry) (Written : List ℕ → Type 0) : Type 0 where
   pub trace : Trace
   pub spelled : Spells bytes trace
-  pub sound : IsSound trace
+  pub sound : TraceIsSound trace
   pub kept : journal ≡ kept_by at trace.journal
   pub legal : IsLegal trace.image trace.params journal
   pub text : Written (checkpoint_text trace.image trace.params journal)
@@ -44,12 +44,12 @@ is_saved _ = false
 
 -- a legal trace that fits is accepted, also one that is unfinished
 abbrev pub save_task : ℕ → Task
-save_task at = record { reads = true; Answers = SaveAnswer at; Merges = MergesNone; Accepts = IsTraceThat IsSound; is_done = is_saved }
+save_task at = record { reads = true; Answers = SaveAnswer at; Merges = MergesNone; Accepts = IsTraceThat TraceIsSound; is_done = is_saved }
 
 -- ---- what is made of a trace
 
 pub record IsSaved (trace : Trace) (at : ℕ) (saved : Saved) : Type 0 where
-  pub sound : IsSound trace
+  pub sound : TraceIsSound trace
   pub kept : saved.journal ≡ kept_by at trace.journal
   pub legal : IsLegal trace.image trace.params saved.journal
   pub text : saved.text ≡ checkpoint_text trace.image trace.params saved.journal

@@ -16,7 +16,7 @@ use Rattle.alw_work.specs.Works.{AreSpent}
 use Rattle.alw_cells.specs.Cells.{IsSpent}
 use Rattle.alw_mesh.specs.Histories.{History, stamps_of, joined_of}
 use Rattle.alw_mesh.specs.declared.errors.TheConstants.{MOST_STEPS}
-use Rattle.alw_sched.specs.Schedules.{IsSeeded}
+use Rattle.alw_sched.specs.Schedules.{MachineIsSeeded}
 use Rattle.alw_config.specs.declared.commands.Form.{Form}
 use Rattle.alw_cli.specs.declared.answers.Cause.{Cause}
 use Rattle.alw_cli.specs.declared.answers.Cause.TheVariants as cause
@@ -35,7 +35,7 @@ pub record IsBegun (image : Parts) (parameters : Parameters) (journal : List Ent
   pub ascends : Ascends (take merged journal)
   pub spent : any_trapped (state image parameters (take merged journal)) ≡ false → (n : ℕ) → n < node_count image →
       IsSpent parameters (node_at (state image parameters (take merged journal)) n)
-  pub later : IsSeeded (record { image = image; parameters = parameters; journal = take merged journal; joined = merged }) 0
+  pub later : MachineIsSeeded (record { image = image; parameters = parameters; journal = take merged journal; joined = merged }) 0
       (record { image = image; parameters = parameters; journal = journal; joined = merged })
 
 -- no entry is an eviction where none is to be tried

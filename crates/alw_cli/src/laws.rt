@@ -11,7 +11,7 @@ ghost use Rattle.alw_trace.specs.declared.values.Trace.{Trace};
 ghost use Rattle.alw_trace.specs.Readings.{IsTrace, HasTraceTypes};
 ghost use Rattle.alw_save.specs.declared.faults.RestoreErr.{RestoreErr};
 ghost use Rattle.alw_save.specs.declared.faults.RestoreErr.TheVariants.{NoMemory};
-ghost use Rattle.alw_save.specs.Cuts.{IsSound};
+ghost use Rattle.alw_save.specs.Cuts.{TraceIsSound};
 ghost use Rattle.alw_save.specs.Checkpoints.{checkpoint_text};
 ghost use Rattle.alw_save.specs.Restoring.{IsCheckpoint, Restores};
 ghost use Rattle.alw_cli.specs.Resuming.{IsSomeCheckpoint};
@@ -48,7 +48,7 @@ pub fn claims_are_found_sound()
 /// What `save` writes is a checkpoint that `resume` takes, however often evictions are then tried; and a checkpoint
 /// is refused for want of memory alone.
 pub fn checkpoints_are_resumed()
-    ensures accepted { (trace : Trace) → (at : ℕ) → (evict : ℕ) → IsTrace trace → HasTraceTypes trace → IsSound trace → evict ≤ 255 →
+    ensures accepted { (trace : Trace) → (at : ℕ) → (evict : ℕ) → IsTrace trace → HasTraceTypes trace → TraceIsSound trace → evict ≤ 255 →
         IsSomeCheckpoint evict (checkpoint_text trace.image trace.params (kept_by at trace.journal)) }
     ensures unrefused { (bytes : List ℕ) → (evict : ℕ) → (machine : History) → IsCheckpoint bytes evict machine → (fault : RestoreErr) →
         Restores bytes evict (Err fault) → fault ≡ NoMemory }

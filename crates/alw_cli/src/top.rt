@@ -1,5 +1,5 @@
 ghost use Rattle.std.specs.Prelude.{◌≡◌, ◌≤◌, length, map, string_bytes};
-ghost use Rattle.alw_config.specs.Choices.{IsWithin};
+ghost use Rattle.alw_config.specs.Choices.{CommandIsWithin};
 ghost use Rattle.alw_config.specs.declared.commands.Command.TheVariants as commands;
 ghost use Rattle.alw_cli.specs.Answers.{task_of, Answers, IsComplete, Tells};
 ghost use Rattle.alw_cli.specs.Streams.{stream_of};
@@ -115,7 +115,7 @@ fn perform<R: Threads + Wait + Sync, K: Sink, G: Gate>(
     out: &mut K,
     gate: &G,
 ) -> Done
-    requires within { IsWithin command }
+    requires within { CommandIsWithin command }
     requires few { length bytes.now ≤ MOST_INPUT }
     ensures answer { (task_of command).Answers bytes.now (stream_of (K.held out.old) (K.faults out.old)) (stream_of (K.held out.new) (K.faults out.new)) result.cause result.journal }
     ensures merges { (task_of command).Merges bytes.now result.cause result.journal result.merged }
@@ -153,7 +153,7 @@ fn run_by<R: Threads + Wait + Sync, K: Sink, G: Gate>(
     out: &mut K,
     gate: &G,
 ) -> Done
-    requires within { IsWithin (commands.Run how params.now write) }
+    requires within { CommandIsWithin (commands.Run how params.now write) }
     requires few { length bytes.now ≤ MOST_INPUT }
     ensures answer { (task_of (commands.Run how params.now write)).Answers bytes.now (stream_of (K.held out.old) (K.faults out.old)) (stream_of (K.held out.new) (K.faults out.new)) result.cause result.journal }
     ensures merges { (task_of (commands.Run how params.now write)).Merges bytes.now result.cause result.journal result.merged }

@@ -20,7 +20,7 @@ use Rattle.alw_config.specs.declared.rows.Value.TheVariants as values
 use Rattle.alw_config.specs.declared.rows.TheConstants.{MOST_CHOICES}
 use Rattle.alw_config.specs.Values.{row_of, asm_forms, forms, number_if, value_of}
 use Rattle.alw_config.specs.Table.{Options, options_of, defaults_of, rule_of, makes, value_behind, made_from, made}
-use Rattle.alw_config.specs.Choices.{AreMade, HasChoices, is_of, is_allowed, AreAllowed, value_by}
+use Rattle.alw_config.specs.Choices.{ChoicesAreMade, HasChoices, is_of, is_allowed, ValuesAreAllowed, value_by}
 use Rattle.alw_config.proofs.Made.{made_at}
 use Rattle.alw_config.proofs.Spelled.{passed_if}
 
@@ -91,7 +91,7 @@ made_allowed options k from (x ∷ y ∷ rest) m found = go (row_of options x) r
         here false other later = more later
 
 -- what the words make is allowed
-pub chosen_allowed : (options : Options) (words : List (List ℕ)) (chosen : List (Option Made)) → AreMade options words chosen → AreAllowed options chosen
+pub chosen_allowed : (options : Options) (words : List (List ℕ)) (chosen : List (Option Made)) → ChoicesAreMade options words chosen → ValuesAreAllowed options chosen
 chosen_allowed options words chosen all k l = go (slice_index_or chosen k None) (sym (all.made_so k l))
   where
     go : (o : Option Made) → made options k words ≡ o → IfSome o (λ m. IsTrue (is_allowed options k m.value))
@@ -137,7 +137,7 @@ few_defaults names.Route = omega arith
 few_defaults names.Save = omega arith
 few_defaults names.Resume = omega arith
 
-pub value_allowed : (name : Name) (chosen : List (Option Made)) (k : ℕ) → AreAllowed (options_of name) chosen → k < length (defaults_of name)
+pub value_allowed : (name : Name) (chosen : List (Option Made)) (k : ℕ) → ValuesAreAllowed (options_of name) chosen → k < length (defaults_of name)
     → IsTrue (is_allowed (options_of name) k (value_by chosen (defaults_of name) k))
 value_allowed name chosen k allowed l = go (slice_index_or chosen k None) (allowed k (omega (arith, few_defaults name)))
   where

@@ -6,10 +6,10 @@ use Rattle.alw_config.specs.declared.commands.Command.TheVariants.{Asm, Run, Rep
 use Rattle.alw_config.specs.declared.commands.How.TheVariants.{Seed, Workers}
 use Rattle.alw_config.specs.declared.commands.AsmForm.TheVariants.{Image, Listing}
 use Rattle.alw_config.specs.declared.commands.Form.TheVariants.{Report, Claim}
-use Rattle.alw_config.specs.Places.{IsFirst, IsRefusedAt, is_bad, asked, misfit_in}
+use Rattle.alw_config.specs.Places.{IsFirstPlace, IsRefusedAt, is_bad, asked, misfit_in}
 
 -- the first place that passes a test is 2
-at_two : (test : ℕ → Bool) → test 0 ≡ false → test 1 ≡ false → test 2 ≡ true → IsFirst test 2
+at_two : (test : ℕ → Bool) → test 0 ≡ false → test 1 ≡ false → test 2 ≡ true → IsFirstPlace test 2
 at_two test a b here = record { here = here; none_before = before }
   where
     before : (j : ℕ) → j < 2 → test j ≡ false

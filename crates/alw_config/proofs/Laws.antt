@@ -12,7 +12,7 @@ use Rattle.alw_config.specs.declared.rows.Rule.{Rule}
 use Rattle.alw_config.specs.declared.rows.Value.{Value}
 use Rattle.alw_config.specs.Values.{row_of}
 use Rattle.alw_config.specs.Table.{Options, commands, options_of, defaults_of, rule_of, made, value_at, breaks, misfit}
-use Rattle.alw_config.specs.Places.{IsFirst, IsRefusedAt, IsCommand, is_bad, is_bad_option, misfit_in}
+use Rattle.alw_config.specs.Places.{IsFirstPlace, IsRefusedAt, IsCommand, is_bad, is_bad_option, misfit_in}
 use Rattle.alw_config.proofs.Made.{made-within}
 
 -- no words are both refused and a command
@@ -23,7 +23,7 @@ not_both words at command refused right =
 pub one_command : (words : List (List ℕ)) (command other : Command) → IsCommand words command → IsCommand words other → command ≡ other
 one_command words command other right as_well = same_Some command other (sym right.asks ∙ as_well.asks)
 
-not_before : (words : List (List ℕ)) (at other : ℕ) → IsFirst (is_bad words) at → IsFirst (is_bad words) other → at ≤ other
+not_before : (words : List (List ℕ)) (at other : ℕ) → IsFirstPlace (is_bad words) at → IsFirstPlace (is_bad words) other → at ≤ other
 not_before words at other bad as_well = ⊎_elim (λ l. absurd (true≢false (sym as_well.here ∙ bad.none_before other l))) (λ l. l) (cases_lt other at)
 
 pub one_place : (words : List (List ℕ)) (at other : ℕ) → IsRefusedAt words at → IsRefusedAt words other → at ≡ other

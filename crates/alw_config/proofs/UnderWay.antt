@@ -14,7 +14,7 @@ use Rattle.alw_config.specs.declared.rows.TheConstants.{MOST_CHOICES}
 use Rattle.alw_config.specs.Values.{row_of, value_of}
 use Rattle.alw_config.specs.Table.{Options, makes, value_behind, is_made, made}
 use Rattle.alw_config.specs.Places.{IsRefusedBehind, is_bad_option, is_bad_name, is_bad_value}
-use Rattle.alw_config.specs.Choices.{HavePlaces, AreMade}
+use Rattle.alw_config.specs.Choices.{HavePlaces, ChoicesAreMade}
 use Rattle.alw_config.proofs.Made.{made_at, is_made-more, made-last, made-before, count, count-le, count-set, is_none}
 use Rattle.alw_config.proofs.Stops.{bad_name, bad_value, right_behind}
 
@@ -187,7 +187,7 @@ goes_on options words word value left chosen at way meaning known within fresh v
         ∙ ap (λ (b : Bool). is_made options k way.done || b) (makes_there k other) ∙ or_false (is_made options k way.done))
 
 pub ends : (options : Options) (words : List (List ℕ)) (chosen : List (Option Made)) (at : ℕ) → IsUnderWay options words [] chosen at →
-    AreMade options words chosen
+    ChoicesAreMade options words chosen
 ends options words chosen at way = record {
   right = λ i. ⊎_elim (way.right i)
       (λ past. right_behind options words (count chosen) i (omega (arith, way.pairs, ap length whole)) (omega (arith, ap length whole)))

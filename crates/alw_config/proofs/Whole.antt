@@ -10,13 +10,13 @@ use Rattle.alw_config.specs.declared.rows.Value.{Value}
 use Rattle.alw_config.specs.declared.rows.TheConstants.{MOST_CHOICES}
 use Rattle.alw_config.specs.Values.{row_of}
 use Rattle.alw_config.specs.Table.{Options, commands, options_of, defaults_of, rule_of, made, misfit, values_from, command_of}
-use Rattle.alw_config.specs.Places.{AreRight, IsFirst, IsRefusedAt, IsRefusedBehind, IsCommand, is_bad, is_bad_option, misfit_in}
-use Rattle.alw_config.specs.Choices.{AreMade, HasChoices, values_by, misfit_by}
+use Rattle.alw_config.specs.Places.{PlacesAreRight, IsFirstPlace, IsRefusedAt, IsRefusedBehind, IsCommand, is_bad, is_bad_option, misfit_in}
+use Rattle.alw_config.specs.Choices.{ChoicesAreMade, HasChoices, values_by, misfit_by}
 use Rattle.alw_config.proofs.Allowed.{few_defaults, rule_has}
 
 -- ---- refused at the name
 
-nothing_before : (test : ℕ → Bool) → test 0 ≡ true → IsFirst test 0
+nothing_before : (test : ℕ → Bool) → test 0 ≡ true → IsFirstPlace test 0
 nothing_before test here = record { here = here; none_before = λ j l. absurd (omega arith) }
 
 pub missing_name : (words : List (List ℕ)) → words ≡ [] → IsRefusedAt words 0
@@ -50,7 +50,7 @@ module _ (word : List ℕ) (rest : List (List ℕ)) (name : Name) (known : row_o
       before (suc j) l = behind j ∙ stop.first.none_before j (omega arith)
 
 -- the choices as the program holds them are those of the words
-values_are : (options : Options) (words : List (List ℕ)) (chosen : List (Option Made)) (k : ℕ) (defaults : List Value) → AreMade options words chosen →
+values_are : (options : Options) (words : List (List ℕ)) (chosen : List (Option Made)) (k : ℕ) (defaults : List Value) → ChoicesAreMade options words chosen →
     k + length defaults ≤ MOST_CHOICES
     → values_from k options defaults words ≡ values_by k chosen defaults
 values_are options words chosen k [] all few = refl
@@ -58,14 +58,14 @@ values_are options words chosen k (default ∷ rest) all few =
     rw (all.made_so k (omega (arith, few)), values_are options words chosen (suc k) rest all (omega (arith, few))) refl
 
 -- and so is the place that a rule refuses
-misfit_is : (options : Options) (words : List (List ℕ)) (chosen : List (Option Made)) (defaults : List Value) (rule : Rule) → AreMade options words chosen
+misfit_is : (options : Options) (words : List (List ℕ)) (chosen : List (Option Made)) (defaults : List Value) (rule : Rule) → ChoicesAreMade options words chosen
     → HasChoices rule → misfit rule options defaults words ≡ misfit_by rule chosen defaults
 misfit_is options words chosen defaults rule all has =
     rw (all.made_so rule.one has.one, all.made_so rule.other has.other, all.made_so rule.third has.third) refl
 
 module _ (word : List ℕ) (rest : List (List ℕ)) (name : Name) (chosen : List (Option Made)) (known : row_of commands word ≡ Some name)
-    (all : AreMade (options_of name) rest chosen) where
-  right : AreRight (word ∷ rest)
+    (all : ChoicesAreMade (options_of name) rest chosen) where
+  right : PlacesAreRight (word ∷ rest)
   right zero = named word rest name known
   right (suc i) = behind word rest name known i ∙ all.right i
 

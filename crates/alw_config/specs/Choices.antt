@@ -23,7 +23,7 @@ abbrev pub HavePlaces : Options → Type 0
 HavePlaces options = AllByRecursion (λ row. row.1.choice < MOST_CHOICES) options
 
 -- no place behind the name is bad, and the choices are made so
-pub record AreMade (options : Options) (words : List (List ℕ)) (chosen : List (Option Made)) : Type 0 where
+pub record ChoicesAreMade (options : Options) (words : List (List ℕ)) (chosen : List (Option Made)) : Type 0 where
   pub right : (i : ℕ) → is_bad_option options words i ≡ false
   pub made_so : (k : ℕ) → k < MOST_CHOICES → slice_index_or chosen k None ≡ made options k words
 
@@ -42,8 +42,8 @@ abbrev pub is_allowed : Options → ℕ → Value → Bool
 is_allowed options choice value = list_any (λ row. row.1.choice == choice && is_of row.1.kind value) options
 
 -- so is each value that makes a choice
-abbrev pub AreAllowed : Options → List (Option Made) → Type 0
-AreAllowed options chosen = (k : ℕ) → k < MOST_CHOICES → IfSome (slice_index_or chosen k None) (λ m. IsTrue (is_allowed options k m.value))
+abbrev pub ValuesAreAllowed : Options → List (Option Made) → Type 0
+ValuesAreAllowed options chosen = (k : ℕ) → k < MOST_CHOICES → IfSome (slice_index_or chosen k None) (λ m. IsTrue (is_allowed options k m.value))
 
 -- the choices from one on, each as it is made, or else its default
 abbrev pub values_by : ℕ → List (Option Made) → List Value → List Value
@@ -89,12 +89,12 @@ pub record IsWorkload (width height size : ℕ) : Type 0 where
   pub most : size ≤ (if nat_le width 8 && nat_le height 8 then 255 else 63)
 
 -- workers are 1 to 256
-abbrev pub IsCounted : How → Type 0
-IsCounted (hows.Seed n) = ⊤
-IsCounted (hows.Workers n) = (1 ≤ n) × (n ≤ 256)
+abbrev pub IsWorkerCount : How → Type 0
+IsWorkerCount (hows.Seed n) = ⊤
+IsWorkerCount (hows.Workers n) = (1 ≤ n) × (n ≤ 256)
 
 -- a run's parameters are parameters, and it has some workers where it has any; and a workload's numbers fit together
-abbrev pub IsWithin : Command → Type 0
-IsWithin (command.Run how params write) = AreParameters params × IsCounted how
-IsWithin (command.Gen seed width height size) = IsWorkload width height size
-IsWithin _ = ⊤
+abbrev pub CommandIsWithin : Command → Type 0
+CommandIsWithin (command.Run how params write) = AreParameters params × IsWorkerCount how
+CommandIsWithin (command.Gen seed width height size) = IsWorkload width height size
+CommandIsWithin _ = ⊤

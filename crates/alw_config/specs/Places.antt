@@ -30,18 +30,18 @@ is_bad (word ∷ rest) zero = is_none (row_of commands word)
 is_bad (word ∷ rest) (suc i) = option_map_or (λ name. is_bad_option (options_of name) rest i) (row_of commands word) false
 
 -- the first place that passes a test
-pub record IsFirst (test : ℕ → Bool) (place : ℕ) : Type 0 where
+pub record IsFirstPlace (test : ℕ → Bool) (place : ℕ) : Type 0 where
   pub here : test place ≡ true
   pub none_before : (j : ℕ) → j < place → test j ≡ false
 
 -- the words behind a command's name are refused at this place, which counts from the name on
 pub record IsRefusedBehind (options : Options) (words : List (List ℕ)) (at : ℕ) : Type 0 where
   pub behind : 1 ≤ at
-  pub first : IsFirst (is_bad_option options words) (at - 1)
+  pub first : IsFirstPlace (is_bad_option options words) (at - 1)
 
 -- no place of the words is bad
-abbrev pub AreRight : List (List ℕ) → Type 0
-AreRight words = (i : ℕ) → is_bad words i ≡ false
+abbrev pub PlacesAreRight : List (List ℕ) → Type 0
+PlacesAreRight words = (i : ℕ) → is_bad words i ≡ false
 
 -- the place of a value that the others don't allow
 abbrev pub misfit_in : List (List ℕ) → Option ℕ
@@ -51,7 +51,7 @@ misfit_in (word ∷ rest) =
 
 -- the words are refused at this place: the first bad one, or where none is, that of a value that the others don't allow
 abbrev pub IsRefusedAt : List (List ℕ) → ℕ → Type 0
-IsRefusedAt words at = IsFirst (is_bad words) at ⊎ (AreRight words × (misfit_in words ≡ Some at))
+IsRefusedAt words at = IsFirstPlace (is_bad words) at ⊎ (PlacesAreRight words × (misfit_in words ≡ Some at))
 
 -- what the words ask for, by the tables
 abbrev pub asked : List (List ℕ) → Option Command
@@ -60,6 +60,6 @@ asked (word ∷ rest) = option_and_then (λ name. command_of name (values_from 0
 
 -- no place of the words is bad, the values allow one another, and they are this command
 pub record IsCommand (words : List (List ℕ)) (command : Command) : Type 0 where
-  pub right : AreRight words
+  pub right : PlacesAreRight words
   pub fits : misfit_in words ≡ None
   pub asks : asked words ≡ Some command

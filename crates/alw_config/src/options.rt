@@ -2,7 +2,7 @@ ghost use Rattle.std.specs.Prelude.{◌≡◌, ◌<◌, ◌≤◌, length, map, 
 ghost use Rattle.alw_config.specs.declared.rows.Value.TheVariants as values;
 ghost use Rattle.alw_config.specs.Table.{options_of, defaults_of, rule_of, number_in, command_of};
 ghost use Rattle.alw_config.specs.Places.{IsRefusedBehind};
-ghost use Rattle.alw_config.specs.Choices.{HavePlaces, AreMade, AreAllowed, IsWithin, is_allowed, value_by, values_by, misfit_by, IsNumber, IsHow, IsAsmForm, IsForm};
+ghost use Rattle.alw_config.specs.Choices.{HavePlaces, ChoicesAreMade, ValuesAreAllowed, CommandIsWithin, is_allowed, value_by, values_by, misfit_by, IsNumber, IsHow, IsAsmForm, IsForm};
 
 use crate::commands::{AsmForm, Command, Form, How, WordErr};
 use crate::lookups::row_of;
@@ -20,7 +20,7 @@ pub(crate) type Chosen = [Option<Made>; MOST_CHOICES];
 // The choices that the words behind a command's name make, or the first refused place.
 pub(crate) fn chosen(options: &[Row<Meaning>], words: &[String]) -> Result<Chosen, WordErr>
     requires places { HavePlaces (map (λ row. (row.0.now, row.1)) options.now) }
-    ensures { MatchResult result (AreMade (map (λ row. (row.0.now, row.1)) options.now) (map string_bytes words.now))
+    ensures { MatchResult result (ChoicesAreMade (map (λ row. (row.0.now, row.1)) options.now) (map string_bytes words.now))
         (λ e. IsRefusedBehind (map (λ row. (row.0.now, row.1)) options.now) (map string_bytes words.now) e.at) }
 {
     let mut chosen = [None; MOST_CHOICES];
@@ -135,7 +135,7 @@ impl Name {
 
     // What makes a choice of the command: an option's value, or else the default.
     fn value(self, chosen: &Chosen, choice: usize) -> Value
-        requires allowed { AreAllowed (options_of self) chosen.now }
+        requires allowed { ValuesAreAllowed (options_of self) chosen.now }
         requires choice { choice < length (defaults_of self) }
         ensures value { result ≡ value_by chosen.now (defaults_of self) choice }
         ensures allowed { IsTrue (is_allowed (options_of self) choice result) }
@@ -145,10 +145,10 @@ impl Name {
 
     // The command with these choices, and with the default of each that isn't made.
     pub(crate) fn command(self, chosen: &Chosen) -> Command
-        requires allowed { AreAllowed (options_of self) chosen.now }
+        requires allowed { ValuesAreAllowed (options_of self) chosen.now }
         requires fits { option_and_then (λ rule. misfit_by rule chosen.now (defaults_of self)) (rule_of self) ≡ None }
         ensures command { command_of self (values_by 0 chosen.now (defaults_of self)) ≡ Some result }
-        ensures within { IsWithin result }
+        ensures within { CommandIsWithin result }
     {
         match self {
             Name::Asm => Command::Asm {

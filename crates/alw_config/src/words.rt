@@ -1,6 +1,6 @@
 ghost use Rattle.std.specs.Prelude.{map, string_bytes, IfOk, MatchResult};
 ghost use Rattle.alw_config.specs.Places.{IsRefusedAt, IsCommand};
-ghost use Rattle.alw_config.specs.Choices.{IsWithin};
+ghost use Rattle.alw_config.specs.Choices.{CommandIsWithin};
 
 use crate::commands::{Command, WordErr};
 use crate::lookups::row_of;
@@ -14,7 +14,7 @@ use crate::rows::COMMANDS;
 pub fn command(words: &[String]) -> Result<Command, WordErr>
     ensures cases { MatchResult result (IsCommand (map string_bytes words.now))
         (λ e. IsRefusedAt (map string_bytes words.now) e.at) }
-    ensures within { IfOk result IsWithin }
+    ensures within { IfOk result CommandIsWithin }
 {
     let Some((first, rest)) = words.split_first() else {
         return Err(WordErr { at: 0 });

@@ -14,7 +14,7 @@ use Rattle.sparc_table.specs.declared.outcomes.Need.{Need}
 use Rattle.sparc_table.specs.declared.outcomes.Need.TheVariants as needs
 use Rattle.sparc_table.specs.declared.outcomes.Outcome.{Outcome}
 use Rattle.sparc_exec.specs.Ports.{granted, with_copy}
-use Rattle.sparc_exec.specs.Runs.{seen, Completed, IsRunOn, IsRun, IsMissing}
+use Rattle.sparc_exec.specs.Runs.{seen, Completed, IsRunOn, IsRun, CopyIsMissing}
 use Rattle.alw_msg.specs.declared.contexts.Status.{Status}
 use Rattle.alw_image.specs.declared.parts.Parts.{Parts}
 use Rattle.alw_image.specs.Images.{line_count, zero_line}
@@ -114,7 +114,7 @@ takes_turn parts flat context lines memory before regs outcome long lines_are be
     record { flat_is = ap (λ (d : Flat × Outcome). d.0) all; outcome_is = ap (λ (d : Flat × Outcome). d.1) all }
 
 -- no turn misses
-pub never_misses : (code : List ℕ) (regs : Regs) (memory : List Line) (line : LineNo) (mode : Mode) → IsMissing (need_of code regs (length memory)) (copy_in memory) line mode → ⊥
+pub never_misses : (code : List ℕ) (regs : Regs) (memory : List Line) (line : LineNo) (mode : Mode) → CopyIsMissing (need_of code regs (length memory)) (copy_in memory) line mode → ⊥
 never_misses code regs memory line mode missing =
     none_is_not (slice_index_or memory line.0 zero_line) (sym (granted_is memory line.0 mode (turn_exists code regs (length memory) line mode missing.0)) ∙ missing.1)
   where

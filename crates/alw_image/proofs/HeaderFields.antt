@@ -3,7 +3,7 @@ use Rattle.std.proofs.Common.{◌≡◌, ℕ, zero, suc, ◌*◌, ◌≤◌, Boo
 use Rattle.std.proofs.lemmas.Bool.Decides.{nat_tests}
 use Rattle.alw_image.specs.declared.headers.Header.{Header}
 use Rattle.alw_image.specs.Faults.{is_within, most_side, least_height, fields, first_unfit, range_fault}
-use Rattle.alw_image.specs.Sizes.{IsShort}
+use Rattle.alw_image.specs.Sizes.{ImageIsShort}
 
 test_of : Option (ℕ × Bool) → Bool
 test_of None = true
@@ -54,7 +54,7 @@ most version = grind (arith, nat_tests)
 pub product : (a b m n : ℕ) → a ≤ m → b ≤ n → a * b ≤ m * n
 product a b m n a_fits b_fits = grind arith
 
-pub is_short : (h : Header) → range_fault h ≡ None → IsShort h
+pub is_short : (h : Header) → range_fault h ≡ None → ImageIsShort h
 is_short h none =
     let w = are_within h none in
     let sides = most h.version in

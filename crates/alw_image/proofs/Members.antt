@@ -7,7 +7,7 @@ use Rattle.alw_num.specs.declared.addresses.LineNo.{LineNo}
 use Rattle.alw_num.specs.declared.addresses.NodeNo.{NodeNo}
 use Rattle.alw_image.specs.Images.{data_line, start_bytes}
 use Rattle.alw_image.specs.Faults.{word_of, body_of_bytes, start_of_bytes, slot_of}
-use Rattle.alw_image.specs.TableReads.{IsMember, IsAny, IsSlot}
+use Rattle.alw_image.specs.TableReads.{IsMember, IsAnyMember, IsSlot}
 
 -- the number that four bytes spell is the one that they were spelled by
 pub word-back : (n : ℕ) → n < 2 ^ 32 → 65536 * (256 * (n / 16777216 % 256) + n / 65536 % 256) + (256 * (n / 256 % 256) + n % 256) ≡ n
@@ -16,7 +16,7 @@ word-back n fits = omega arith
 pub half-back : (n : ℕ) → n < 2 ^ 16 → 256 * (n / 256 % 256) + n % 256 ≡ n
 half-back n fits = omega arith
 
-pub word_read : (bytes after : List ℕ) (n : ℕ) → n < 2 ^ 32 → bytes ≡ to_be_bytes w32 n ++ after → IsMember word_of (to_be_bytes w32) IsAny 4 bytes n after
+pub word_read : (bytes after : List ℕ) (n : ℕ) → n < 2 ^ 32 → bytes ≡ to_be_bytes w32 n ++ after → IsMember word_of (to_be_bytes w32) IsAnyMember 4 bytes n after
 word_read bytes after n fits spelled = record {
   reading = ap (λ bs. word_of (take 4 bs)) spelled ∙ word-back n fits;
   rest = ap (drop 4) spelled;
@@ -26,7 +26,7 @@ word_read bytes after n fits spelled = record {
 
 pub body_read : (bytes r1 r2 r3 r4 after : List ℕ) (n a b c d : ℕ) → n < 2 ^ 32 → a < 2 ^ 32 → b < 2 ^ 32 → c < 2 ^ 32 → d < 2 ^ 32 →
     bytes ≡ to_be_bytes w32 n ++ r1 → r1 ≡ to_be_bytes w32 a ++ r2 → r2 ≡ to_be_bytes w32 b ++ r3 → r3 ≡ to_be_bytes w32 c ++ r4 → r4 ≡ to_be_bytes w32 d ++ after →
-    IsMember body_of_bytes data_line IsAny 20 bytes (record { 0 = n }, record { a = a; b = b; c = c; d = d }) after
+    IsMember body_of_bytes data_line IsAnyMember 20 bytes (record { 0 = n }, record { a = a; b = b; c = c; d = d }) after
 body_read bytes r1 r2 r3 r4 after n a b c d n_fits a_fits b_fits c_fits d_fits at_n at_a at_b at_c at_d =
     let spelled : bytes ≡ to_be_bytes w32 n ++ (to_be_bytes w32 a ++ (to_be_bytes w32 b ++ (to_be_bytes w32 c ++ (to_be_bytes w32 d ++ after)))) =
     at_n ∙ ap (λ r. to_be_bytes w32 n ++ r) (at_a ∙ ap (λ r. to_be_bytes w32 a ++ r) (at_b ∙ ap (λ r. to_be_bytes w32 b ++ r) (at_c ∙ ap (λ r. to_be_bytes w32 c ++ r) at_d))) in

@@ -10,15 +10,15 @@ use Rattle.alw_num.specs.declared.addresses.NodeNo.{NodeNo}
 use Rattle.alw_image.specs.Images.{data_line, start_bytes}
 use Rattle.alw_image.specs.Faults.{table_of, piece, word_of, body_of_bytes, start_of_bytes}
 use Rattle.alw_image.specs.Numbers.{IsWord, HasFourWords}
-use Rattle.alw_image.specs.TableReads.{IsMember, IsAny, IsSlot}
+use Rattle.alw_image.specs.TableReads.{IsMember, IsAnyMember, IsSlot}
 use Rattle.alw_image.proofs.Members.{word_read, body_read, start_read}
 
 -- ---- one member
 
-pub word-back_read : (after : List ℕ) (n : ℕ) → IsWord n → IsMember word_of (to_be_bytes w32) IsAny 4 (to_be_bytes w32 n ++ after) n after
+pub word-back_read : (after : List ℕ) (n : ℕ) → IsWord n → IsMember word_of (to_be_bytes w32) IsAnyMember 4 (to_be_bytes w32 n ++ after) n after
 word-back_read after n fits = word_read (to_be_bytes w32 n ++ after) after n fits refl
 
-pub body-back_read : (after : List ℕ) (entry : LineNo × Line) → IsWord entry.0.0 × HasFourWords entry → IsMember body_of_bytes data_line IsAny 20 (data_line entry ++ after) entry after
+pub body-back_read : (after : List ℕ) (entry : LineNo × Line) → IsWord entry.0.0 × HasFourWords entry → IsMember body_of_bytes data_line IsAnyMember 20 (data_line entry ++ after) entry after
 body-back_read after entry fits =
     let l = entry.1 in
     body_read (data_line entry ++ after) _ _ _ _ after entry.0.0 l.a l.b l.c l.d fits.0 fits.1.0 fits.1.1.0 fits.1.1.1.0 fits.1.1.1.1 refl refl refl refl refl

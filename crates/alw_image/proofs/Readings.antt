@@ -12,13 +12,13 @@ use Rattle.alw_image.specs.Images.{IsImage, IsStart, line_count, context_count, 
 use Rattle.alw_image.specs.Faults.{is_within, most_side, least_height, range_fault, bodies_at, starts_at, always_at, image_end, header_of, piece, parts_in, tables_fault, header_fault, body_fault, image_fault}
 use Rattle.alw_image.specs.Sizes.{has_sizes}
 use Rattle.alw_image.specs.Spellings.{header_bytes}
-use Rattle.alw_image.specs.TableReads.{IsAny, IsSlot, AreRead}
+use Rattle.alw_image.specs.TableReads.{IsAnyMember, IsSlot, PartsAreRead}
 use Rattle.alw_image.proofs.HeaderFields.{AreWithin, are_within, within-both}
 use Rattle.alw_image.proofs.Orders.{all_weaker}
 use Rattle.alw_image.proofs.Checked.{has_sizes_of}
 
 -- the parts are those that the bytes spell
-pub parts_are : (h : Header) (bytes : List ℕ) (p : Parts) → AreRead h bytes p → parts_in h bytes ≡ p
+pub parts_are : (h : Header) (bytes : List ℕ) (p : Parts) → PartsAreRead h bytes p → parts_in h bytes ≡ p
 parts_are h bytes p r = of_fields _ _ _ _ _ _ _ _ p r.width r.height r.contexts r.per_node r.code.reading r.bodies.reading r.starts.reading r.always.reading
   where
     of_fields : (w h c k : ℕ) (code : List ℕ) (bodies : List _) (starts : List _) (always : List ℕ) (p : Parts) → p.width ≡ w → p.height ≡ h → p.contexts ≡ c → p.per_node ≡ k → code ≡ p.code → bodies ≡ p.bodies → starts ≡ p.starts → always ≡ p.always →
@@ -28,7 +28,7 @@ parts_are h bytes p r = of_fields _ _ _ _ _ _ _ _ p r.width r.height r.contexts 
         e
 
 -- and have the sizes that the header says
-pub sizes_read : (h : Header) (bytes : List ℕ) (p : Parts) → range_fault h ≡ None → AreRead h bytes p → IsTrue (has_sizes p)
+pub sizes_read : (h : Header) (bytes : List ℕ) (p : Parts) → range_fault h ≡ None → PartsAreRead h bytes p → IsTrue (has_sizes p)
 sizes_read h bytes p fits r =
     let w = are_within h fits in
     let width = r.width in
@@ -89,7 +89,7 @@ pub words-are : (list : List ℕ) → flat_map (to_be_bytes w32) list ≡ words 
 words-are [] = refl
 words-are (word ∷ rest) = ap (λ bytes. to_be_bytes w32 word ++ bytes) (words-are rest)
 
-any-all : {X : Type 0} (xs : List X) → AllByRecursion IsAny xs
+any-all : {X : Type 0} (xs : List X) → AllByRecursion IsAnyMember xs
 any-all [] = tt
 any-all (x ∷ rest) = (tt, any-all rest)
 
@@ -100,7 +100,7 @@ cut from to bytes order = sym (take-append-drop (to - from) (drop from bytes)) �
 slots-are : (p : Parts) → p.contexts ≤ 4 → AllByRecursion (IsStart p) p.starts → AllByRecursion IsSlot p.starts
 slots-are p few all = all_weaker (IsStart p) IsSlot p.starts (λ start is. let slot = is.1 in omega arith) all
 
-pub spelled_so : (h : Header) (bytes : List ℕ) (p : Parts) → h ≡ header_of bytes → IsTrue (is_within 1 2 (half_at bytes 4)) → bytes ≡ header_bytes h ++ drop 28 bytes → range_fault h ≡ None → length bytes ≡ image_end h → AreRead h bytes p → IsImage p → bytes ≡ spelling p
+pub spelled_so : (h : Header) (bytes : List ℕ) (p : Parts) → h ≡ header_of bytes → IsTrue (is_within 1 2 (half_at bytes 4)) → bytes ≡ header_bytes h ++ drop 28 bytes → range_fault h ≡ None → length bytes ≡ image_end h → PartsAreRead h bytes p → IsImage p → bytes ≡ spelling p
 unfolding spelling
 spelled_so h bytes p is version front fits whole r image =
     let w = are_within h fits in
@@ -119,7 +119,7 @@ spelled_so h bytes p is version front fits whole r image =
     front ∙ ap (λ front. front ++ drop 28 bytes) head ∙ ap (λ rest. header p ++ rest) first
 
 -- what is wrong with the bytes is what is wrong with the tables
-pub fault_of : (h : Header) (bytes : List ℕ) (p : Parts) (n : ℕ) (fault : Option ImageErr) → h ≡ header_of bytes → n ≡ length bytes → image_fault bytes ≡ body_fault bytes → ((rest : Option ImageErr) → header_fault n h rest ≡ rest) → AreRead h bytes p →
+pub fault_of : (h : Header) (bytes : List ℕ) (p : Parts) (n : ℕ) (fault : Option ImageErr) → h ≡ header_of bytes → n ≡ length bytes → image_fault bytes ≡ body_fault bytes → ((rest : Option ImageErr) → header_fault n h rest ≡ rest) → PartsAreRead h bytes p →
     fault ≡ tables_fault p (bodies_at h) (starts_at h) (always_at h) → image_fault bytes ≡ fault
 fault_of h bytes p n fault is long front sizes r tables =
     front ∙ ap (λ (x : Header). header_fault (length bytes) x (tables_fault (parts_in x bytes) (bodies_at x) (starts_at x) (always_at x))) (sym is)

@@ -16,7 +16,7 @@ use Rattle.alw_image.specs.Images.{IsImage, IsDataLine, IsStart, node_count, lin
 use Rattle.alw_image.specs.Faults.{is_within, is_magic, most_side, fields, first_unfit, range_fault, bodies_at, starts_at, always_at, image_end, header_of, piece, ranged, parts_in, tables_fault, table_of, word_of, body_of_bytes, start_of_bytes, header_fault, body_fault, image_fault}
 use Rattle.alw_image.specs.Sizes.{HasSizes}
 use Rattle.alw_image.specs.Numbers.{IsWord, HasFourWords, HasWords}
-use Rattle.alw_image.specs.TableReads.{IsAny, IsSlot}
+use Rattle.alw_image.specs.TableReads.{IsAnyMember, IsSlot}
 use Rattle.alw_image.proofs.Members.{word-back, half-back}
 use Rattle.alw_image.proofs.Orders.{all_weaker}
 use Rattle.alw_image.proofs.HeaderFields.{product, is_short}
@@ -171,14 +171,14 @@ parts_back p i fits =
     let short = is_short (head_of p) (in_range p (image_sizes p i)) in
     let sizes = counts_of p i in
     of_fields p
-    (ap (table_of word_of 4 (length p.code)) (pieces.code ∙ sym (words-are p.code)) ∙ table_back word_of (to_be_bytes w32) IsAny IsWord 4 p.code (λ x after is. word-back_read after x is) fits.code)
+    (ap (table_of word_of 4 (length p.code)) (pieces.code ∙ sym (words-are p.code)) ∙ table_back word_of (to_be_bytes w32) IsAnyMember IsWord 4 p.code (λ x after is. word-back_read after x is) fits.code)
     (ap (table_of body_of_bytes 20 (length p.bodies)) pieces.bodies
-    ∙ table_back body_of_bytes data_line IsAny (λ entry. IsWord entry.0.0 × HasFourWords entry) 20 p.bodies (λ x after is. body-back_read after x is)
+    ∙ table_back body_of_bytes data_line IsAnyMember (λ entry. IsWord entry.0.0 × HasFourWords entry) 20 p.bodies (λ x after is. body-back_read after x is)
     (all_both (λ entry. IsWord entry.0.0) HasFourWords p.bodies (all_weaker (IsDataLine p) (λ entry. IsWord entry.0.0) p.bodies (λ entry is. (let line = is.0 in omega arith)) i.bodies) fits.bodies))
     (ap (table_of start_of_bytes 8 (length p.starts)) pieces.starts
     ∙ table_back start_of_bytes start_bytes IsSlot (λ start. (start.0.0 < 2 ^ 16) × IsWord start.2) 8 p.starts (λ x after is. start-back_read after x is)
     (all_weaker (IsStart p) (λ start. (start.0.0 < 2 ^ 16) × IsWord start.2) p.starts (λ start is. (let node = is.0 in let address = is.3 in let code = i.code.1 in (omega arith, omega arith))) i.starts))
-    (ap (table_of word_of 4 (length p.always)) (pieces.always ∙ sym (words-are p.always)) ∙ table_back word_of (to_be_bytes w32) IsAny IsWord 4 p.always (λ x after is. word-back_read after x is)
+    (ap (table_of word_of 4 (length p.always)) (pieces.always ∙ sym (words-are p.always)) ∙ table_back word_of (to_be_bytes w32) IsAnyMember IsWord 4 p.always (λ x after is. word-back_read after x is)
     (all_weaker (λ line. line < line_count p) IsWord p.always (λ line is. omega arith) i.always))
   where
     counts_of : (p : Parts) → IsImage p → (line_count p ≤ 1048576) × (node_count p ≤ 256)

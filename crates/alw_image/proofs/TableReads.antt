@@ -4,7 +4,7 @@ use Rattle.std.proofs.Math.Nat.{mul-suc}
 use Rattle.std.proofs.lemmas.List.{append-nil, nil_from_length}
 use Rattle.std.specs.List.{flat_map, AllByRecursion}
 use Rattle.alw_image.specs.Faults.{table_of}
-use Rattle.alw_image.specs.TableReads.{IsMember, IsWhole}
+use Rattle.alw_image.specs.TableReads.{IsMember, TableIsWhole}
 
 -- so many members are read, and the rest is to come
 pub record IsRead {X : Type 0} (read : List ℕ → X) (spell : X → List ℕ) (Good : X → Type 0) (size count : ℕ) (bytes : List ℕ) (so_far : List X) (rest : List ℕ) : Type 0 where
@@ -52,11 +52,11 @@ has_left read spell Good size count bytes so_far rest r some = has_left_by size 
 
 ends_by : {X : Type 0} (read : List ℕ → X) (spell : X → List ℕ) (Good : X → Type 0) (size count : ℕ) (bytes : List ℕ) (so_far : List X) (rest : List ℕ) (left : ℕ) →
     length so_far + left ≡ count → length rest ≡ size * left → table_of read size count bytes ≡ so_far ++ table_of read size left rest → (AllByRecursion Good so_far → bytes ≡ flat_map spell so_far ++ rest) →
-    length rest < size → IsWhole read spell Good size count bytes so_far
+    length rest < size → TableIsWhole read spell Good size count bytes so_far
 ends_by read spell Good size count bytes so_far rest zero number bytes_left reading spelled few =
     let none : rest ≡ [] = nil_from_length rest (let none : size * 0 ≡ 0 = omega arith in bytes_left ∙ none) in
     record { reading = reading ∙ append-nil so_far; spelled = λ good. spelled good ∙ ap (λ ys. flat_map spell so_far ++ ys) none ∙ append-nil (flat_map spell so_far); number = omega arith }
 ends_by read spell Good size count bytes so_far rest (suc left) number bytes_left reading spelled few = absurd (omega (arith, bytes_left ∙ mul-suc size left))
 
-pub ends : {X : Type 0} (read : List ℕ → X) (spell : X → List ℕ) (Good : X → Type 0) (size count : ℕ) (bytes : List ℕ) (so_far : List X) (rest : List ℕ) → IsRead read spell Good size count bytes so_far rest → length rest < size → IsWhole read spell Good size count bytes so_far
+pub ends : {X : Type 0} (read : List ℕ → X) (spell : X → List ℕ) (Good : X → Type 0) (size count : ℕ) (bytes : List ℕ) (so_far : List X) (rest : List ℕ) → IsRead read spell Good size count bytes so_far rest → length rest < size → TableIsWhole read spell Good size count bytes so_far
 ends read spell Good size count bytes so_far rest r few = ends_by read spell Good size count bytes so_far rest r.left r.number r.bytes_left r.reading r.spelled few

@@ -27,7 +27,7 @@ abbrev pub has_sizes : Parts → Bool
 has_sizes p = has_sides p && has_counts p
 
 -- so few members that an image of them is short
-pub record IsShort (h : Header) : Type 0 where
+pub record ImageIsShort (h : Header) : Type 0 where
   pub code : h.code ≤ 65536
   pub bodies : h.bodies ≤ 1048576
   pub starts : h.starts ≤ 1024

@@ -3,7 +3,7 @@ ghost use Rattle.std.specs.Int.{w16, w32, to_be_bytes};
 ghost use Rattle.alw_num.specs.Lanes.{half_at};
 ghost use Rattle.alw_image.specs.Faults.{header_of, range_fault, fields, first_unfit, is_within, is_magic, header_fault, image_fault, body_fault, bodies_at, starts_at, always_at, image_end, most_side, least_height};
 ghost use Rattle.alw_image.specs.Spellings.{header_bytes};
-ghost use Rattle.alw_image.specs.Sizes.{IsShort};
+ghost use Rattle.alw_image.specs.Sizes.{ImageIsShort};
 ghost use Rattle.alw_image.specs.declared.faults.ImageErr.{ImageErr};
 
 use crate::faults::ImageErr;
@@ -71,7 +71,7 @@ impl Header {
 
     // Where the data lines begin.
     pub fn bodies_at(&self) -> u32
-        requires { IsShort self.now }
+        requires { ImageIsShort self.now }
         ensures { result ≡ bodies_at self.now }
     {
         28 + 4 * self.code
@@ -79,7 +79,7 @@ impl Header {
 
     // Where the starts begin.
     pub fn starts_at(&self) -> u32
-        requires { IsShort self.now }
+        requires { ImageIsShort self.now }
         ensures { result ≡ starts_at self.now }
     {
         self.bodies_at() + 20 * self.bodies
@@ -87,7 +87,7 @@ impl Header {
 
     // Where the Trap-Always lines begin.
     pub fn always_at(&self) -> u32
-        requires { IsShort self.now }
+        requires { ImageIsShort self.now }
         ensures { result ≡ always_at self.now }
     {
         self.starts_at() + 8 * self.starts
@@ -95,7 +95,7 @@ impl Header {
 
     // Where the image ends.
     pub fn end(&self) -> u32
-        requires { IsShort self.now }
+        requires { ImageIsShort self.now }
         ensures { result ≡ image_end self.now }
     {
         self.always_at() + 4 * self.always
@@ -207,7 +207,7 @@ pub fn size_fault(header: &Header, count: usize) -> Option<ImageErr>
     ensures none { IfNone result ((rest : Option ImageErr) → header_fault count header.now rest ≡ rest) }
     ensures fits { IfNone result (range_fault header.now ≡ None) }
     ensures whole { IfNone result (count ≡ image_end header.now) }
-    ensures short { IfNone result (IsShort header.now) }
+    ensures short { IfNone result (ImageIsShort header.now) }
 {
     if let Some(at) = header.range_fault() {
         return Some(ImageErr::Range { at });

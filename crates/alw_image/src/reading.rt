@@ -2,8 +2,8 @@ ghost use Rattle.std.specs.Prelude.{◌≡◌, ◌≢◌, length, None, Some, If
 ghost use Rattle.alw_image.specs.declared.faults.ImageErr.TheVariants as faults;
 ghost use Rattle.alw_image.specs.Images.{spelling};
 ghost use Rattle.alw_image.specs.Faults.{range_fault, image_end, header_of, image_in, image_fault};
-ghost use Rattle.alw_image.specs.Sizes.{IsShort};
-ghost use Rattle.alw_image.specs.TableReads.{AreRead};
+ghost use Rattle.alw_image.specs.Sizes.{ImageIsShort};
+ghost use Rattle.alw_image.specs.TableReads.{PartsAreRead};
 
 use crate::checks::tables_fault;
 use crate::faults::ImageErr;
@@ -43,9 +43,9 @@ pub fn read_image(alloc: Global, bytes: &[u8]) -> Result<Image, ImageErr>
 
 // The parts that bytes spell, in range and in order or not.
 fn read_parts(alloc: Global, header: &Header, bytes: &[u8]) -> Result<Parts, NoMemory>
-    requires short { IsShort header.now }
+    requires short { ImageIsShort header.now }
     requires whole { length bytes.now ≡ image_end header.now }
-    ensures { IfOk result (λ parts. AreRead header.now bytes.now parts) }
+    ensures { IfOk result (λ parts. PartsAreRead header.now bytes.now parts) }
 {
     let code = &bytes[28..header.bodies_at() as usize];
     let bodies = &bytes[header.bodies_at() as usize..header.starts_at() as usize];

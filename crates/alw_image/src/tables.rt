@@ -2,7 +2,7 @@ ghost use Rattle.std.specs.Prelude.{◌≡◌, ◌<◌, ◌≤◌, ◌*◌, ◌^
 ghost use Rattle.std.specs.Int.{w32, to_be_bytes};
 ghost use Rattle.alw_image.specs.Images.{data_line, start_bytes};
 ghost use Rattle.alw_image.specs.Faults.{word_of, body_of_bytes, start_of_bytes};
-ghost use Rattle.alw_image.specs.TableReads.{IsMember, IsWhole, IsAny, IsSlot};
+ghost use Rattle.alw_image.specs.TableReads.{IsMember, TableIsWhole, IsAnyMember, IsSlot};
 
 use crate::parts::{Bodies, Starts};
 use crate::readers::{byte_at, half_at, word_at};
@@ -12,7 +12,7 @@ use std::alloc::Global;
 // The words of a program, or the numbers of lines, that bytes spell.
 pub fn read_words(alloc: Global, bytes: &[u8], count: u32) -> Result<Sequence<u32>, NoMemory>
     requires { length bytes.now ≡ 4 * count }
-    ensures { IfOk result (λ words. IsWhole word_of (to_be_bytes w32) IsAny 4 count bytes.now words) }
+    ensures { IfOk result (λ words. TableIsWhole word_of (to_be_bytes w32) IsAnyMember 4 count bytes.now words) }
 {
     let mut words = Sequence::empty(alloc);
     let mut rest = bytes;
@@ -26,7 +26,7 @@ pub fn read_words(alloc: Global, bytes: &[u8], count: u32) -> Result<Sequence<u3
 // The data lines that bytes spell.
 pub fn read_bodies(alloc: Global, bytes: &[u8], count: u32) -> Result<Bodies, NoMemory>
     requires { length bytes.now ≡ 20 * count }
-    ensures { IfOk result (λ bodies. IsWhole body_of_bytes data_line IsAny 20 count bytes.now bodies) }
+    ensures { IfOk result (λ bodies. TableIsWhole body_of_bytes data_line IsAnyMember 20 count bytes.now bodies) }
 {
     let mut bodies = Bodies::empty(alloc);
     let mut rest = bytes;
@@ -40,7 +40,7 @@ pub fn read_bodies(alloc: Global, bytes: &[u8], count: u32) -> Result<Bodies, No
 // The starts that bytes spell.
 pub fn read_starts(alloc: Global, bytes: &[u8], count: u32) -> Result<Starts, NoMemory>
     requires { length bytes.now ≡ 8 * count }
-    ensures { IfOk result (λ starts. IsWhole start_of_bytes start_bytes IsSlot 8 count bytes.now starts) }
+    ensures { IfOk result (λ starts. TableIsWhole start_of_bytes start_bytes IsSlot 8 count bytes.now starts) }
 {
     let mut starts = Starts::empty(alloc);
     let mut rest = bytes;
@@ -53,7 +53,7 @@ pub fn read_starts(alloc: Global, bytes: &[u8], count: u32) -> Result<Starts, No
 
 // The data line in the first 20 bytes, and what follows them. None exactly where there are fewer.
 fn body_at(bytes: &[u8]) -> Option<((LineNo, Line), &[u8])>
-    ensures found { IfSome result (λ read. IsMember body_of_bytes data_line IsAny 20 bytes.now read.0 read.1.now) }
+    ensures found { IfSome result (λ read. IsMember body_of_bytes data_line IsAnyMember 20 bytes.now read.0 read.1.now) }
     ensures none { IfNone result (length bytes.now < 20) }
 {
     let (number, rest) = word_at(bytes)?;

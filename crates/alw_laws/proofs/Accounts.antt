@@ -13,7 +13,7 @@ use Rattle.alw_msg.specs.Lists.{count_of}
 use Rattle.alw_model.specs.Lines.{up_carried, down_carried}
 use Rattle.alw_laws.specs.declared.traffic.Up.{Up}
 use Rattle.alw_laws.specs.declared.traffic.Down.{Down}
-use Rattle.alw_laws.specs.Traffic.{carried_by, IsUp, IsDown}
+use Rattle.alw_laws.specs.Traffic.{carried_by, IsTrafficUp, IsTrafficDown}
 use Rattle.alw_laws.proofs.Orders.{followed_push, clear_push}
 
 -- no request and no ACKC, and no INV, by their counts
@@ -45,7 +45,7 @@ pub record GainsUp (before after : Up) (m : ToMemory) : Type 0 where
   pub answered : after.repm_is_answered ≡ ((before.repm_is_answered || is_ackc m) && not (is_repm m))
   pub first : after.repm_is_first ≡ (before.repm_is_first && ((before.rreq + before.wreq + before.ackc == 0) || not (is_repm m)))
 
-pub up_gains : (before after : Up) (said : List ToMemory) (m : ToMemory) → IsUp before said → GainsUp before after m → IsUp after (said ++ m ∷ [])
+pub up_gains : (before after : Up) (said : List ToMemory) (m : ToMemory) → IsTrafficUp before said → GainsUp before after m → IsTrafficUp after (said ++ m ∷ [])
 up_gains before after said m is gains = record {
   rreq = gains.rreq ∙ rw (is.rreq, weigh_push (λ x. digit (is_rreq x)) said m) refl;
   wreq = gains.wreq ∙ rw (is.wreq, weigh_push (λ x. digit (is_wreq x)) said m) refl;
@@ -67,7 +67,7 @@ pub record GainsDown (before after : Down) (m : ToCache) : Type 0 where
   pub wdata_recalled : after.wdata_is_recalled ≡ ((before.wdata_is_recalled || is_inv m) && not (is_wdata m))
   pub first : after.data_is_first ≡ (before.data_is_first && ((before.inv == 0) || not (brings_line m)))
 
-pub down_gains : (before after : Down) (said : List ToCache) (m : ToCache) → IsDown before said → GainsDown before after m → IsDown after (said ++ m ∷ [])
+pub down_gains : (before after : Down) (said : List ToCache) (m : ToCache) → IsTrafficDown before said → GainsDown before after m → IsTrafficDown after (said ++ m ∷ [])
 down_gains before after said m is gains = record {
   rdata = gains.rdata ∙ rw (is.rdata, weigh_push (λ x. digit (is_rdata x)) said m) refl;
   wdata = gains.wdata ∙ rw (is.wdata, weigh_push (λ x. digit (is_wdata x)) said m) refl;

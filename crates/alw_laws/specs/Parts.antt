@@ -10,14 +10,14 @@ use Rattle.alw_laws.specs.declared.views.LineView.{LineView}
 use Rattle.alw_laws.specs.declared.traffic.Up.{Up}
 use Rattle.alw_laws.specs.declared.traffic.Down.{Down}
 use Rattle.alw_laws.specs.Views.{Sent}
-use Rattle.alw_laws.specs.Traffic.{IsUp, IsDown, sent, received}
+use Rattle.alw_laws.specs.Traffic.{IsTrafficUp, IsTrafficDown, sent, received}
 
 -- a node's copy, transaction and messages
 pub record IsPart (node : LineNode) (copy : Option (Mode × Line)) (transaction : Option Mode) (up : Up) (down : Down) : Type 0 where
   pub copy_is : copy ≡ node.copy
   pub transaction_is : transaction ≡ node.transaction
-  pub up_is : IsUp up node.up
-  pub down_is : IsDown down node.down
+  pub up_is : IsTrafficUp up node.up
+  pub down_is : IsTrafficDown down node.down
   pub few_up : sent up < 2 ^ 40
   pub few_down : received down < 2 ^ 40
 

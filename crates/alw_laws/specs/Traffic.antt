@@ -17,7 +17,7 @@ carried_by (body ∷ []) = One body
 carried_by (body ∷ next ∷ rest) = Several
 
 -- what a node's messages to memory come to
-pub record IsUp (up : Up) (said : List ToMemory) : Type 0 where
+pub record IsTrafficUp (up : Up) (said : List ToMemory) : Type 0 where
   pub rreq : up.rreq ≡ count_of is_rreq said
   pub wreq : up.wreq ≡ count_of is_wreq said
   pub update : up.update ≡ count_of is_update said
@@ -27,7 +27,7 @@ pub record IsUp (up : Up) (said : List ToMemory) : Type 0 where
   pub first : up.repm_is_first ≡ is_clear_behind is_request_or_ackc is_repm said
 
 -- what the messages to a node's cache come to
-pub record IsDown (down : Down) (said : List ToCache) : Type 0 where
+pub record IsTrafficDown (down : Down) (said : List ToCache) : Type 0 where
   pub rdata : down.rdata ≡ count_of is_rdata said
   pub wdata : down.wdata ≡ count_of is_wdata said
   pub inv : down.inv ≡ count_of is_inv said

@@ -7,7 +7,7 @@ ghost use Rattle.alw_msg.specs.Contents.{content, reply_in, is_rreq, is_wreq, is
 ghost use Rattle.alw_msg.specs.Lists.{count_of, is_followed};
 ghost use Rattle.alw_model.specs.Lines.{carried};
 ghost use Rattle.alw_model.specs.LineInvariant.{same_line, data_holds, reads, writes, owes, is_recalled, order_fits, single_by};
-ghost use Rattle.alw_laws.specs.Traffic.{IsUp, IsDown, sent, received, carried_by};
+ghost use Rattle.alw_laws.specs.Traffic.{IsTrafficUp, IsTrafficDown, sent, received, carried_by};
 ghost use Rattle.alw_laws.specs.Views.{node_in, copy_in, transaction_in};
 ghost use Rattle.alw_laws.specs.Parts.{stands_on, packet_said_by, link_holds};
 
@@ -51,7 +51,7 @@ impl LineView {
 
     // What the packet comes to, where the node sent it.
     fn packet_of(&self, number: NodeNo) -> Up
-        ensures up { IsUp result (packet_said_by self.now number.0) }
+        ensures up { IsTrafficUp result (packet_said_by self.now number.0) }
         ensures few { sent result ≤ 1 }
     {
         let mut up = Up::NONE;
@@ -66,7 +66,7 @@ impl LineView {
 
     // What a node's messages to memory come to. The packet that waits for the handler is the first.
     fn up_of(&self, number: NodeNo) -> Up
-        ensures up { IsUp result (node_in self.now number.0).up }
+        ensures up { IsTrafficUp result (node_in self.now number.0).up }
         ensures few { sent result < 2 ^ 40 }
     {
         let mut up = self.packet_of(number);
@@ -81,7 +81,7 @@ impl LineView {
 
     // What the messages to a node's cache come to.
     fn down_of(&self, number: NodeNo) -> Down
-        ensures down { IsDown result (node_in self.now number.0).down }
+        ensures down { IsTrafficDown result (node_in self.now number.0).down }
         ensures few { received result < 2 ^ 40 }
     {
         let mut down = Down::NONE;

@@ -1,6 +1,6 @@
 ghost use Rattle.std.specs.Prelude.{◌≡◌, ◌+◌, ◌<◌, ◌≤◌, ◌^◌, ◌++◌, [], ◌∷◌, List};
 ghost use Rattle.alw_msg.specs.Contents.{ToMemory, ToCache, content, request_in, reply_in};
-ghost use Rattle.alw_laws.specs.Traffic.{IsUp, IsDown, sent, received};
+ghost use Rattle.alw_laws.specs.Traffic.{IsTrafficUp, IsTrafficDown, sent, received};
 
 use crate::carriers::Carried;
 use alw_msg::{Kind, Msg};
@@ -36,7 +36,7 @@ impl Up {
     pub fn gains(&mut self, msg: &Msg)
         requires { sent self.old < 2 ^ 63 }
         ensures few { sent self.new ≤ sent self.old + 1 }
-        ensures sums { (said : List ToMemory) → IsUp self.old said → IsUp self.new (said ++ request_in (content msg.now)) }
+        ensures sums { (said : List ToMemory) → IsTrafficUp self.old said → IsTrafficUp self.new (said ++ request_in (content msg.now)) }
     {
         match msg.kind {
             Kind::RREQ => self.rreq += 1,
@@ -93,7 +93,7 @@ impl Down {
     pub fn gains(&mut self, msg: &Msg)
         requires { received self.old < 2 ^ 63 }
         ensures few { received self.new ≤ received self.old + 1 }
-        ensures sums { (said : List ToCache) → IsDown self.old said → IsDown self.new (said ++ reply_in (content msg.now)) }
+        ensures sums { (said : List ToCache) → IsTrafficDown self.old said → IsTrafficDown self.new (said ++ reply_in (content msg.now)) }
     {
         match msg.kind {
             Kind::RDATA => {

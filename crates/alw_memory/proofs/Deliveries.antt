@@ -19,7 +19,7 @@ use Rattle.dir_full.specs.Reactions.{with_sends, HasRoom}
 use Rattle.alw_home.specs.Deliveries.{Delivers, answer_by, answer_of, after_delivery}
 use Rattle.alw_home.specs.declared.deliveries.Acted.{Acted}
 use Rattle.alw_home.specs.declared.deliveries.Acted.TheVariants as acted
-use Rattle.alw_memory.specs.Memories.{IsMemory, IsBegun, Stands}
+use Rattle.alw_memory.specs.Memories.{IsMemory, SendsAreBegun, Stands}
 use Rattle.alw_memory.specs.Lines.{has_trapped}
 use Rattle.alw_memory.proofs.Entries.{line_is}
 use Rattle.alw_memory.proofs.Standing.{trap_keeps, act_keeps}
@@ -80,7 +80,7 @@ acted_stands : (most nodes : ℕ) (d : Directory) (i : ℕ) (m : ToMemory) → 1
 acted_stands most nodes d i m some is l calm free =
     record { sound = hardware_sound most d i m some is.sound calm free; points = hardware_points nodes i l d m is.points }
 
-module _ (m : Memory) (msg : Msg) (e : Directory) (result : Acted) (sent sent' : Sending) (is : IsMemory m) (begun : IsBegun m.number m.nodes sent)
+module _ (m : Memory) (msg : Msg) (e : Directory) (result : Acted) (sent sent' : Sending) (is : IsMemory m) (begun : SendsAreBegun m.number m.nodes sent)
     (goes : to_memory msg.kind ≡ true) (from : msg.src.0 < m.nodes) (home : msg.line.0 / m.per_node ≡ m.number)
     (free : is_in_progress (home_at m msg.line.0).meta ≡ false) (delivers : Delivers m.pointers (home_at m msg.line.0) e sent sent' result msg) where
   abbrev D : Directory
@@ -144,7 +144,7 @@ module _ (m : Memory) (msg : Msg) (e : Directory) (result : Acted) (sent sent' :
       by_said (Said said content_is) = by_trap said content_is (is_trapped m.pointers (home_at m msg.line.0) msg.src.0 said) refl traps when
 
 -- there is room for the packet, and for the sends
-pub delivery_room : (m : Memory) (msg : Msg) (sent : Sending) → IsMemory m → IsBegun m.number m.nodes sent → msg.src.0 < m.nodes
+pub delivery_room : (m : Memory) (msg : Msg) (sent : Sending) → IsMemory m → SendsAreBegun m.number m.nodes sent → msg.src.0 < m.nodes
     → (place : ℕ) → HasRoom (entry_at m.homes place).hardware msg.src.0 sent
 delivery_room m msg sent is begun from place = record {
   empty = begun.empty;

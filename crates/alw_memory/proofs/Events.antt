@@ -25,16 +25,16 @@ use Rattle.alw_home.specs.declared.deliveries.Acted.{Acted}
 use Rattle.alw_trap.specs.Handling.{Handles}
 use Rattle.alw_memory.specs.declared.memories.HomeLine.{HomeLine}
 use Rattle.alw_memory.specs.declared.memories.Memory.TheInside.{Inside}
-use Rattle.alw_memory.specs.Memories.{IsMemory, IsBegun, IsPacket}
+use Rattle.alw_memory.specs.Memories.{IsMemory, SendsAreBegun, IsPacket}
 use Rattle.alw_memory.specs.Lines.{entries_from, IsTable, has_trapped}
-use Rattle.alw_memory.specs.Insides.{memory_in, IsKept}
+use Rattle.alw_memory.specs.Insides.{memory_in, MemoryIsKept}
 use Rattle.alw_memory.proofs.Entries.{home_line, entry_read, entries_set, line_is}
 use Rattle.alw_memory.proofs.Standing.{front_progress, packet_fits}
 use Rattle.alw_memory.proofs.Deliveries.{packets_after, did_after, with_homes, delivered, delivery_room}
 use Rattle.alw_memory.proofs.Handlings.{handled, handling_room, front_packet}
 use Rattle.alw_memory.proofs.Tables.{others_stay, table_stands, table_room}
 
-module _ (m : Inside) (v : Memory) (is : memory_in m ≡ v) (kept : IsKept m) (n : ℕ) (n_is : n ≡ m.per_node) (line : ℕ) (home : HomeLine)
+module _ (m : Inside) (v : Memory) (is : memory_in m ≡ v) (kept : MemoryIsKept m) (n : ℕ) (n_is : n ≡ m.per_node) (line : ℕ) (home : HomeLine)
     (read : home ≡ slice_index_or m.homes.items (line % n) home) where
   place_is : line % n ≡ line % m.per_node
   place_is = ap (λ k. line % k) n_is
@@ -88,7 +88,7 @@ module _ (m : Inside) (v : Memory) (is : memory_in m ≡ v) (kept : IsKept m) (n
           sizes ∙ ((λ k. with_homes (memory_in m) (there k) (waits k))
           ∙ ap (λ (x : Memory). with_homes x (with_entry x line (directory_of e (set_of_line after.soft line) home.always)) packets) is)
 
-      pub kept_after : IsMemory (memory_in after) → IsTable m.number.0 m.per_node after.soft → m.per_node ≤ deque_capacity after.packets → IsKept after
+      pub kept_after : IsMemory (memory_in after) → IsTable m.number.0 m.per_node after.soft → m.per_node ≤ deque_capacity after.packets → MemoryIsKept after
       kept_after memory table room =
           let size = ap (λ (x : Memory). x.per_node) sizes in
           record {
@@ -104,14 +104,14 @@ with_line m place home = record m { homes = with_item m.homes place home }
 
 -- what has become of a memory side as it is kept is this step's
 pub record Becomes (v : Memory) (after : Inside) (sent sent' : Sending) (did : Did) (step : MemoryStep) : Type 0 where
-  pub kept : IsKept after
+  pub kept : MemoryIsKept after
   pub steps : Steps v (memory_in after) sent sent' did step
 
 -- ---- a message to memory
 
-module _ (m : Inside) (v : Memory) (is : memory_in m ≡ v) (kept : IsKept m) (n : ℕ) (n_is : n ≡ m.per_node) (msg : Msg) (home : HomeLine)
+module _ (m : Inside) (v : Memory) (is : memory_in m ≡ v) (kept : MemoryIsKept m) (n : ℕ) (n_is : n ≡ m.per_node) (msg : Msg) (home : HomeLine)
     (read : home ≡ slice_index_or m.homes.items (msg.line.0 % n) home) (of : msg.line.0 / v.per_node ≡ v.number) (from : msg.src.0 < v.nodes)
-    (sent : Sending) (begun : IsBegun v.number v.nodes sent) where
+    (sent : Sending) (begun : SendsAreBegun v.number v.nodes sent) where
   stands : IsMemory v
   stands = subst IsMemory is kept.memory
 
@@ -157,12 +157,12 @@ module _ (m : Inside) (v : Memory) (is : memory_in m ≡ v) (kept : IsKept m) (n
 -- ---- the handler
 
 -- the front packet is one
-pub front_is : (m : Inside) (v : Memory) → memory_in m ≡ v → IsKept m → (packet : Msg) (rest : List Msg) → m.packets.items ≡ packet ∷ rest
+pub front_is : (m : Inside) (v : Memory) → memory_in m ≡ v → MemoryIsKept m → (packet : Msg) (rest : List Msg) → m.packets.items ≡ packet ∷ rest
     → IsPacket v.nodes v.per_node v.number packet
 front_is m v is kept packet rest front =
     subst (λ (x : Memory). IsPacket x.nodes x.per_node x.number packet) is (front_packet (memory_in m) packet rest kept.memory front)
 
-module _ (m : Inside) (v : Memory) (is : memory_in m ≡ v) (kept : IsKept m) (n : ℕ) (n_is : n ≡ m.per_node) (packet : Msg) (rest : List Msg)
+module _ (m : Inside) (v : Memory) (is : memory_in m ≡ v) (kept : MemoryIsKept m) (n : ℕ) (n_is : n ≡ m.per_node) (packet : Msg) (rest : List Msg)
     (front : m.packets.items ≡ packet ∷ rest) (home : HomeLine) (read : home ≡ slice_index_or m.homes.items (packet.line.0 % n) home) where
   valid : IsMemory v
   valid = subst IsMemory is kept.memory
@@ -184,7 +184,7 @@ module _ (m : Inside) (v : Memory) (is : memory_in m ≡ v) (kept : IsKept m) (n
   pub set_has_room : value_at m.soft.sets packet.line.0 ≡ None → used_lines m.soft < m.soft.lines
   set_has_room = table_room m.number.0 m.per_node packet.line.0 m.soft kept.memory.per_node.0 (rw (← is) at one.home) kept.table
 
-  module _ (sent : Sending) (begun : IsBegun v.number v.nodes sent) where
+  module _ (sent : Sending) (begun : SendsAreBegun v.number v.nodes sent) where
     pub handler_has_room : HasRoom (join_nodes home.entry.pointers (set_of_line m.soft packet.line.0)) packet.src.0 sent
     handler_has_room = subst (λ (d : Directory). HasRoom (join_nodes d.hardware d.software) packet.src.0 sent) entry_is
         (handling_room v sent packet.src.0 (home_at v packet.line.0) begun one.from (valid.entries (packet.line.0 % v.per_node)))

@@ -17,7 +17,7 @@ use Rattle.law_entry.proofs.Pointers.{handler_points}
 use Rattle.dir_full.specs.Reactions.{with_sends, HasRoom}
 use Rattle.dir_soft.specs.Tables.{Table}
 use Rattle.alw_trap.specs.Handling.{Handles, handler_on}
-use Rattle.alw_memory.specs.Memories.{IsMemory, IsBegun, IsPacket, Stands}
+use Rattle.alw_memory.specs.Memories.{IsMemory, SendsAreBegun, IsPacket, Stands}
 use Rattle.alw_memory.proofs.Entries.{line_is}
 use Rattle.alw_memory.proofs.Standing.{handle_keeps}
 use Rattle.alw_memory.proofs.Deliveries.{Says, Said, says, Goes, goes_as, with_homes}
@@ -26,7 +26,7 @@ handled_stands : (most nodes : ℕ) (d : Directory) (i : ℕ) (m : ToMemory) →
 handled_stands most nodes d i m some is l = record { sound = handler_sound most d i m some is.sound; points = handler_points nodes i l d m is.points }
 
 -- the sends have room for each node that is pointed at
-pub handling_room : (m : Memory) (sent : Sending) (i : ℕ) (d : Directory) → IsBegun m.number m.nodes sent → i < m.nodes → Stands m.pointers m.nodes d
+pub handling_room : (m : Memory) (sent : Sending) (i : ℕ) (d : Directory) → SendsAreBegun m.number m.nodes sent → i < m.nodes → Stands m.pointers m.nodes d
     → HasRoom (join_nodes d.hardware d.software) i sent
 handling_room m sent i d begun from is = record {
   empty = begun.empty;
@@ -39,7 +39,7 @@ pub front_packet : (m : Memory) (packet : Msg) (rest : List Msg) → IsMemory m 
 front_packet m packet rest is front = (subst (AllByRecursion (IsPacket m.nodes m.per_node m.number)) front is.packets).0
 
 module _ (m : Memory) (packet : Msg) (rest : List Msg) (e : Directory) (table table' : Table) (sent sent' : Sending) (is : IsMemory m)
-    (begun : IsBegun m.number m.nodes sent) (front : m.packets ≡ packet ∷ rest)
+    (begun : SendsAreBegun m.number m.nodes sent) (front : m.packets ≡ packet ∷ rest)
     (handles : Handles (home_at m packet.line.0) e table table' sent sent' packet) where
   one : IsPacket m.nodes m.per_node m.number packet
   one = front_packet m packet rest is front

@@ -18,7 +18,7 @@ memory_in m = record {
 }
 
 -- it is one, with a home line for each of its lines, a table of its lines, and room for a packet for each
-pub record IsKept (m : Inside) : Type 0 where
+pub record MemoryIsKept (m : Inside) : Type 0 where
   pub memory : IsMemory (memory_in m)
   pub lines : length m.homes.items ≡ m.per_node
   pub table : IsTable m.number.0 m.per_node m.soft

@@ -7,11 +7,11 @@ use Rattle.alw_msg.specs.Sending.{Sending}
 use Rattle.alw_msg.specs.declared.messages.Msg.{Msg}
 use Rattle.alw_model.specs.LimitLess.{Directory, is_in_progress}
 use Rattle.alw_model.specs.Sides.{Memory, entry_at}
-use Rattle.law_entry.specs.Entries.{IsSound, PointsBelow}
+use Rattle.law_entry.specs.Entries.{EntryIsSound, PointsBelow}
 
 -- an entry is sound, and points at nodes that exist
 pub record Stands (most nodes : ℕ) (d : Directory) : Type 0 where
-  pub sound : IsSound most d
+  pub sound : EntryIsSound most d
   pub points : PointsBelow nodes d
 
 -- a packet is a message to memory of a node that exists, for a line of this home
@@ -41,7 +41,7 @@ pub record IsMemory (m : Memory) : Type 0 where
   pub counted : length m.packets ≡ weigh progress_of m.homes
 
 -- the sends of an event are begun by this node, and empty, and there is room for one to each node
-pub record IsBegun (number nodes : ℕ) (sending : Sending) : Type 0 where
+pub record SendsAreBegun (number nodes : ℕ) (sending : Sending) : Type 0 where
   pub by : sending.src ≡ number
   pub empty : sending.messages ≡ []
   pub room : nodes ≤ sending.room

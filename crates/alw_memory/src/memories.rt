@@ -8,7 +8,7 @@ ghost use Rattle.alw_model.specs.MemorySteps.{Steps, home_at, takes, handle_fron
 ghost use Rattle.alw_model.specs.NodeStates.{node_start, memory_of};
 ghost use Rattle.alw_memory.specs.Lines.{has_trapped, line_start, lines_start};
 ghost use Rattle.alw_memory.specs.Views.{IsViewOf};
-ghost use Rattle.alw_memory.specs.Memories.{IsMemory, IsBegun};
+ghost use Rattle.alw_memory.specs.Memories.{IsMemory, SendsAreBegun};
 
 use crate::views::HomeView;
 use alw_home::{Acted, deliver};
@@ -48,11 +48,11 @@ impl Model for Memory {
 
     ghost Value = { Memory };
 
-    ghost use Rattle.alw_memory.specs.Insides.{memory_in, IsKept};
+    ghost use Rattle.alw_memory.specs.Insides.{memory_in, MemoryIsKept};
 
     ghost view = { memory_in };
 
-    ghost invariant = { IsKept };
+    ghost invariant = { MemoryIsKept };
 }
 
 impl Memory {
@@ -152,7 +152,7 @@ impl Memory {
 
     /// A message to memory: it traps, which puts it behind the packets, or hardware acts on it.
     pub fn deliver(&mut self, msg: &Msg, sent: &mut Sends) -> Did
-        requires begun { IsBegun self.old.number self.old.nodes sent.old }
+        requires begun { SendsAreBegun self.old.number self.old.nodes sent.old }
         requires to_memory { IsTrue (to_memory msg.now.kind) }
         requires from { msg.now.src.0 < self.old.nodes }
         requires home { msg.now.line.0 / self.old.per_node ≡ self.old.number }
@@ -170,7 +170,7 @@ impl Memory {
 
     /// The handler takes the front packet. Where none waits, nothing happens.
     pub fn handle(&mut self, sent: &mut Sends) -> Did
-        requires begun { IsBegun self.old.number self.old.nodes sent.old }
+        requires begun { SendsAreBegun self.old.number self.old.nodes sent.old }
         ensures { Steps self.old self.new sent.old sent.new result (handle_front sent.old.stamp self.old self.old.packets) }
     {
         let Some(packet) = self.packets.pop_front() else {

@@ -25,13 +25,13 @@ use Rattle.law_order.proofs.MergedLogs.{log_again}
 use Rattle.alw_tally.specs.Told.{Told, told_of}
 use Rattle.alw_tally.proofs.Sums.{weigh-map}
 use Rattle.alw_node.specs.Nodes.{Whole}
-use Rattle.alw_mesh.specs.Keeping.{machine_of, no_whole, whole_in, IsOf, AreNodes}
+use Rattle.alw_mesh.specs.Keeping.{machine_of, no_whole, whole_in, NodeIsOf, AreNodes}
 use Rattle.alw_mesh.proofs.OneNode.{state_at}
 use Rattle.alw_cells.specs.declared.parts.Worked.{Worked}
 use Rattle.alw_cells.specs.Cells.{dids_of}
-use Rattle.alw_cells.specs.Leaving.{whole_after, IsWorked}
+use Rattle.alw_cells.specs.Leaving.{whole_after, LogsAreWorked}
 use Rattle.alw_cells.specs.Logs.{Written, logged}
-use Rattle.alw_merge.specs.Joins.{holds_at, course_at, courses_of, AreOf, unheld}
+use Rattle.alw_merge.specs.Joins.{holds_at, course_at, courses_of, LogsAreOfJournal, unheld}
 use Rattle.alw_merge.proofs.Courses.{dids_are}
 
 -- ---- courses
@@ -70,7 +70,7 @@ holds_more nodes n holds one whole is here so_far more =
 
 -- ---- what workers leave
 
-module _ (image : Parts) (parameters : Parameters) (worked : Worked) (is : IsWorked image parameters worked) where
+module _ (image : Parts) (parameters : Parameters) (worked : Worked) (is : LogsAreWorked image parameters worked) where
   abbrev logs : List (List Logged)
   logs = logged worked.logs
 
@@ -86,7 +86,7 @@ module _ (image : Parts) (parameters : Parameters) (worked : Worked) (is : IsWor
   same_long : length worked.dids ≡ length logs
   same_long = is.did_places ∙ sym is.runs.count
 
-  pub are_read : AreOf image parameters journal (courses_of logs worked.dids)
+  pub are_read : LogsAreOfJournal image parameters journal (courses_of logs worked.dids)
   are_read = record {
     legal = legal;
     counted = courses_long logs worked.dids same_long ∙ is.runs.count;
@@ -108,7 +108,7 @@ module _ (image : Parts) (parameters : Parameters) (worked : Worked) (is : IsWor
   pub nodes_are : AreNodes image parameters worked.nodes
   nodes_are = record {
     counted = is.node_places;
-    each = λ n here. subst (IsOf image parameters n) (sym (whole_is n here)) (record { number = refl; share = refl; parameters_are = refl });
+    each = λ n here. subst (NodeIsOf image parameters n) (sym (whole_is n here)) (record { number = refl; share = refl; parameters_are = refl });
   }
 
   states_same : map (λ (whole : Whole). whole.state) worked.nodes ≡ (state image parameters journal).nodes

@@ -23,7 +23,7 @@ use Rattle.alw_model.specs.Threads.{Logged, is_before, placed, in_order, merged}
 use Rattle.alw_msg.specs.Lists.{front, behind}
 use Rattle.alw_cells.specs.Logs.{Written, logged, Reading, reading_of, after_next, entry_of}
 use Rattle.alw_cells.specs.Records.{Ascends}
-use Rattle.alw_merge.specs.Streams.{left_of, all_left, key_of, head_in, heads_from, heap_cmp, IsRead, AreHeads, IsUnderWay, heads_of, Joins, GoesOn}
+use Rattle.alw_merge.specs.Streams.{left_of, all_left, key_of, head_in, heads_from, heap_cmp, LogIsRead, AreHeads, StreamIsUnderWay, heads_of, Joins, GoesOn}
 
 -- ---- one entry taken out of others
 
@@ -205,7 +205,7 @@ module _ (one : Logged) (log : ℕ) where
   least = key_of log one.entry
 
   -- what is left of a log that stands behind, or in front
-  log_behind : (reading : Reading) (at : ℕ) → log ≤ at → at < 65536 → IsRead reading → NoneBefore least (head_in at reading.given)
+  log_behind : (reading : Reading) (at : ℕ) → log ≤ at → at < 65536 → LogIsRead reading → NoneBefore least (head_in at reading.given)
       → AllByRecursion (λ (e : Entry). is_before e one.entry ≡ false) (entries_in (left_of reading))
   log_behind reading at place few is none = go reading.given is.ends is.ascends is.node none
     where
@@ -219,7 +219,7 @@ module _ (one : Logged) (log : ℕ) where
             (node_of one.entry.event) log none.0 node few) ascends.0,
       )
 
-  log_before : (reading : Reading) (at : ℕ) → at < log → at < 65536 → IsRead reading → NoneBefore least (head_in at reading.given)
+  log_before : (reading : Reading) (at : ℕ) → at < log → at < 65536 → LogIsRead reading → NoneBefore least (head_in at reading.given)
       → AllByRecursion (λ (e : Entry). is_before one.entry e ≡ true) (entries_in (left_of reading))
   log_before reading at place few is none = go reading.given is.ends is.ascends is.node none
     where
@@ -238,7 +238,7 @@ module _ (one : Logged) (log : ℕ) where
   none_rest None at heads none = (tt, none)
   none_rest (Some first) at heads none = ((none.0, tt), none.1)
 
-  logs_behind : (readings : List Reading) (at : ℕ) → log ≤ at → at + length readings ≤ 65536 → AllByRecursion IsRead readings → NoneBefore least (heads_from at readings)
+  logs_behind : (readings : List Reading) (at : ℕ) → log ≤ at → at + length readings ≤ 65536 → AllByRecursion LogIsRead readings → NoneBefore least (heads_from at readings)
       → AllByRecursion (λ (e : Entry). is_before e one.entry ≡ false) (entries_left readings)
   logs_behind [] at place few are none = tt
   logs_behind (reading ∷ rest) at place few are none =
@@ -256,7 +256,7 @@ module _ (one : Logged) (log : ℕ) where
     pub late : AllByRecursion (λ (e : Entry). is_before e one.entry ≡ false) behind
 
   taken_out : (readings : List Reading) (at k : ℕ) (reading : Reading) → log ≡ at + k → at + length readings ≤ 65536 → slice_get readings k ≡ Some reading → reading.given ≡ Some one
-      → AllByRecursion IsRead readings → NoneBefore least (heads_from at readings)
+      → AllByRecursion LogIsRead readings → NoneBefore least (heads_from at readings)
       → IsTakenOut readings (set readings k (after_next reading))
   taken_out [] at k reading place few there given are none = absurd (cc)
   taken_out (first ∷ rest) at zero reading place few there given are none =
@@ -295,7 +295,7 @@ module _ (one : Logged) (log : ℕ) where
 
 -- the merge without its first
 goes_on : (readings : List Reading) (heap : List (Reverse ℕ)) (head : Reverse ℕ) (k : ℕ) (reading : Reading) (one : Logged)
-    → IsOf head.0 readings 0 k reading one → AreHeads readings heap → IsUpperBound heap_cmp head heap → AllByRecursion IsRead readings → length readings ≤ 65536
+    → IsOf head.0 readings 0 k reading one → AreHeads readings heap → IsUpperBound heap_cmp head heap → AllByRecursion LogIsRead readings → length readings ≤ 65536
     → all_left readings ≡ one.entry ∷ all_left (set readings k (after_next reading))
 goes_on readings heap head k reading one is heads bound are few =
     let place : 0 + k ≡ k = omega arith in
@@ -340,18 +340,18 @@ heads_set f (first ∷ rest) at (suc k) reading after there =
           (heads_from (suc at) (set rest k after)),
     )
 
-read_set : (readings : List Reading) (k : ℕ) (after : Reading) → AllByRecursion IsRead readings → IsRead after → AllByRecursion IsRead (set readings k after)
+read_set : (readings : List Reading) (k : ℕ) (after : Reading) → AllByRecursion LogIsRead readings → LogIsRead after → AllByRecursion LogIsRead (set readings k after)
 read_set [] k after are is = tt
 read_set (first ∷ rest) zero after are is = (is, are.1)
 read_set (first ∷ rest) (suc k) after are is = (are.0, read_set rest k after are.1 is)
 
-read_at : (readings : List Reading) (k : ℕ) (reading : Reading) → slice_get readings k ≡ Some reading → AllByRecursion IsRead readings → IsRead reading
+read_at : (readings : List Reading) (k : ℕ) (reading : Reading) → slice_get readings k ≡ Some reading → AllByRecursion LogIsRead readings → LogIsRead reading
 read_at [] k reading there are = absurd (cc)
-read_at (first ∷ rest) zero reading there are = subst IsRead (same_Some first reading there) are.0
+read_at (first ∷ rest) zero reading there are = subst LogIsRead (same_Some first reading there) are.0
 read_at (first ∷ rest) (suc k) reading there are = read_at rest k reading there are.1
 
 -- the first of a list that ascends is read
-read_first : (given : Option Logged) (left : List Logged) → Ascends left → HasNode (front left) → IsRead (after_next (record { given = given; left = left }))
+read_first : (given : Option Logged) (left : List Logged) → Ascends left → HasNode (front left) → LogIsRead (after_next (record { given = given; left = left }))
 read_first given left ascends node = record { ends = ends left; ascends = rises left ascends; node = node }
   where
     ends : (left : List Logged) → front left ≡ None → behind left ≡ []
@@ -362,7 +362,7 @@ read_first given left ascends node = record { ends = ends left; ascends = rises 
     rises [] ascends = tt
     rises (first ∷ rest) ascends = ascends
 
-read_next : (reading : Reading) → IsRead reading → HasNode (front reading.left) → IsRead (after_next reading)
+read_next : (reading : Reading) → LogIsRead reading → HasNode (front reading.left) → LogIsRead (after_next reading)
 read_next reading is node = read_first reading.given reading.left (later reading.given is.ascends) node
   where
     later : (given : Option Logged) → Ascends (option_to_list given ++ reading.left) → Ascends reading.left
@@ -385,7 +385,7 @@ pub record Stands (readings : List Reading) (head : ℕ) : Type 0 where
   pub key : head ≡ key_of k one.entry
   pub few : k < 65536
 
-pub stands : (readings : List Reading) (heap rest : List (Reverse ℕ)) (head : Reverse ℕ) (size capacity : ℕ) → IsUnderWay readings heap size capacity
+pub stands : (readings : List Reading) (heap rest : List (Reverse ℕ)) (head : Reverse ℕ) (size capacity : ℕ) → StreamIsUnderWay readings heap size capacity
     → IsPermutation heap (head ∷ rest) → IsUpperBound heap_cmp head heap → Stands readings head.0
 stands readings heap rest head size capacity under popped bound =
     let has = head_found readings heap rest head under.heads popped in
@@ -402,9 +402,9 @@ stands readings heap rest head size capacity under popped bound =
 
 -- without the head of a log, which goes on, and with its next one
 pub goes_to_next : (readings : List Reading) (heap rest again : List (Reverse ℕ)) (head : Reverse ℕ) (after : Reading)
-    (size now capacity grown : ℕ) (at : Stands readings head.0) → IsUnderWay readings heap size capacity
+    (size now capacity grown : ℕ) (at : Stands readings head.0) → StreamIsUnderWay readings heap size capacity
     → IsPermutation heap (head ∷ rest) → IsHeap heap_cmp rest → GoesOn at.k at.reading after rest again → now ≤ size → capacity ≤ grown
-    → IsUnderWay (set readings at.k after) again now grown
+    → StreamIsUnderWay (set readings at.k after) again now grown
 goes_to_next readings heap rest again head after size now capacity grown at under popped order goes fewer more =
     let same = length-set readings at.k after in
     record {
@@ -423,7 +423,7 @@ goes_to_next readings heap rest again head after size now capacity grown at unde
                 (λ (reverse : Reverse ℕ). f reverse.0) head heap rest popped,
           );
       order = goes.joins.order order;
-      read = read_set readings at.k after under.read (subst IsRead (sym goes.reading_is) (read_next at.reading (read_at readings at.k at.reading at.there under.read) goes.node));
+      read = read_set readings at.k after under.read (subst LogIsRead (sym goes.reading_is) (read_next at.reading (read_at readings at.k at.reading at.there under.read) goes.node));
       count = omega (arith, fewer, under.count, same);
       room = omega (arith, under.room, more, same);
       few = omega (arith, under.few, same);
@@ -460,11 +460,11 @@ goes log reading after heap again entry reading_is entry_is joins node = record 
 }
 
 -- without a head nothing is left
-pub nothing_left : (readings : List Reading) (heap : List (Reverse ℕ)) → AllByRecursion IsRead readings → AreHeads readings heap → length heap ≡ 0
+pub nothing_left : (readings : List Reading) (heap : List (Reverse ℕ)) → AllByRecursion LogIsRead readings → AreHeads readings heap → length heap ≡ 0
     → all_left readings ≡ []
 nothing_left readings [] are heads none = ap in_order (nothing readings 0 are (sym (heads (λ (head : ℕ). 1))))
   where
-    nothing : (readings : List Reading) (at : ℕ) → AllByRecursion IsRead readings → weigh (λ (head : ℕ). 1) (heads_from at readings) ≡ 0
+    nothing : (readings : List Reading) (at : ℕ) → AllByRecursion LogIsRead readings → weigh (λ (head : ℕ). 1) (heads_from at readings) ≡ 0
         → entries_left readings ≡ []
     nothing [] at are none = refl
     nothing (first ∷ rest) at are none =
@@ -509,7 +509,7 @@ heads_push f (first ∷ rest) at reading =
       weigh-append f (head_in at first.given) (heads_from (suc at) rest),
     )
 
-read_push : (readings : List Reading) (reading : Reading) → AllByRecursion IsRead readings → IsRead reading → AllByRecursion IsRead (readings ++ reading ∷ [])
+read_push : (readings : List Reading) (reading : Reading) → AllByRecursion LogIsRead readings → LogIsRead reading → AllByRecursion LogIsRead (readings ++ reading ∷ [])
 read_push [] reading are is = (is, tt)
 read_push (first ∷ rest) reading are is = (are.0, read_push rest reading are.1 is)
 
@@ -519,10 +519,10 @@ head_there f log (Some logged) = refl
 
 -- one log more, of which the first entry has been read
 pub one_more : (readings : List Reading) (heap again : List (Reverse ℕ)) (size now capacity grown : ℕ) (log : List Logged) (reading : Reading)
-    (entry : Option Entry) → IsUnderWay readings heap size capacity → Ascends log
+    (entry : Option Entry) → StreamIsUnderWay readings heap size capacity → Ascends log
     → reading ≡ after_next (reading_of log) → entry ≡ option_map entry_of (front log) → Joins heap (heads_of (length readings) entry) again → now ≤ size + 1
     → length readings + 1 ≤ grown → length readings + 1 ≤ 65536 → HasNode (front log)
-    → IsUnderWay (readings ++ reading ∷ []) again now grown
+    → StreamIsUnderWay (readings ++ reading ∷ []) again now grown
 one_more readings heap again size now capacity grown log reading entry under ascends reading_is entry_is joins one room few node =
     let same = length-append readings (reading ∷ []) in
     record {
@@ -530,7 +530,7 @@ one_more readings heap again size now capacity grown log reading entry under asc
           let given : weigh f (head_in (0 + length readings) reading.given) ≡ weigh f (heads_of (length readings) entry) = own f log reading_is entry_is in
           omega (arith, heads_push f readings 0 reading, given, under.heads f, joins.counts f);
       order = joins.order under.order;
-      read = read_push readings reading under.read (subst IsRead (sym reading_is) (read_first None log ascends node));
+      read = read_push readings reading under.read (subst LogIsRead (sym reading_is) (read_first None log ascends node));
       count = omega (arith, same, one, under.count);
       room = omega (arith, same, room);
       few = omega (arith, same, few);
@@ -576,7 +576,7 @@ pub all_there : (readings : List Reading) (logs : List Written) (at : ℕ) → l
     → map left_of readings ≡ map (λ (one : Written). one.entries) (take at logs) → map left_of readings ≡ logged logs
 all_there readings logs at all so_far = so_far ∙ ap (map (λ (one : Written). one.entries)) (take_all at logs all)
 
-pub under_start : (heap : List (Reverse ℕ)) (size capacity : ℕ) → heap ≡ [] → size ≡ 0 → IsHeap heap_cmp heap → IsUnderWay [] heap size capacity
+pub under_start : (heap : List (Reverse ℕ)) (size capacity : ℕ) → heap ≡ [] → size ≡ 0 → IsHeap heap_cmp heap → StreamIsUnderWay [] heap size capacity
 under_start heap size capacity none no_size order = record {
   heads = λ f. ap (sum_by (λ (reverse : Reverse ℕ). f reverse.0)) none;
   order = order;

@@ -14,7 +14,7 @@ use Rattle.alw_msg.specs.Events.{node_of}
 use Rattle.alw_msg.specs.Lists.{front, behind}
 use Rattle.alw_model.specs.Threads.{Logged, Logs, log_at, merged}
 use Rattle.alw_cells.specs.Logs.{Reading, after_next, taken_of, sent_of, entry_of}
-use Rattle.alw_merge.specs.Streams.{left_of, all_left, heap_cmp, IsUnderWay, GoesOn, IsReadOff}
+use Rattle.alw_merge.specs.Streams.{left_of, all_left, heap_cmp, StreamIsUnderWay, GoesOn, EventIsReadOff}
 use Rattle.alw_merge.proofs.Merging.{Stands, stands, below, goes_to_next, left_merged, nothing_left}
 
 -- the head that is looked at is the first of the heap
@@ -39,7 +39,7 @@ pub taken_size : (popped : Option (Reverse ℕ)) (before after : ℕ) → 0 < be
 taken_size None before after some size none = absurd (omega (arith, some, none))
 taken_size (Some x) before after some size none = size
 
-module _ {readings : List Reading} {heap rest : List (Reverse ℕ)} {head : Reverse ℕ} {size capacity place : ℕ} (under : IsUnderWay readings heap size capacity)
+module _ {readings : List Reading} {heap rest : List (Reverse ℕ)} {head : Reverse ℕ} {size capacity place : ℕ} (under : StreamIsUnderWay readings heap size capacity)
     (popped : IsPermutation heap (head ∷ rest)) (bound : IsUpperBound heap_cmp head heap)
     (place_is : (others log : ℕ) → log < 65536 → head.0 ≡ others * 65536 + log → place ≡ log) where
   at : Stands readings head.0
@@ -86,10 +86,10 @@ module _ {readings : List Reading} {heap rest : List (Reverse ℕ)} {head : Reve
     entry_is = ap (option_map entry_of) given ∙ sym (ap front first)
 
     module _ {after : Reading} {again : List (Reverse ℕ)} (goes : GoesOn place reading after rest again) where
-      pub goes_on : {now grown : ℕ} → IsHeap heap_cmp rest → now ≤ size → capacity ≤ grown → IsUnderWay (set readings place after) again now grown
+      pub goes_on : {now grown : ℕ} → IsHeap heap_cmp rest → now ≤ size → capacity ≤ grown → StreamIsUnderWay (set readings place after) again now grown
       goes_on {now} {grown} order fewer more =
           let moved : GoesOn at.k at.reading after rest again = subst (λ (k : ℕ). GoesOn k at.reading after rest again) same (subst (λ (r : Reading). GoesOn place r after rest again) is goes) in
-          subst (λ (k : ℕ). IsUnderWay (set readings k after) again now grown) (sym same)
+          subst (λ (k : ℕ). StreamIsUnderWay (set readings k after) again now grown) (sym same)
           (goes_to_next readings heap rest again head after size now capacity grown at under popped order moved fewer more)
 
       pub left_is : merged (map left_of (set readings place after)) ≡ behind (merged (map left_of readings))
@@ -119,10 +119,10 @@ module _ {readings : List Reading} {heap rest : List (Reverse ℕ)} {head : Reve
 
       -- the event that was read
       pub next_is : {logs : Logs} {entry : Entry} {taken : Option Msg} {sends : List (ℕ × Msg)} → map left_of readings ≡ logs → Some entry ≡ option_map entry_of reading.given → taken ≡ taken_of reading.given → sends ≡ sent_of reading.given
-          → IsReadOff logs (record { log = place; entry = entry; taken = taken }) sends (map left_of (set readings place after))
+          → EventIsReadOff logs (record { log = place; entry = entry; taken = taken }) sends (map left_of (set readings place after))
       next_is {logs} {entry} {taken} {sends} view entry_is_its taken_is sent_is =
           let own : entry ≡ at.one.entry = same_Some entry at.one.entry (entry_is_its ∙ ap (option_map entry_of) given) in
-          subst (λ (all : Logs). IsReadOff all (record { log = place; entry = entry; taken = taken }) sends (map left_of (set readings place after))) view (record {
+          subst (λ (all : Logs). EventIsReadOff all (record { log = place; entry = entry; taken = taken }) sends (map left_of (set readings place after))) view (record {
             here = omega (arith, here, length-map readings left_of);
             entry = entry_is_its ∙ ap (option_map entry_of) (sym front_there);
             taken = taken_is ∙ ap taken_of (sym front_there);
@@ -133,5 +133,5 @@ module _ {readings : List Reading} {heap rest : List (Reverse ℕ)} {head : Reve
           })
 
 -- nothing is left without a head
-pub at_end : (readings : List Reading) (heap : List (Reverse ℕ)) (size capacity : ℕ) → IsUnderWay readings heap size capacity → length heap ≡ 0 → merged (map left_of readings) ≡ []
+pub at_end : (readings : List Reading) (heap : List (Reverse ℕ)) (size capacity : ℕ) → StreamIsUnderWay readings heap size capacity → length heap ≡ 0 → merged (map left_of readings) ≡ []
 at_end readings heap size capacity under none = sym (left_merged readings) ∙ nothing_left readings heap under.read under.heads none

@@ -33,14 +33,14 @@ use Rattle.alw_tally.specs.Told.{Told, told_of, told_with}
 use Rattle.alw_tally.specs.Tallies.{told_logged}
 use Rattle.alw_tally.proofs.Telling.{told_entry}
 use Rattle.alw_tally.proofs.Within.{SendsFew}
-use Rattle.alw_mesh.specs.Keeping.{after_taking, IsWithin}
+use Rattle.alw_mesh.specs.Keeping.{after_taking, NodesAreWithin}
 use Rattle.alw_mesh.proofs.Moves.{links_are_taken, links_are_sent, goes_below}
 use Rattle.alw_mesh.proofs.FewSent.{few_sent}
 use Rattle.alw_mesh.proofs.Joined.{next_is, one_more}
 use Rattle.alw_cells.specs.Logs.{taken_of, sent_of, entry_of}
 use Rattle.alw_merge.specs.declared.streams.Read.{Read}
-use Rattle.alw_merge.specs.Streams.{IsReadOff}
-use Rattle.alw_merge.specs.Joins.{Course, no_course, course_at, courses_of, course_of, dids_at, happened_at, AreOf, unheld, IsWalked, MayFollow, Follows}
+use Rattle.alw_merge.specs.Streams.{EventIsReadOff}
+use Rattle.alw_merge.specs.Joins.{Course, no_course, course_at, courses_of, course_of, dids_at, happened_at, LogsAreOfJournal, unheld, JournalIsWalked, MayFollow, Follows}
 use Rattle.alw_merge.proofs.Courses.{mine, with_first, course_first, course_other, moment_at}
 use Rattle.alw_merge.proofs.Joining.{courses_long, courses_read}
 
@@ -59,7 +59,7 @@ read_on course = record { left = behind course.left; dids = behind course.dids }
 pub record IsRead (image : Parts) (parameters : Parameters) (journal : List Entry) (i : ℕ) (courses : List Course) (traffic : Traffic) (told : Told) : Type 0 where
   pub counted : length courses ≡ node_count image
   pub each : (n : ℕ) → n < node_count image → course_at courses n ≡ course_of n (drop i (moments image parameters journal))
-  pub walked : IsWalked image parameters (take i journal) traffic told
+  pub walked : JournalIsWalked image parameters (take i journal) traffic told
 
 -- an event more is told
 told_more : (image : Parts) (told : Told) (moment : Moment) (rest : Course)
@@ -67,7 +67,7 @@ told_more : (image : Parts) (told : Told) (moment : Moment) (rest : Course)
 told_more image told moment rest = simp add-zero
 
 -- the nodes that an event names exist where it is enabled
-within_is : (image : Parts) (parameters : Parameters) (s : MachineState) (event : Event) → IsTrue (is_enabled image parameters s event) → IsWithin (node_count image) event
+within_is : (image : Parts) (parameters : Parameters) (s : MachineState) (event : Event) → IsTrue (is_enabled image parameters s event) → NodesAreWithin (node_count image) event
 within_is image parameters s (Instr at) enabled = tt
 within_is image parameters s (Handle at) enabled = tt
 within_is image parameters s (Evict at emptied) enabled = tt
@@ -201,7 +201,7 @@ pub record IsMerging (image : Parts) (parameters : Parameters) (journal so_far :
   pub read : IsRead image parameters journal (length so_far) (courses_of logs dids) traffic told
 
 module _ {image : Parts} {parameters : Parameters} {journal : List Entry} (allowed : IsImage image) (legal : IsLegal image parameters journal) {so_far : List Entry} {logs logs' : Logs} {dids : List (List Did)}
-    {traffic : Traffic} {told : Told} (merging : IsMerging image parameters journal so_far logs dids traffic told) {read : Read} {sends : List (ℕ × Msg)} (next : IsReadOff logs read sends logs') where
+    {traffic : Traffic} {told : Told} (merging : IsMerging image parameters journal so_far logs dids traffic told) {read : Read} {sends : List (ℕ × Msg)} (next : EventIsReadOff logs read sends logs') where
   abbrev i : ℕ
   i = length so_far
 
@@ -259,7 +259,7 @@ module _ {image : Parts} {parameters : Parameters} {journal : List Entry} (allow
       }
 
 -- nothing has been read yet
-pub begins : (image : Parts) (parameters : Parameters) (journal : List Entry) (courses : List Course) (traffic : Traffic) (told : Told) → AreOf image parameters journal courses
+pub begins : (image : Parts) (parameters : Parameters) (journal : List Entry) (courses : List Course) (traffic : Traffic) (told : Told) → LogsAreOfJournal image parameters journal courses
     → traffic.nodes ≡ node_count image → traffic.links ≡ replicate (traffic.nodes * traffic.nodes) [] → ((parts : Parts) → told ≡ told_of parts []) → IsRead image parameters journal 0 courses traffic told
 unfolding moments state
 begins image parameters journal courses traffic told are nodes links told_is = record {
@@ -268,7 +268,7 @@ begins image parameters journal courses traffic told are nodes links told_is = r
   walked = record { nodes_are = nodes; links_are = links ∙ ap (λ count. replicate {A = List Msg} (count * count) []) nodes; told_is = told_is image };
 }
 
-pub merging_begins : (image : Parts) (parameters : Parameters) (logs : Logs) (dids : List (List Did)) (traffic : Traffic) (told : Told) → length dids ≡ length logs → AreOf image parameters (merged logs) (courses_of logs dids)
+pub merging_begins : (image : Parts) (parameters : Parameters) (logs : Logs) (dids : List (List Did)) (traffic : Traffic) (told : Told) → length dids ≡ length logs → LogsAreOfJournal image parameters (merged logs) (courses_of logs dids)
     → traffic.nodes ≡ node_count image → traffic.links ≡ replicate (traffic.nodes * traffic.nodes) [] → ((parts : Parts) → told ≡ told_of parts []) → IsMerging image parameters (merged logs) [] logs dids traffic told
 merging_begins image parameters logs dids traffic told as_many are nodes links told_is = record {
   front_is = refl;
@@ -279,7 +279,7 @@ merging_begins image parameters logs dids traffic told as_many are nodes links t
 
 -- all has been read
 pub merging_ends : (image : Parts) (parameters : Parameters) (journal so_far : List Entry) (logs : Logs) (dids : List (List Did)) (traffic : Traffic) (told : Told) → merged logs ≡ []
-    → IsMerging image parameters journal so_far logs dids traffic told → (so_far ≡ journal) × IsWalked image parameters journal traffic told
+    → IsMerging image parameters journal so_far logs dids traffic told → (so_far ≡ journal) × JournalIsWalked image parameters journal traffic told
 merging_ends image parameters journal so_far logs dids traffic told none merging =
     let past : length journal ≤ length so_far = omega (arith, length-drop (length so_far) journal, ap length (sym merging.left_is ∙ none)) in
-    (merging.front_is ∙ take_all (length so_far) journal past, subst (λ (es : List Entry). IsWalked image parameters es traffic told) (take_all (length so_far) journal past) merging.read.walked)
+    (merging.front_is ∙ take_all (length so_far) journal past, subst (λ (es : List Entry). JournalIsWalked image parameters es traffic told) (take_all (length so_far) journal past) merging.read.walked)

@@ -22,7 +22,7 @@ use Rattle.alw_tally.specs.declared.happenings.Happened.{Happened}
 use Rattle.alw_tally.specs.Told.{Told, told_of}
 use Rattle.alw_tally.specs.Tallies.{told_logged}
 use Rattle.alw_node.specs.Nodes.{Whole}
-use Rattle.alw_mesh.specs.Keeping.{after_taking, IsWithin}
+use Rattle.alw_mesh.specs.Keeping.{after_taking, NodesAreWithin}
 use Rattle.alw_merge.specs.declared.streams.Read.{Read}
 
 -- the slots with a hold, at all of some nodes
@@ -69,7 +69,7 @@ abbrev pub course_of : ℕ → List Moment → Course
 course_of n run = record { left = log_in n run; dids = map (λ (moment : Moment). moment.stepped.did) (filter (λ (moment : Moment). number_of moment == n) run) }
 
 -- each node's log and what its events did are those of a legal journal
-pub record AreOf (image : Parts) (parameters : Parameters) (journal : List Entry) (courses : List Course) : Type 0 where
+pub record LogsAreOfJournal (image : Parts) (parameters : Parameters) (journal : List Entry) (courses : List Course) : Type 0 where
   pub legal : IsLegal image parameters journal
   pub counted : length courses ≡ node_count image
   pub each : (n : ℕ) → n < node_count image → course_at courses n ≡ course_of n (moments image parameters journal)
@@ -79,7 +79,7 @@ abbrev pub unheld : Told → Told
 unheld told = record told { counts = record told.counts { used = 0 }; trap = None }
 
 -- links and what is told are those of a journal
-pub record IsWalked (image : Parts) (parameters : Parameters) (journal : List Entry) (traffic : Traffic) (told : Told) : Type 0 where
+pub record JournalIsWalked (image : Parts) (parameters : Parameters) (journal : List Entry) (traffic : Traffic) (told : Told) : Type 0 where
   pub nodes_are : traffic.nodes ≡ node_count image
   pub links_are : traffic.links ≡ (state image parameters journal).links
   pub told_is : told ≡ unheld (told_of image (moments image parameters journal))
@@ -87,7 +87,7 @@ pub record IsWalked (image : Parts) (parameters : Parameters) (journal : List En
 -- an event may be read off its node's log: what it did is there, and it names nodes that exist, as its messages do
 pub record MayFollow (nodes : ℕ) (event : Event) (sends : List (ℕ × Msg)) (dids : List Did) : Type 0 where
   pub sender : node_of event < nodes
-  pub within : IsWithin nodes event
+  pub within : NodesAreWithin nodes event
   pub did : 1 ≤ length dids
   pub few : length sends ≤ MOST_NODES
   pub go : All (λ (send : ℕ × Msg). send.0 < nodes) sends

@@ -39,7 +39,7 @@ heads_from log [] = []
 heads_from log (reading ∷ rest) = head_in log reading.given ++ heads_from (suc log) rest
 
 -- a log is at its end where it has no head, its stamps ascend, and the node of its head has 16 bits
-pub record IsRead (reading : Reading) : Type 0 where
+pub record LogIsRead (reading : Reading) : Type 0 where
   pub ends : reading.given ≡ None → reading.left ≡ []
   pub ascends : Ascends (left_of reading)
   pub node : IfSome reading.given (λ logged. node_of (entry_of logged).event < 65536)
@@ -53,10 +53,10 @@ abbrev pub heap_cmp : Reverse ℕ → Reverse ℕ → Ordering
 heap_cmp one other = nat_cmp other.0 one.0
 
 -- logs that are read, with their heads in a heap that has room for one of each
-pub record IsUnderWay (readings : List Reading) (heap : List (Reverse ℕ)) (size capacity : ℕ) : Type 0 where
+pub record StreamIsUnderWay (readings : List Reading) (heap : List (Reverse ℕ)) (size capacity : ℕ) : Type 0 where
   pub heads : AreHeads readings heap
   pub order : IsHeap heap_cmp heap
-  pub read : AllByRecursion IsRead readings
+  pub read : AllByRecursion LogIsRead readings
   pub count : size ≤ length readings
   pub room : length readings ≤ capacity
   pub few : length readings ≤ 65536
@@ -79,7 +79,7 @@ pub record GoesOn (log : ℕ) (reading reading' : Reading) (heap heap' : List (R
 -- ---- an event of the merge
 
 -- the first event of what is left of a log comes next in the merge, and was read off it
-pub record IsReadOff (logs : Logs) (read : Read) (sends : List (ℕ × Msg)) (logs' : Logs) : Type 0 where
+pub record EventIsReadOff (logs : Logs) (read : Read) (sends : List (ℕ × Msg)) (logs' : Logs) : Type 0 where
   pub here : read.log < length logs
   pub entry : Some read.entry ≡ option_map entry_of (front (log_at logs read.log))
   pub taken : read.taken ≡ taken_of (front (log_at logs read.log))
@@ -90,4 +90,4 @@ pub record IsReadOff (logs : Logs) (read : Read) (sends : List (ℕ × Msg)) (lo
 -- the next event of the merge was read, or there is none
 abbrev pub Reads : Logs → Option Read → List (ℕ × Msg) → Logs → Type 0
 Reads logs None sends logs' = merged logs ≡ []
-Reads logs (Some read) sends logs' = IsReadOff logs read sends logs'
+Reads logs (Some read) sends logs' = EventIsReadOff logs read sends logs'

@@ -1,6 +1,6 @@
 ghost use Rattle.std.specs.Prelude.{◌≡◌, ◌≤◌, IfOk};
 ghost use Rattle.alw_model.specs.Threads.{merged};
-ghost use Rattle.alw_cells.specs.Leaving.{IsWorked};
+ghost use Rattle.alw_cells.specs.Leaving.{LogsAreWorked};
 ghost use Rattle.alw_cells.specs.Logs.{logged};
 ghost use Rattle.alw_mesh.specs.declared.errors.TheConstants.{MOST_STEPS};
 ghost use Rattle.alw_mesh.specs.Histories.{stamps_of, joined_of};
@@ -25,7 +25,7 @@ pub fn join(
     worked: Worked,
 ) -> Result<Machine, NoMemory>
     requires fits { stamps_of image.now params.now ≤ MOST_STEPS }
-    requires worked { IsWorked image.now params.now worked }
+    requires worked { LogsAreWorked image.now params.now worked }
     ensures { IfOk result (λ machine. machine ≡ joined_of image.now params.now (merged (logged worked.logs))) }
 {
     let _allowed = image.parts();

@@ -38,13 +38,13 @@ impl<'a> Model for Stream<'a> {
     ghost use Rattle.std.specs.Prelude.{map};
     ghost use Rattle.std.specs.BinaryHeap.{heap_items, heap_len, heap_capacity};
     ghost use Rattle.alw_model.specs.Threads.{Logs};
-    ghost use Rattle.alw_merge.specs.Streams.{left_of, IsUnderWay};
+    ghost use Rattle.alw_merge.specs.Streams.{left_of, StreamIsUnderWay};
 
     ghost Value = { Logs };
 
     ghost view = { λ s. map left_of s.readings.items };
 
-    ghost invariant = { λ s. IsUnderWay s.readings.items (heap_items s.heads) (heap_len s.heads) (heap_capacity s.heads) };
+    ghost invariant = { λ s. StreamIsUnderWay s.readings.items (heap_items s.heads) (heap_len s.heads) (heap_capacity s.heads) };
 }
 
 impl<'a> Stream<'a> {

@@ -5,9 +5,9 @@ ghost use Rattle.alw_msg.specs.Events.{node_of};
 ghost use Rattle.alw_model.specs.Threads.{merged};
 ghost use Rattle.alw_cells.specs.Logs.{logged};
 ghost use Rattle.alw_links.specs.Traffic.{link_in, links_with_all};
-ghost use Rattle.alw_mesh.specs.Keeping.{IsWithin, after_taking};
+ghost use Rattle.alw_mesh.specs.Keeping.{NodesAreWithin, after_taking};
 ghost use Rattle.alw_msg.specs.Lists.{behind};
-ghost use Rattle.alw_merge.specs.Joins.{courses_of, next_did, dids_at, AreOf, IsWalked, MayFollow, Follows};
+ghost use Rattle.alw_merge.specs.Joins.{courses_of, next_did, dids_at, LogsAreOfJournal, JournalIsWalked, MayFollow, Follows};
 
 use crate::merges::stream;
 use crate::streams::Read;
@@ -71,9 +71,9 @@ pub fn walk(
     dids: &DidLists,
 ) -> Result<Walked, NoMemory>
     requires counted { length dids.now ≡ length logs.now }
-    requires read { AreOf image.now params.now (merged (logged logs.now)) (courses_of (logged logs.now) dids.now) }
+    requires read { LogsAreOfJournal image.now params.now (merged (logged logs.now)) (courses_of (logged logs.now) dids.now) }
     ensures journal { IfOk result (λ walked. walked.journal ≡ merged (logged logs.now)) }
-    ensures walked { IfOk result (λ walked. IsWalked image.now params.now (merged (logged logs.now)) walked.links walked.tally.told) }
+    ensures walked { IfOk result (λ walked. JournalIsWalked image.now params.now (merged (logged logs.now)) walked.links walked.tally.told) }
 {
     let _allowed = image.parts();
     let mut events = stream(alloc, logs)?;
@@ -155,7 +155,7 @@ fn send_all(links: &mut Links, from: NodeNo, sends: &[(u16, Msg)]) -> Result<(),
 
 // A delivery takes the head off its link.
 fn take_off(links: &mut Links, event: Event)
-    requires { IsWithin links.old.nodes event }
+    requires { NodesAreWithin links.old.nodes event }
     ensures { links.new ≡ after_taking links.old event }
 {
     if let Event::Deliver { from, to } = event {

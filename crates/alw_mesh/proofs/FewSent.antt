@@ -41,7 +41,7 @@ use Rattle.law_lines.proofs.Steps.{enabled_is}
 use Rattle.law_order.proofs.Aims.{NodeAims, every_at}
 use Rattle.law_order.proofs.Aimed.{IsAimed, start_aimed, step_aimed, sends_below}
 use Rattle.alw_tally.specs.Told.{told_of}
-use Rattle.alw_tally.specs.Tallies.{IsWithin}
+use Rattle.alw_tally.specs.Tallies.{EventIsWithin}
 use Rattle.alw_tally.proofs.Within.{SendsFew, within}
 use Rattle.alw_mesh.proofs.OneNode.{few_nodes}
 
@@ -226,5 +226,5 @@ few_sent parts parameters is journal legal = all_few parts parameters (few_nodes
 
 -- what it tells fits a tally
 pub told_within : (parts : Parts) (parameters : Parameters) → IsImage parts → (journal : List Entry) → IsLegal parts parameters journal → length (moments parts parameters journal) < 4294967296
-    → IsWithin (told_of parts (moments parts parameters journal))
+    → EventIsWithin (told_of parts (moments parts parameters journal))
 told_within parts parameters is journal legal short = within parts (moments parts parameters journal) short (few_sent parts parameters is journal legal)

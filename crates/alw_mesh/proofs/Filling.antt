@@ -5,7 +5,7 @@ use Rattle.std.proofs.lemmas.Option.{same_Some, get_or_from_slice_get}
 use Rattle.alw_msg.specs.declared.messages.Msg.{Msg}
 use Rattle.alw_model.specs.NodeStates.{NodeState}
 use Rattle.alw_links.specs.Traffic.{Traffic, place_of, links_with}
-use Rattle.alw_mesh.specs.Joins.{IsLinked, links_put}
+use Rattle.alw_mesh.specs.Joins.{LinksHaveMessages, links_put}
 
 -- ---- one link
 
@@ -71,8 +71,8 @@ filled_all (first ∷ rest) (suc i) l = ap (λ (xs : List (List Msg)). first ∷
 pub fills : (nodes : ℕ) (lists : List (List Msg)) → length lists ≡ nodes * nodes → replicate (nodes * nodes) [] ≡ filled zero lists
 fills nodes lists long = ap (λ n. replicate {A = List Msg} n []) (sym long) ∙ filled_none lists
 
-pub fills_more : (nodes : ℕ) (lists : List (List Msg)) (now next : Traffic) (i from to : ℕ) (list : List Msg) → IsLinked nodes (filled i lists) now → slice_get lists i ≡ Some list
-    → from * nodes + to ≡ i → next.nodes ≡ now.nodes → next.links ≡ links_put now.nodes now.links from to list → IsLinked nodes (filled (i + 1) lists) next
+pub fills_more : (nodes : ℕ) (lists : List (List Msg)) (now next : Traffic) (i from to : ℕ) (list : List Msg) → LinksHaveMessages nodes (filled i lists) now → slice_get lists i ≡ Some list
+    → from * nodes + to ≡ i → next.nodes ≡ now.nodes → next.links ≡ links_put now.nodes now.links from to list → LinksHaveMessages nodes (filled (i + 1) lists) next
 fills_more nodes lists now next i from to list is here place same put = record {
   nodes_are = same ∙ is.nodes_are;
   links_are =
@@ -80,5 +80,5 @@ fills_more nodes lists now next i from to list is here place same put = record {
       ∙ (ap (λ (p : ℕ). set (filled i lists) p (get_or (filled i lists) p [] ++ list)) place ∙ filled_more lists i list here));
 }
 
-pub fills_all : (nodes : ℕ) (lists : List (List Msg)) (now : Traffic) (i : ℕ) → IsLinked nodes (filled i lists) now → length lists ≤ i → IsLinked nodes lists now
+pub fills_all : (nodes : ℕ) (lists : List (List Msg)) (now : Traffic) (i : ℕ) → LinksHaveMessages nodes (filled i lists) now → length lists ≤ i → LinksHaveMessages nodes lists now
 fills_all nodes lists now i is past = record { nodes_are = is.nodes_are; links_are = is.links_are ∙ filled_all lists i past }

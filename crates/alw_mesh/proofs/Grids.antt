@@ -25,10 +25,10 @@ use Rattle.alw_ready.specs.Changes.{changes_holds}
 use Rattle.alw_tally.specs.declared.remains.Remains.{Remains}
 use Rattle.alw_tally.specs.Remaining.{remains_of, remains_after, MayFollow, AreFew}
 use Rattle.alw_tally.proofs.Following.{remains_are, may_follow}
-use Rattle.alw_node.specs.Nodes.{Whole, IsGiven}
+use Rattle.alw_node.specs.Nodes.{Whole, MessageIsGiven}
 use Rattle.alw_mesh.specs.declared.stepping.Acted.{Acted}
 use Rattle.alw_mesh.specs.Grids.{Happens}
-use Rattle.alw_mesh.specs.Keeping.{machine_of, no_whole, whole_in, IsOf, AreNodes, IsGrid, taken_from, after_taking, HasTrapPc, may_act, acted_by, Acts}
+use Rattle.alw_mesh.specs.Keeping.{machine_of, no_whole, whole_in, NodeIsOf, AreNodes, IsGrid, taken_from, after_taking, HasTrapPc, may_act, acted_by, Acts}
 use Rattle.alw_mesh.proofs.Turning.{left_step, used_is, pc_is}
 use Rattle.alw_mesh.proofs.OneNode.{state_at, enabled_there, step_there}
 use Rattle.alw_mesh.proofs.Moves.{taken_is, links_are_taken, taking_keeps_nodes, taking_keeps_room, links_are_sent, goes_below, given}
@@ -54,7 +54,7 @@ module _ {image : Parts} {parameters : Parameters} {nodes : List Whole} {traffic
   pub is_kept : at < length nodes
   is_kept = rw grid.nodes_are.counted exists
 
-  own_of : IsOf image parameters at own
+  own_of : NodeIsOf image parameters at own
   own_of = grid.nodes_are.each at exists
 
   own_state : own.state ≡ node_at here at
@@ -66,8 +66,8 @@ module _ {image : Parts} {parameters : Parameters} {nodes : List Whole} {traffic
   pub node_may : may_act own event head ≡ true
   node_may = enabled_there image parameters at own own_of event head ∙ ((λ i. is_enabled_at image parameters at (own_state i) event (head_is i)) ∙ enabled)
 
-  pub node_given : IsGiven event head
-  node_given = subst (IsGiven event) (sym head_is) (given image here event)
+  pub node_given : MessageIsGiven event head
+  node_given = subst (MessageIsGiven event) (sym head_is) (given image here event)
 
   pub nodes_counted : node_count own.parts ≡ node_count image
   nodes_counted = ap node_count own_of.share
@@ -102,7 +102,7 @@ module _ {image : Parts} {parameters : Parameters} {nodes : List Whole} {traffic
   remains_next = (λ i. remains_after (grid.remains_are i) event (stepped_is i).did)
       ∙ (sym (remains_are image parameters here event grid.aimed.nodes enabled) ∙ sym (ap (λ (m : MachineState). remains_of m.nodes) machine_is))
 
-  next_of : IsOf image parameters at next
+  next_of : NodeIsOf image parameters at next
   next_of = record { number = own_of.number; share = own_of.share; parameters_are = own_of.parameters_are }
 
   grid_next : IsGrid image parameters (set nodes at next) traffic_next (remains_after remains event stepped.did)
@@ -110,8 +110,8 @@ module _ {image : Parts} {parameters : Parameters} {nodes : List Whole} {traffic
     image_is = grid.image_is;
     nodes_are = record {
       counted = length-set nodes at next ∙ grid.nodes_are.counted;
-      each = λ n l. subst (IsOf image parameters n) (sym (read_set nodes at next no_whole n is_kept))
-          (at_nodes (λ j w. j < node_count image → IsOf image parameters j w) (whole_in nodes) at next (λ _. next_of) (λ j other. grid.nodes_are.each j) n l);
+      each = λ n l. subst (NodeIsOf image parameters n) (sym (read_set nodes at next no_whole n is_kept))
+          (at_nodes (λ j w. j < node_count image → NodeIsOf image parameters j w) (whole_in nodes) at next (λ _. next_of) (λ j other. grid.nodes_are.each j) n l);
     };
     links_are = taken_nodes;
     aimed = subst (IsAimed image) (sym machine_is) (step_aimed image parameters here event enabled grid.aimed);

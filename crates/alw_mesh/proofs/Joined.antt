@@ -22,20 +22,20 @@ use Rattle.alw_links.specs.Traffic.{Traffic}
 use Rattle.alw_tally.specs.declared.remains.Remains.{Remains}
 use Rattle.alw_tally.specs.Remaining.{remains_of}
 use Rattle.alw_tally.specs.Told.{Told, told_of}
-use Rattle.alw_tally.specs.Tallies.{Tallied, IsWithin}
+use Rattle.alw_tally.specs.Tallies.{Tallied, EventIsWithin}
 use Rattle.alw_ready.specs.declared.rows.Row.{Row}
 use Rattle.alw_ready.specs.Fits.{RowsFit}
 use Rattle.alw_node.specs.Nodes.{Whole}
 use Rattle.alw_mesh.specs.Grids.{Grid}
 use Rattle.alw_mesh.specs.Histories.{History, IsRun, state_of, entry_of, grown, stamps_of, may_be_next, sent_last, last_sends, joined_of}
 use Rattle.alw_mesh.specs.Keeping.{machine_of, AreNodes, IsGrid, IsMachine}
-use Rattle.alw_mesh.specs.Joins.{IsLinked, IsGridOf, AreJoined, states_of}
+use Rattle.alw_mesh.specs.Joins.{LinksHaveMessages, IsGridOf, PartsAreJoined, states_of}
 use Rattle.alw_mesh.proofs.FewSent.{told_within}
 use Rattle.alw_mesh.proofs.Journals.{journal_fits, moments_long}
 
 -- ---- nodes and links
 
-module _ (image : Parts) (parameters : Parameters) (nodes items : List Whole) (lists : List (List Msg)) (traffic : Traffic) (same : items ≡ nodes) (linked : IsLinked (node_count image) lists traffic) where
+module _ (image : Parts) (parameters : Parameters) (nodes items : List Whole) (lists : List (List Msg)) (traffic : Traffic) (same : items ≡ nodes) (linked : LinksHaveMessages (node_count image) lists traffic) where
   pub machine_joined : machine_of items traffic.links ≡ machine_of nodes lists
   machine_joined = λ i. machine_of (same i) (linked.links_are i)
 
@@ -60,10 +60,10 @@ module _ (image : Parts) (parameters : Parameters) (journal : List Entry) (run :
     pub told_joined : ◌≡◌ {A = Told} (record { turns = turns; prints = prints; counts = counts; trap = trap }) (told_of image (moments image parameters journal))
     told_joined = λ i. record { turns = turns_are i; prints = prints_are i; counts = counts_are i; trap = trap_is i }
 
-    pub within_joined : IsWithin (record { turns = turns; prints = prints; counts = counts; trap = trap })
+    pub within_joined : EventIsWithin (record { turns = turns; prints = prints; counts = counts; trap = trap })
     within_joined =
         let long = moments_long image parameters journal in
-        subst IsWithin (sym told_joined) (told_within image parameters run.image journal run.legal (omega (arith, long, journal_fits (joined_of image parameters journal) run)))
+        subst EventIsWithin (sym told_joined) (told_within image parameters run.image journal run.legal (omega (arith, long, journal_fits (joined_of image parameters journal) run)))
 
   -- it has sent nothing yet
   pub nothing_sent : [] ≡ last_sends (joined_of image parameters journal)
@@ -74,14 +74,14 @@ run_joined image parameters journal is are fits legal = record { image = is; par
 
 -- the parts that a machine is made of, over the image and the parameters that they were made from
 pub parts_joined : {grid : Grid} {told : Told} (image : Parts) (parameters : Parameters) (journal : List Entry) (machine : MachineState) → IsGridOf image parameters machine grid → IsRun (joined_of image parameters journal)
-    → machine ≡ state image parameters journal → told ≡ told_of image (moments image parameters journal) → AreJoined grid journal told
+    → machine ≡ state image parameters journal → told ≡ told_of image (moments image parameters journal) → PartsAreJoined grid journal told
 parts_joined {grid = grid} {told = told} image parameters journal machine of run state_is told_is =
     let plain : Grid = record { image = image; parameters = parameters; machine = machine; room = grid.room } in
     let grid_is : grid ≡ plain = λ i. record { image = of.image_is i; parameters = of.parameters_are i; machine = of.machine_is i; room = grid.room } in
-    let joined : AreJoined plain journal told = record { run = run; state_is = state_is; told_is = told_is } in
-    subst (λ (g : Grid). AreJoined g journal told) (sym grid_is) joined
+    let joined : PartsAreJoined plain journal told = record { run = run; state_is = state_is; told_is = told_is } in
+    subst (λ (g : Grid). PartsAreJoined g journal told) (sym grid_is) joined
 
-pub machine_joins : {grid : Grid} {sent : Sending} {tally : Tallied} {ready : List Row} (journal : List Entry) (joined : ℕ) → AreJoined grid journal tally.told
+pub machine_joins : {grid : Grid} {sent : Sending} {tally : Tallied} {ready : List Row} (journal : List Entry) (joined : ℕ) → PartsAreJoined grid journal tally.told
     → joined ≡ length journal → sent.room ≡ node_count grid.image → sent.messages ≡ [] → RowsFit grid.image grid.parameters grid.machine ready → IsMachine grid journal joined sent tally ready
 machine_joins {grid = grid} {sent = sent} {tally = tally} {ready = ready} journal joined are all room empty rows =
     subst (λ n. IsMachine grid journal n sent tally ready) (sym all) (record {

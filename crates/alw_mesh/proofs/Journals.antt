@@ -29,7 +29,7 @@ use Rattle.alw_ready.specs.declared.changes.Happened as changes
 use Rattle.alw_ready.specs.declared.rows.Row.{Row}
 use Rattle.alw_ready.specs.Rows.{events_of}
 use Rattle.alw_ready.specs.Fits.{may_happen, RowsFit}
-use Rattle.alw_ready.specs.Changes.{is_wide, is_wide_event, IsTold}
+use Rattle.alw_ready.specs.Changes.{is_wide, is_wide_event, EventIsTold}
 use Rattle.alw_ready.proofs.MainEvents.{filter_main}
 use Rattle.alw_mesh.specs.declared.stepping.Happening.{Happening}
 use Rattle.alw_mesh.specs.Grids.{Grid, grid_start, Happens}
@@ -72,12 +72,12 @@ last_push h within event =
 
 -- what a tally is told more
 abbrev pub Adds : Parts → Tallied → Tallied → Happened → List (ℕ × Msg) → Type 0
-Adds image before after happened sends = (moment : Moment) → tellings.IsOf happened sends moment → after.told ≡ told_with image before.told moment
+Adds image before after happened sends = (moment : Moment) → tellings.HappeningIsOf happened sends moment → after.told ≡ told_with image before.told moment
 
 -- what rows are made of others, over a machine after an event
 abbrev pub Renews : Grid → List Row → List Row → changes.Happened → List (ℕ × Msg) → Type 0
 Renews after rows rows' change sends = (journal : List Entry) → IsLegal after.image after.parameters journal
-    → IsTold after.image after.parameters (state after.image after.parameters journal) after.machine change sends
+    → EventIsTold after.image after.parameters (state after.image after.parameters journal) after.machine change sends
     → RowsFit after.image after.parameters (state after.image after.parameters journal) rows → RowsFit after.image after.parameters after.machine rows'
 
 module _ {grid : Grid} {journal : List Entry} {joined : ℕ} {sent : Sending} {tally : Tallied} {ready : List Row} (is : IsMachine grid journal joined sent tally ready) where
@@ -143,7 +143,7 @@ module _ {grid : Grid} {journal : List Entry} {joined : ℕ} {sent : Sending} {t
 
       -- what the rows are told
       told_is : (wide flips : Bool) → wide ≡ is_wide happening.told.did happening.told.taken happening.changes_holds → flips ≡ (not (has_halted grid.machine) && has_halted after.machine)
-          → IsTold grid.image grid.parameters (state_of here) after.machine (record { event = event; wide = wide; halted = flips }) sent'.messages
+          → EventIsTold grid.image grid.parameters (state_of here) after.machine (record { event = event; wide = wide; halted = flips }) sent'.messages
       told_is wide flips wide_is flips_is =
           let of = happens.told 0 in
           let wide_so : wide ≡ is_wide_event grid.image grid.parameters grid.machine event = wide_is ∙ (λ i. is_wide (of.did i) (of.taken i) (happens.holds i)) in
@@ -216,7 +216,7 @@ module _ {grid : Grid} {journal : List Entry} {joined : ℕ} {sent : Sending} {t
               let fits = subst (λ (m : MachineState). RowsFit grid.image grid.parameters m ready) is.state_is is.rows in
               renews journal
               (subst (λ (p : Parts × Parameters). IsLegal p.0 p.1 journal) same is.run.legal)
-              (subst (λ (p : Parts × Parameters). IsTold p.0 p.1 (state p.0 p.1 journal) after.machine change sent'.messages) same told)
+              (subst (λ (p : Parts × Parameters). EventIsTold p.0 p.1 (state p.0 p.1 journal) after.machine change sent'.messages) same told)
               (subst (λ (p : Parts × Parameters). RowsFit p.0 p.1 (state p.0 p.1 journal) ready) same fits)
             where
               same : ◌≡◌ {A = Parts × Parameters} (grid.image, grid.parameters) (after.image, after.parameters)

@@ -11,7 +11,7 @@ use Rattle.alw_image.specs.Images.{node_count}
 use Rattle.alw_model.specs.Machine.{MachineState, taken_by, links_taken, links_sent}
 use Rattle.law_lines.specs.Links.{GoBelow}
 use Rattle.alw_links.specs.Traffic.{Traffic, links_with_all}
-use Rattle.alw_node.specs.Nodes.{IsGiven}
+use Rattle.alw_node.specs.Nodes.{MessageIsGiven}
 use Rattle.alw_mesh.specs.Keeping.{taken_from, after_taking}
 
 module _ (image : Parts) (machine : MachineState) (traffic : Traffic) (nodes_are : traffic.nodes ≡ node_count image) (links_are : machine.links ≡ traffic.links) where
@@ -54,7 +54,7 @@ goes_below n (send ∷ rest) below zero d l = below.0
 goes_below n (send ∷ rest) below (suc k) d l = goes_below n rest below.1 k d (omega (arith, l))
 
 -- only a delivery takes a message
-pub given : (image : Parts) (machine : MachineState) (event : Event) → IsGiven event (taken_by image machine event)
+pub given : (image : Parts) (machine : MachineState) (event : Event) → MessageIsGiven event (taken_by image machine event)
 given image machine (Instr at) = tt
 given image machine (Handle at) = tt
 given image machine (Evict at set) = tt

@@ -21,7 +21,7 @@ use Rattle.alw_node.specs.Nodes.{Whole, Steps}
 use Rattle.alw_node.proofs.KeptMembers.{enabled_same, step_same}
 use Rattle.alw_mesh.specs.declared.stepping.Acted.{Acted}
 use Rattle.alw_mesh.proofs.Turning.{Left, left_step, none_given}
-use Rattle.alw_mesh.specs.Keeping.{machine_of, no_whole, whole_in, IsOf, AreNodes, HasTrapPc, acted_by, Acts}
+use Rattle.alw_mesh.specs.Keeping.{machine_of, no_whole, whole_in, NodeIsOf, AreNodes, HasTrapPc, acted_by, Acts}
 
 -- the home of a line exists
 pub home_exists : (image : Parts) → IsImage image → (line per_node home : ℕ) → per_node ≡ image.per_node → home ≡ line / per_node → line < line_count image → home < node_count image
@@ -40,7 +40,7 @@ module _ (image : Parts) (parameters : Parameters) where
   pub node_read : (nodes : List Whole) → AreNodes image parameters nodes → (n : ℕ) (whole : Whole) → n < node_count image → whole ≡ get_or nodes n whole → whole ≡ whole_in nodes n
   node_read nodes are n whole here is = let l : n < length nodes = rw are.counted here in get_or_read nodes n whole l is no_whole
 
-  module _ (n : ℕ) (whole : Whole) (of : IsOf image parameters n whole) (event : Event) (head : Option Msg) where
+  module _ (n : ℕ) (whole : Whole) (of : NodeIsOf image parameters n whole) (event : Event) (head : Option Msg) where
     pub enabled_there : is_enabled_at whole.parts whole.parameters whole.number whole.state event head ≡ is_enabled_at image parameters n whole.state event head
     enabled_there = (λ i. is_enabled_at (of.share i) (of.parameters_are i) (of.number i) whole.state event head) ∙ enabled_same image n parameters n whole.state event head
 

@@ -13,7 +13,7 @@ use Rattle.alw_links.specs.Traffic.{Traffic}
 use Rattle.alw_tally.specs.declared.remains.Remains.{Remains}
 use Rattle.alw_tally.specs.Remaining.{remains_of}
 use Rattle.alw_node.specs.Nodes.{Whole, whole_start}
-use Rattle.alw_mesh.specs.Keeping.{machine_of, no_whole, whole_in, IsOf, AreNodes, IsGrid}
+use Rattle.alw_mesh.specs.Keeping.{machine_of, no_whole, whole_in, NodeIsOf, AreNodes, IsGrid}
 
 module _ (image : Parts) (parameters : Parameters) (is : IsImage image) where
   abbrev pub nodes_start : List Whole
@@ -26,7 +26,7 @@ module _ (image : Parts) (parameters : Parameters) (is : IsImage image) where
   pub start_is : machine_of nodes_start (replicate (node_count image * node_count image) []) ≡ machine_start image
   start_is = λ i. record { nodes = states_from 0 (node_count image) i; links = replicate (node_count image * node_count image) [] }
 
-  start_of : (n : ℕ) → IsOf image parameters n (whole_start image parameters n)
+  start_of : (n : ℕ) → NodeIsOf image parameters n (whole_start image parameters n)
   start_of n = record { number = refl; share = refl; parameters_are = refl }
 
   pub grid_starts : (traffic : Traffic) (remains : Remains) → traffic ≡ record { nodes = node_count image; room = 0; links = replicate (node_count image * node_count image) [] }
@@ -35,7 +35,7 @@ module _ (image : Parts) (parameters : Parameters) (is : IsImage image) where
     image_is = is;
     nodes_are = record {
       counted = length-map-range_with_len (whole_start image parameters) 0 (node_count image);
-      each = λ n l. subst (IsOf image parameters n) (sym (get_or-map-range_with_len (whole_start image parameters) 0 (node_count image) n n no_whole l (omega arith))) (start_of n);
+      each = λ n l. subst (NodeIsOf image parameters n) (sym (get_or-map-range_with_len (whole_start image parameters) 0 (node_count image) n n no_whole l (omega arith))) (start_of n);
     };
     links_are = refl;
     aimed = subst (IsAimed image) (sym start_is) (start_aimed image parameters);

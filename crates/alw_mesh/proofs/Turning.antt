@@ -10,7 +10,7 @@ use Rattle.sparc_table.specs.declared.outcomes.Need.TheVariants as needs
 use Rattle.sparc_table.specs.declared.outcomes.Outcome.{Outcome}
 use Rattle.sparc_table.specs.declared.outcomes.Outcome.TheVariants.{Trap}
 use Rattle.sparc_table.specs.declared.outcomes.Outcome.TheVariants as outcomes
-use Rattle.sparc_table.specs.Meaning.{IsStill}
+use Rattle.sparc_table.specs.Meaning.{OutcomeIsStill}
 use Rattle.sparc_table.specs.Turns.{need_of, turn_of}
 use Rattle.sparc_table.proofs.Effects.{orderly_turn}
 use Rattle.alw_msg.specs.declared.messages.Msg.{Msg}
@@ -39,7 +39,7 @@ pub record TurnLeft (node : NodeState) (slot : ℕ) (outcome : Outcome) (after :
   pub regs : Regs
   pub within : slot < length node.slots
   pub slots : after ≡ ran node.slots slot regs (status_after regs outcome)
-  pub still : IsStill outcome → regs ≡ (slot_at node.slots slot).regs
+  pub still : OutcomeIsStill outcome → regs ≡ (slot_at node.slots slot).regs
 
 abbrev pub Left : NodeState → List Slot → Did → Type 0
 Left node after (Turn slot outcome) = TurnLeft node slot outcome after

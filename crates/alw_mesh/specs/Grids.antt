@@ -45,5 +45,5 @@ pub record Happens (before after : Grid) (event : Event) (sent : Sending) (happe
   pub machine : after.machine ≡ step before.image before.parameters before.machine event
   pub room : sent.room ≡ node_count before.image
   pub few : length sent.messages ≤ node_count before.image
-  pub told : (stamp : ℕ) → tellings.IsOf happening.told sent.messages (moment_of before.image before.parameters before.machine (record { stamp = stamp; event = event }))
+  pub told : (stamp : ℕ) → tellings.HappeningIsOf happening.told sent.messages (moment_of before.image before.parameters before.machine (record { stamp = stamp; event = event }))
   pub holds : happening.changes_holds ≡ changes_holds (node_at before.machine (node_of event)) (stepped_by before.image before.parameters before.machine event).node

@@ -18,7 +18,7 @@ abbrev pub states_of : List Whole → List NodeState
 states_of nodes = map (λ (whole : Whole). whole.state) nodes
 
 -- links of so many nodes have these messages
-pub record IsLinked (nodes : ℕ) (lists : List (List Msg)) (traffic : Traffic) : Type 0 where
+pub record LinksHaveMessages (nodes : ℕ) (lists : List (List Msg)) (traffic : Traffic) : Type 0 where
   pub nodes_are : traffic.nodes ≡ nodes
   pub links_are : traffic.links ≡ lists
 
@@ -35,7 +35,7 @@ pub record IsGridOf (image : Parts) (parameters : Parameters) (machine : Machine
   pub machine_is : grid.machine ≡ machine
 
 -- nodes and links in the state of a journal, and what it tells
-pub record AreJoined (grid : Grid) (journal : List Entry) (told : Told) : Type 0 where
+pub record PartsAreJoined (grid : Grid) (journal : List Entry) (told : Told) : Type 0 where
   pub run : IsRun (joined_of grid.image grid.parameters journal)
   pub state_is : grid.machine ≡ state grid.image grid.parameters journal
   pub told_is : told ≡ told_of grid.image (moments grid.image grid.parameters journal)

@@ -53,7 +53,7 @@ abbrev pub whole_in : List Whole → ℕ → Whole
 whole_in nodes n = slice_index_or nodes n no_whole
 
 -- a node of an image and parameters, of this number
-pub record IsOf (image : Parts) (parameters : Parameters) (n : ℕ) (whole : Whole) : Type 0 where
+pub record NodeIsOf (image : Parts) (parameters : Parameters) (n : ℕ) (whole : Whole) : Type 0 where
   pub number : whole.number ≡ n
   pub share : whole.parts ≡ share_of image n
   pub parameters_are : whole.parameters ≡ parameters
@@ -61,7 +61,7 @@ pub record IsOf (image : Parts) (parameters : Parameters) (n : ℕ) (whole : Who
 -- all nodes of an image
 pub record AreNodes (image : Parts) (parameters : Parameters) (nodes : List Whole) : Type 0 where
   pub counted : length nodes ≡ node_count image
-  pub each : (n : ℕ) → n < node_count image → IsOf image parameters n (whole_in nodes n)
+  pub each : (n : ℕ) → n < node_count image → NodeIsOf image parameters n (whole_in nodes n)
 
 -- nodes and links of one image, with what remains to be done at the nodes
 pub record IsGrid (image : Parts) (parameters : Parameters) (nodes : List Whole) (traffic : Traffic) (remains : Remains) : Type 0 where
@@ -82,9 +82,9 @@ after_taking traffic (Deliver from to) = after_take traffic from.0 to.0
 after_taking traffic _ = traffic
 
 -- the nodes that an event names exist
-abbrev pub IsWithin : ℕ → Event → Type 0
-IsWithin nodes (Deliver from to) = (from.0 < nodes) × (to.0 < nodes)
-IsWithin nodes _ = Unit {0}
+abbrev pub NodesAreWithin : ℕ → Event → Type 0
+NodesAreWithin nodes (Deliver from to) = (from.0 < nodes) × (to.0 < nodes)
+NodesAreWithin nodes _ = Unit {0}
 
 -- the PC of a slot that a trapping turn has left trapped
 abbrev pub PcOf : ℕ → Status → Type 0

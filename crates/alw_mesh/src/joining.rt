@@ -2,7 +2,7 @@ ghost use Rattle.std.specs.Prelude.{◌≡◌, ◌<◌, ◌≤◌, ◌*◌, [], 
 ghost use Rattle.alw_num.specs.Weights.{digit};
 ghost use Rattle.alw_msg.specs.Statuses.{is_halted, has_trapped};
 ghost use Rattle.alw_tally.specs.Remaining.{remains_of};
-ghost use Rattle.alw_mesh.specs.Joins.{IsLinked, links_put, states_of};
+ghost use Rattle.alw_mesh.specs.Joins.{LinksHaveMessages, links_put, states_of};
 
 use alw_links::Links;
 use alw_msg::{MsgList, Status};
@@ -18,7 +18,7 @@ pub type LinkLists = Sequence<MsgList>;
 pub fn links_of(alloc: Global, nodes: u32, lists: &LinkLists) -> Result<Links, NoMemory>
     requires nodes { nodes ≤ MOST_NODES }
     requires lists { length lists.now ≡ nodes * nodes }
-    ensures { IfOk result (λ links. IsLinked nodes lists.now links) }
+    ensures { IfOk result (λ links. LinksHaveMessages nodes lists.now links) }
 {
     let mut links = Links::start(alloc, nodes)?;
     for place in 0..lists.len() {

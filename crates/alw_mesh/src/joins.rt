@@ -5,7 +5,7 @@ ghost use Rattle.alw_model.specs.Counts.{counts_of};
 ghost use Rattle.alw_model.specs.Ends as ends;
 ghost use Rattle.alw_mesh.specs.Histories.{begun, stamps_of, joined_of};
 ghost use Rattle.alw_mesh.specs.Keeping.{machine_of, AreNodes};
-ghost use Rattle.alw_mesh.specs.Joins.{AreJoined};
+ghost use Rattle.alw_mesh.specs.Joins.{PartsAreJoined};
 
 use crate::errors::{FitErr, MOST_STEPS};
 use crate::joining::LinkLists;
@@ -56,7 +56,7 @@ impl Machine {
 
     // The machine of these parts, which has taken no step.
     fn of(alloc: Global, mesh: Mesh, journal: Journal, tally: Tally) -> Result<Machine, NoMemory>
-        requires { AreJoined mesh journal tally.told }
+        requires { PartsAreJoined mesh journal tally.told }
         ensures { IfOk result (λ machine. machine ≡ joined_of mesh.image mesh.parameters journal) }
     {
         let count = u32::from(mesh.count());

@@ -5,8 +5,8 @@ ghost use Rattle.alw_image.specs.Images.{IsImage, node_count};
 ghost use Rattle.alw_model.specs.NodeStates.{stamp_of};
 ghost use Rattle.alw_model.specs.Counts.{is_turn};
 ghost use Rattle.alw_ready.specs.Changes.{hold_count};
-ghost use Rattle.alw_node.specs.Nodes.{whole_start, IsGiven};
-ghost use Rattle.alw_mesh.specs.Keeping.{taken_from, after_taking, IsWithin, HasTrapPc, whole_in, may_act, Acts};
+ghost use Rattle.alw_node.specs.Nodes.{whole_start, MessageIsGiven};
+ghost use Rattle.alw_mesh.specs.Keeping.{taken_from, after_taking, NodesAreWithin, HasTrapPc, whole_in, may_act, Acts};
 
 use alw_image::{Code, Image, Params};
 use alw_links::Links;
@@ -50,7 +50,7 @@ pub fn nodes_start(
 /// Takes the message that an event takes off its link: the head for a delivery, and none else. It is
 /// written in place, since a message that is answered is copied at each event.
 pub fn take(links: &mut Links, event: Event, taken: &mut Option<Msg>)
-    requires within { IsWithin links.old.nodes event }
+    requires within { NodesAreWithin links.old.nodes event }
     requires none { taken.old ≡ None }
     ensures message { taken.new ≡ taken_from links.old event }
     ensures links { links.new ≡ after_taking links.old event }
@@ -112,7 +112,7 @@ pub fn act(
 ) -> Acted
     requires here { at < length nodes.old.items }
     requires enabled { may_act (whole_in nodes.old.items at) event taken.now ≡ true }
-    requires taken { IsGiven event taken.now }
+    requires taken { MessageIsGiven event taken.now }
     requires room { node_count (whole_in nodes.old.items at).parts ≤ sent.old.room }
     ensures { Acts nodes.old.items nodes.new.items at event taken.now sent.old sent.new result }
 {

@@ -10,7 +10,7 @@ use Rattle.alw_msg.specs.Contents.{content}
 use Rattle.alw_image.specs.Images.{node_count, line_count}
 use Rattle.alw_model.specs.Messages.{home_node, is_at_home, is_fit}
 use Rattle.alw_model.specs.NodeStates.{NodeState, may, may_deliver, may_reach, is_enabled_at}
-use Rattle.alw_node.specs.Nodes.{FitsStamp, IsGiven}
+use Rattle.alw_node.specs.Nodes.{FitsStamp, MessageIsGiven}
 
 -- both sides of a test that passes
 first : (a b : Bool) → (a && b) ≡ true → a ≡ true
@@ -21,7 +21,7 @@ second : (a b : Bool) → (a && b) ≡ true → b ≡ true
 second true b e = e
 second false b e = cc
 
-pub given_fits : (parts : Parts) (parameters : Parameters) (number : ℕ) (node : NodeState) (event : Event) (taken : Option Msg) → is_enabled_at parts parameters number node event taken ≡ true → IsGiven event taken → FitsStamp taken
+pub given_fits : (parts : Parts) (parameters : Parameters) (number : ℕ) (node : NodeState) (event : Event) (taken : Option Msg) → is_enabled_at parts parameters number node event taken ≡ true → MessageIsGiven event taken → FitsStamp taken
 given_fits parts parameters number node (Instr at) taken enabled given = given
 given_fits parts parameters number node (Handle at) taken enabled given = given
 given_fits parts parameters number node (Evict at set) taken enabled given = given

@@ -11,7 +11,7 @@ use Rattle.alw_model.specs.MemorySteps.{home_at, at_home, takes}
 use Rattle.alw_model.specs.NodeStates.{memory_of}
 use Rattle.alw_model.specs.NodeSteps.{by_memory, deliver_by}
 use Rattle.alw_memory.proofs.Deliveries.{Says, Said, says}
-use Rattle.alw_node.specs.Nodes.{AreOne, whole_of}
+use Rattle.alw_node.specs.Nodes.{SidesAreOfOneNode, whole_of}
 
 -- a memory side, field by field
 abbrev same : Memory → Memory
@@ -21,7 +21,7 @@ at_same_home : (stamp : ℕ) (m : Memory) (msg : Msg) (said : ToMemory) (traps :
 at_same_home stamp m msg said true = refl
 at_same_home stamp m msg said false = refl
 
-pub memory_takes : (share : Parts) (parameters : Parameters) (p : Processor) (m : Memory) (clock stamp : ℕ) (msg : Msg) → AreOne share parameters p m
+pub memory_takes : (share : Parts) (parameters : Parameters) (p : Processor) (m : Memory) (clock stamp : ℕ) (msg : Msg) → SidesAreOfOneNode share parameters p m
     → to_memory msg.kind ≡ true
     → (let whole = whole_of share parameters p m clock in
     deliver_by whole.parts parameters whole.number stamp whole.state msg (content msg) ≡ by_memory whole.state (takes stamp m msg (content msg)))

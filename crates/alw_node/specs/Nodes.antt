@@ -34,7 +34,7 @@ whole_of share parameters p m clock = record {
 }
 
 -- the two sides are of one node, which has this share, with a slot for each context, and these parameters
-pub record AreOne (share : Parts) (parameters : Parameters) (p : Processor) (m : Memory) : Type 0 where
+pub record SidesAreOfOneNode (share : Parts) (parameters : Parameters) (p : Processor) (m : Memory) : Type 0 where
   pub width : p.width ≡ share.width
   pub height : p.height ≡ share.height
   pub lines : p.per_node ≡ share.per_node
@@ -67,9 +67,9 @@ FitsStamp None = Unit {0}
 FitsStamp (Some msg) = msg.stamp < 4294967295
 
 -- only a delivery takes a message; one that is given with another event is let be, and its stamp isn't the greatest
-abbrev pub IsGiven : Event → Option Msg → Type 0
-IsGiven (Deliver from to) taken = Unit {0}
-IsGiven event taken = FitsStamp taken
+abbrev pub MessageIsGiven : Event → Option Msg → Type 0
+MessageIsGiven (Deliver from to) taken = Unit {0}
+MessageIsGiven event taken = FitsStamp taken
 
 -- a message at the head of the link from a node can be delivered
 abbrev pub may_take_from : Whole → ℕ → Msg → Bool

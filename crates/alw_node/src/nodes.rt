@@ -14,7 +14,7 @@ ghost use Rattle.alw_ctx.specs.Residents.{number_of};
 ghost use Rattle.alw_proc.specs.Openings.{opener_of};
 ghost use Rattle.alw_proc.specs.Processors.{mode_of, cached_of};
 ghost use Rattle.alw_memory.specs.Views.{IsViewOf};
-ghost use Rattle.alw_node.specs.Nodes.{whole_start, may_take_from, Steps, FitsStamp, IsGiven, IsNode};
+ghost use Rattle.alw_node.specs.Nodes.{whole_start, may_take_from, Steps, FitsStamp, MessageIsGiven, IsNode};
 
 use crate::shares::Share;
 use alw_image::{Code, Image, Params};
@@ -40,13 +40,13 @@ pub struct Node {
 }
 
 impl Model for Node {
-    ghost use Rattle.alw_node.specs.Nodes.{Whole, whole_of, AreOne};
+    ghost use Rattle.alw_node.specs.Nodes.{Whole, whole_of, SidesAreOfOneNode};
 
     ghost Value = { Whole };
 
     ghost view = { λ n. whole_of n.share n.params n.proc n.memory n.clock };
 
-    ghost invariant = { λ n. AreOne n.share n.params n.proc n.memory };
+    ghost invariant = { λ n. SidesAreOfOneNode n.share n.params n.proc n.memory };
 }
 
 impl Node {
@@ -111,7 +111,7 @@ impl Node {
     /// delivery. What is sent is in `sent`, which has room for a message to each node.
     pub fn local(&mut self, event: Event, taken: &Option<Msg>, sent: &mut Sends) -> Did
         requires enabled { is_enabled_at self.old.parts self.old.parameters self.old.number self.old.state event taken.now ≡ true }
-        requires taken { IsGiven event taken.now }
+        requires taken { MessageIsGiven event taken.now }
         requires room { node_count self.old.parts ≤ sent.old.room }
         ensures { Steps self.old self.new sent.old sent.new result (node_step self.old.parts self.old.parameters self.old.number self.old.state event taken.now) }
     {

@@ -8,7 +8,7 @@ use Rattle.std.proofs.lemmas.Nat.Bits.{bit_at-lt, bit_at_above, bit_at_cat_low}
 use Rattle.alw_num.specs.declared.node_sets.NodeSet.{NodeSet}
 use Rattle.alw_num.specs.NodeSets.{Nodes, has_node, members, count_nodes, nodes_of}
 use Rattle.alw_num.specs.Weights.{digit, weigh, times, sum_below}
-use Rattle.alw_num.specs.Ranks.{IsPart, IsFound}
+use Rattle.alw_num.specs.Ranks.{RankIsOfPart, RankIsFound}
 use Rattle.alw_num.proofs.Sets.{AscendsFrom, times_before, member, members-ascend, count-bits, count-sum}
 use Rattle.alw_num.proofs.Weigh.{cases_lt_then, true_of_digit, digit_other, sum_same, sum_both, sum_one, sum_none}
 use Rattle.alw_num.proofs.Words.{has-low, has-high, counted}
@@ -85,7 +85,7 @@ bit_at-high word w k = ap (λ n. n % 2) (shr-shr word w k)
 ones_parts : (word w : ℕ) → count_ones word ≡ count_ones (word / 2 ^ w) + count_ones (word % 2 ^ w)
 ones_parts word w = sym (ap count_ones (shr_split word w)) ∙ ones_cat w (word / 2 ^ w) (word % 2 ^ w) (low_below word w)
 
-pub begins : (word k : ℕ) → word < 2 ^ 128 → k < count_ones word → IsPart word k word k 0 128
+pub begins : (word k : ℕ) → word < 2 ^ 128 → k < count_ones word → RankIsOfPart word k word k 0 128
 begins word k fits here = record {
   some = omega arith;
   within = omega arith;
@@ -102,11 +102,11 @@ masked rest half l = rw (one_shl half 128 l) (and_mask rest half)
 abbrev pub low_part : ℕ → ℕ → ℕ
 low_part rest half = bit_and rest (1 * 2 ^ half % 340282366920938463463374607431768211456 - 1)
 
-module _ (word k rest left at half : ℕ) (window : IsPart word k rest left at (half * 2)) where
+module _ (word k rest left at half : ℕ) (window : RankIsOfPart word k rest left at (half * 2)) where
   low_is : low_part rest half ≡ rest % 2 ^ half
   low_is = masked rest half (omega (arith, window.some, window.within))
 
-  pub goes_low : left < count_ones (low_part rest half) → IsPart word k (low_part rest half) left at half
+  pub goes_low : left < count_ones (low_part rest half) → RankIsOfPart word k (low_part rest half) left at half
   goes_low here = record {
     some = omega (arith, window.some);
     within = omega (arith, window.within);
@@ -116,7 +116,7 @@ module _ (word k rest left at half : ℕ) (window : IsPart word k rest left at (
     here = here;
   }
 
-  pub goes_high : count_ones (low_part rest half) ≤ left → IsPart word k (rest / 2 ^ half) (left - count_ones (low_part rest half)) (at + half) half
+  pub goes_high : count_ones (low_part rest half) ≤ left → RankIsOfPart word k (rest / 2 ^ half) (left - count_ones (low_part rest half)) (at + half) half
   goes_high past =
       let ones : count_ones (low_part rest half) ≡ count_ones (rest % 2 ^ half) = ap count_ones low_is in
       let whole : rest < 2 ^ (half + half) = let e : half * 2 ≡ half + half = omega arith in subst (λ w. rest < 2 ^ w) e window.fits in
@@ -132,7 +132,7 @@ module _ (word k rest left at half : ℕ) (window : IsPart word k rest left at (
       }
 
 -- a part of one digit is the one
-pub ends : (word k rest left at : ℕ) → IsPart word k rest left at 1 → IsFound word k at
+pub ends : (word k rest left at : ℕ) → RankIsOfPart word k rest left at 1 → RankIsFound word k at
 ends word k rest left at window =
     let few : rest < 2 = window.fits in
     let some : rest ≡ 1 = omega (arith, window.here, ones_le_self rest) in
@@ -149,13 +149,13 @@ module _ (set : NodeSet) (low : set.low < 2 ^ 128) (high : set.high < 2 ^ 128) w
   before_low : (n : ℕ) → n ≤ 128 → sum_below n (λ j. digit (has_node (nodes_of set) j)) ≡ sum_below n (bit_at set.low)
   before_low n l = sum_same n (λ j. digit (has_node (nodes_of set) j)) (bit_at set.low) (λ j m. ap digit (has-low set j (omega arith)) ∙ digit_bit set.low j)
 
-  pub nth_low : (k n : ℕ) → IsFound set.low k n → slice_get (members (nodes_of set)) k ≡ Some n
+  pub nth_low : (k n : ℕ) → RankIsFound set.low k n → slice_get (members (nodes_of set)) k ≡ Some n
   nth_low k n found = nth_is (nodes_of set) n k (has-low set n found.within ∙ ap (λ b. b == 1) found.one) (before_low n (omega (arith, found.within)) ∙ found.before)
 
   high_digit : (j : ℕ) → j < 128 → digit (has_node (nodes_of set) (128 + j)) ≡ bit_at set.high j
   high_digit j l = ap digit (has-high set (128 + j) (omega arith) (omega arith)) ∙ (digit_bit set.high (128 + j - 128) ∙ ap (bit_at set.high) (omega arith))
 
-  pub nth_high : (k n : ℕ) → count_ones set.low ≤ k → IsFound set.high (k - count_ones set.low) n → slice_get (members (nodes_of set)) k ≡ Some (128 + n)
+  pub nth_high : (k n : ℕ) → count_ones set.low ≤ k → RankIsFound set.high (k - count_ones set.low) n → slice_get (members (nodes_of set)) k ≡ Some (128 + n)
   nth_high k n past found =
       let l = found.within in
       let here : digit (has_node (nodes_of set) (128 + n)) ≡ 1 = high_digit n l ∙ found.one in

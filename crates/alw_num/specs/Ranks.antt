@@ -4,7 +4,7 @@ use Rattle.std.specs.Int.{bit_at}
 use Rattle.alw_num.specs.Weights.{sum_below}
 
 -- of the ones of a word number k is number `left` of those of a part, which has these digits from a place on
-pub record IsPart (word k rest left at width : ℕ) : Type 0 where
+pub record RankIsOfPart (word k rest left at width : ℕ) : Type 0 where
   pub some : 1 ≤ width
   pub within : at + width ≤ 128
   pub fits : rest < 2 ^ width
@@ -13,7 +13,7 @@ pub record IsPart (word k rest left at width : ℕ) : Type 0 where
   pub here : left < count_ones rest
 
 -- the place of number k of the ones of a word
-pub record IsFound (word k at : ℕ) : Type 0 where
+pub record RankIsFound (word k at : ℕ) : Type 0 where
   pub within : at < 128
   pub one : bit_at word at ≡ 1
   pub before : sum_below at (bit_at word) ≡ k

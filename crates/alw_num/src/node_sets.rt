@@ -1,6 +1,6 @@
 ghost use Rattle.std.specs.Prelude.{◌≡◌, ℕ, ◌<◌, ◌≤◌, ◌+◌, ◌*◌, ◌↔◌, [], ◌∷◌, slice_get, Some, count_ones, IsTrue, IsNone, IfNone, IfSome};
 ghost use Rattle.alw_num.specs.NodeSets.{no_nodes, has_node, add_node, drop_node, join_nodes, count_nodes, members, nodes_of};
-ghost use Rattle.alw_num.specs.Ranks.{IsPart, IsFound};
+ghost use Rattle.alw_num.specs.Ranks.{RankIsOfPart, RankIsFound};
 
 use crate::addresses::NodeNo;
 
@@ -136,7 +136,7 @@ impl NodeSet {
 // The place of one number k of a word, lowest first.
 fn nth_one(word: u128, k: u32) -> u16
     requires { k < count_ones word }
-    ensures { IsFound word k result }
+    ensures { RankIsFound word k result }
 {
     let whole = Part {
         bits: word,
@@ -163,7 +163,7 @@ impl Part {
         requires width { width < WORD_BITS }
         requires at { self.at + width ≤ WORD_BITS }
         ensures at { result.at ≤ self.at + width }
-        ensures part { (word k : ℕ) → IsPart word k self.bits self.left self.at (width * 2) → IsPart word k result.bits result.left result.at width }
+        ensures part { (word k : ℕ) → RankIsOfPart word k self.bits self.left self.at (width * 2) → RankIsOfPart word k result.bits result.left result.at width }
     {
         let low = self.bits & ((1 << width) - 1);
         let ones = low.count_ones();

@@ -10,7 +10,7 @@ use Rattle.sparc_table.specs.Turns.{need_of, turn_of}
 use Rattle.sparc_table.specs.declared.registers.Regs.{Regs}
 use Rattle.sparc_table.specs.declared.outcomes.Outcome.{Outcome}
 use Rattle.sparc_table.specs.declared.outcomes.Outcome.TheVariants as ends
-use Rattle.sparc_exec.specs.Runs.{seen, IsRun, IsMissing}
+use Rattle.sparc_exec.specs.Runs.{seen, IsRun, CopyIsMissing}
 use Rattle.alw_msg.specs.Sending.{Sending, with_messages}
 use Rattle.alw_msg.specs.declared.contexts.Status.TheVariants.{Waiting}
 use Rattle.alw_cache.specs.Places.{Copies, seen_in, ArePlaced}
@@ -24,7 +24,7 @@ use Rattle.alw_model.specs.ProcessorSteps.{ProcessorStep, Steps, processor_after
 use Rattle.alw_proc.specs.Homeward.{with_requests}
 use Rattle.alw_proc.specs.Turns.{Runs}
 use Rattle.alw_proc.specs.declared.shared.Shared.{Shared}
-use Rattle.alw_proc.specs.Processors.{IsProcessor, IsSide, AreBegun, processor_from}
+use Rattle.alw_proc.specs.Processors.{IsProcessor, IsSide, SendsAreBegun, processor_from}
 use Rattle.alw_proc.proofs.Leaving.{home_fits}
 use Rattle.alw_proc.proofs.Standing.{stands, ran_stands, missed_stands}
 use Rattle.alw_proc.proofs.Turning.{copies_of, regs_of, IsTurn, turn_is, IsMiss, miss_is}
@@ -38,7 +38,7 @@ pub record HasRun (code : List ℕ) (p : Processor) (slot lines : ℕ) (contexts
   pub stays : ArePlaced cache
   pub run : IsRun (need_of code (regs_of p slot) lines) (turn_of code (regs_of p slot) lines)
       (seen (regs_of p slot) (seen_in (copies_of p p.cache)) None) (seen (slot_at contexts.slots slot).regs (seen_in cache) None) outcome
-  pub missed : (line : LineNo) → (mode : Mode) → (outcome ≡ ends.Miss line mode) ↔ IsMissing (need_of code (regs_of p slot) lines) (seen_in (copies_of p p.cache)) line mode
+  pub missed : (line : LineNo) → (mode : Mode) → (outcome ≡ ends.Miss line mode) ↔ CopyIsMissing (need_of code (regs_of p slot) lines) (seen_in (copies_of p p.cache)) line mode
   pub contexts_are : contexts ≡ record { slots = ran p.slots slot (slot_at contexts.slots slot).regs (left_by (slot_at contexts.slots slot).regs outcome); current = slot }
 
 pub has_run : (code : List ℕ) (number width height per_node : ℕ) (contexts contexts' : NodeContexts) (shared shared' : Shared) (transactions : Transactions) (slot : ℕ) (outcome : Outcome)
@@ -119,7 +119,7 @@ turn_steps code p slot lines contexts cache lines' outcome sent h hits empty =
 pub missed : (code : List ℕ) (stamp : ℕ) (p : Processor) (slot lines : ℕ) (contexts : NodeContexts) (cache : Copies) (lines' : ℕ) (line : LineNo) (mode : Mode) → HasRun code p slot lines contexts cache lines' (ends.Miss line mode)
     → IsMiss code stamp p slot (slot_at contexts.slots slot).regs cache.copies line mode
 missed code stamp p slot lines contexts cache lines' line mode h =
-    let missing = subst (λ n. IsMissing (need_of code (regs_of p slot) n) (seen_in (copies_of p p.cache)) line mode) h.lines_are ((h.missed line mode).0 refl) in
+    let missing = subst (λ n. CopyIsMissing (need_of code (regs_of p slot) n) (seen_in (copies_of p p.cache)) line mode) h.lines_are ((h.missed line mode).0 refl) in
     miss_is code stamp p slot _ cache.copies line mode h.placed (placed_is p cache h.sizes.1 h.stays) missing (run_is code p slot lines contexts cache lines' (ends.Miss line mode) h)
 
 -- the line's home is a node

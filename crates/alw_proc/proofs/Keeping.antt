@@ -14,7 +14,7 @@ use Rattle.alw_model.specs.Caches.{Copy, Cache, Transaction, Transactions}
 use Rattle.alw_msg.specs.Statuses.{is_ready, waits_on}
 use Rattle.alw_model.specs.Contexts.{Slot, no_slot, slot_at, running, turn_order, ran, woken, wake, give_hold}
 use Rattle.alw_model.specs.ProcessorSteps.{opened, slots_after}
-use Rattle.alw_proc.specs.Openings.{IsNotOf}
+use Rattle.alw_proc.specs.Openings.{OpeningIsNotOf}
 use Rattle.alw_proc.specs.Processors.{HoldsLine}
 
 -- ---- the slot that runs
@@ -51,7 +51,7 @@ abbrev pub Awaits : List Slot → ℕ → Option Transaction → Type 0
 Awaits slots line transaction = IsTrue (passes_if_some (λ (t : Transaction). waits_on line (slot_at slots t.opener).status) transaction)
 
 -- a Ready slot has no transaction
-pub none_of_ready : (slots : List Slot) (slot line : ℕ) (o : Option Transaction) → is_ready (slot_at slots slot).status ≡ true → Awaits slots line o → IsNotOf slot o
+pub none_of_ready : (slots : List Slot) (slot line : ℕ) (o : Option Transaction) → is_ready (slot_at slots slot).status ≡ true → Awaits slots line o → OpeningIsNotOf slot o
 none_of_ready slots slot line None ready waits = tt
 none_of_ready slots slot line (Some t) ready waits = λ same. ready_waits (slot_at slots slot).status line ready (ap (λ n. waits_on line (slot_at slots n).status) (sym same) ∙ waits)
 

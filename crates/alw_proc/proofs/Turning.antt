@@ -14,7 +14,7 @@ use Rattle.sparc_table.specs.declared.outcomes.Outcome.{Outcome}
 use Rattle.sparc_table.specs.declared.outcomes.Outcome.TheVariants as ends
 use Rattle.sparc_table.proofs.Effects.{turn_exists}
 use Rattle.sparc_exec.specs.Ports.{granted}
-use Rattle.sparc_exec.specs.Runs.{Seen, seen, IsRunOn, IsRun, IsMissing}
+use Rattle.sparc_exec.specs.Runs.{Seen, seen, IsRunOn, IsRun, CopyIsMissing}
 use Rattle.alw_image.specs.Images.{zero_line}
 use Rattle.alw_cache.specs.Places.{Copies, copy_of, seen_of, seen_in, ArePlaced}
 use Rattle.alw_cache.proofs.Seen.{same_caches, seen_written, placed_written}
@@ -169,7 +169,7 @@ pub record IsMiss (code : List ℕ) (stamp : ℕ) (p : Processor) (slot : ℕ) (
   pub exists : line.0 < lines_of p
 
 pub miss_is : (code : List ℕ) (stamp : ℕ) (p : Processor) (slot : ℕ) (regs : Regs) (cache : Cache) (line : LineNo) (mode : Mode)
-    → ArePlaced (copies_of p p.cache) → ArePlaced (copies_of p cache) → IsMissing (need_of code (regs_of p slot) (lines_of p)) (seen_in (copies_of p p.cache)) line mode
+    → ArePlaced (copies_of p p.cache) → ArePlaced (copies_of p cache) → CopyIsMissing (need_of code (regs_of p slot) (lines_of p)) (seen_in (copies_of p p.cache)) line mode
     → Turned code p slot regs cache (ends.Miss line mode) → IsMiss code stamp p slot regs cache line mode
 miss_is code stamp p slot regs cache line mode placed placed' missing run =
     let none : granted_copy p.sets p.cache line.0 mode ≡ None = none_is _ (sym (granted_is (copy_at p.sets p.cache line.0) mode) ∙ missing.1) in

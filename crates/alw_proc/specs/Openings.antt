@@ -37,25 +37,25 @@ first_of slot (None ∷ rest) line = first_of (slot + 1) rest line
 first_of slot (Some opening ∷ rest) line = cond (opening.line.0 == line) (Some (transaction_of slot opening)) (first_of (slot + 1) rest line)
 
 -- no slot has opened one on this line
-abbrev pub HasNone : List (Option Opening) → ℕ → Type 0
-HasNone [] line = Unit {0}
-HasNone (first ∷ rest) line = (passes (is_of line) first ≡ false) × HasNone rest line
+abbrev pub HasNoOpening : List (Option Opening) → ℕ → Type 0
+HasNoOpening [] line = Unit {0}
+HasNoOpening (first ∷ rest) line = (passes (is_of line) first ≡ false) × HasNoOpening rest line
 
 -- the line of what a slot has opened has no other
-abbrev pub IsAlone : Option Opening → List (Option Opening) → Type 0
-IsAlone None rest = Unit {0}
-IsAlone (Some opening) rest = HasNone rest opening.line.0
+abbrev pub OpeningIsAlone : Option Opening → List (Option Opening) → Type 0
+OpeningIsAlone None rest = Unit {0}
+OpeningIsAlone (Some opening) rest = HasNoOpening rest opening.line.0
 
 -- no line has two
-abbrev pub IsSingle : List (Option Opening) → Type 0
-IsSingle [] = Unit {0}
-IsSingle (first ∷ rest) = IsAlone first rest × IsSingle rest
+abbrev pub OpeningsAreSingle : List (Option Opening) → Type 0
+OpeningsAreSingle [] = Unit {0}
+OpeningsAreSingle (first ∷ rest) = OpeningIsAlone first rest × OpeningsAreSingle rest
 
 -- what a slot has opened
 abbrev pub opened_at : List (Option Opening) → ℕ → Option Opening
 opened_at slots slot = slice_index_or slots slot None
 
 -- a transaction isn't this slot's
-abbrev pub IsNotOf : ℕ → Option Transaction → Type 0
-IsNotOf slot None = Unit {0}
-IsNotOf slot (Some transaction) = transaction.opener ≢ slot
+abbrev pub OpeningIsNotOf : ℕ → Option Transaction → Type 0
+OpeningIsNotOf slot None = Unit {0}
+OpeningIsNotOf slot (Some transaction) = transaction.opener ≢ slot

@@ -40,7 +40,7 @@ may_take p line (ForMemory said) = true
 may_take p line (ForCache said) = may_reach_cache p.sets p.slots p.cache line said
 
 -- the sends of an event are begun by this node, and empty, and there is room for a message
-pub record AreBegun (number : ℕ) (sending : Sending) : Type 0 where
+pub record SendsAreBegun (number : ℕ) (sending : Sending) : Type 0 where
   pub by : sending.src ≡ number
   pub empty : sending.messages ≡ []
   pub room : 0 < sending.room

@@ -3,7 +3,7 @@ ghost use Rattle.alw_num.specs.Maps.{value_at, without_value, passes, passes_if_
 ghost use Rattle.alw_model.specs.Caches.{replaced};
 ghost use Rattle.alw_model.specs.Contexts.{is_held};
 ghost use Rattle.alw_model.specs.ProcessorSteps.{opened, slots_after};
-ghost use Rattle.alw_proc.specs.Openings.{IsNotOf};
+ghost use Rattle.alw_proc.specs.Openings.{OpeningIsNotOf};
 ghost use Rattle.alw_proc.specs.Homeward.{with_requests};
 ghost use Rattle.alw_proc.specs.Turns.{Runs};
 
@@ -52,7 +52,7 @@ pub fn ask(
     sent: &mut Sends,
 )
     requires slot { slot < 4 }
-    requires free { (l : ℕ) → IsNotOf slot (value_at openings.old l) }
+    requires free { (l : ℕ) → OpeningIsNotOf slot (value_at openings.old l) }
     requires per_node { 1 ≤ per_node }
     requires home { line.0 / per_node < 65536 }
     requires empty { sent.old.messages ≡ [] }

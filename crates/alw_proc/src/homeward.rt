@@ -4,7 +4,7 @@ ghost use Rattle.alw_num.specs.Maps.{value_at};
 ghost use Rattle.alw_msg.specs.Sending.{with_message};
 ghost use Rattle.alw_model.specs.Caches.{set_of, copy_at, fill, invalidate, evict, evicted};
 ghost use Rattle.alw_cache.specs.Places.{copy_of};
-ghost use Rattle.alw_proc.specs.Processors.{HoldsLine, AreBegun};
+ghost use Rattle.alw_proc.specs.Processors.{HoldsLine, SendsAreBegun};
 ghost use Rattle.alw_proc.specs.Homeward.{with_requests, copy_left};
 
 use alw_cache::{Cache, Evicted};

@@ -1,7 +1,7 @@
 ghost use Rattle.std.specs.Prelude.{◌≡◌, ◌<◌, ℕ, true, None, IfSome, IfNone};
 ghost use Rattle.std.specs.Option.{option_map};
 ghost use Rattle.alw_num.specs.Maps.{empty_map, value_at, with_value, without_value, passes};
-ghost use Rattle.alw_proc.specs.Openings.{told_of, opener_of, is_of, opened_at, HasNone, IsNotOf};
+ghost use Rattle.alw_proc.specs.Openings.{told_of, opener_of, is_of, opened_at, HasNoOpening, OpeningIsNotOf};
 
 use alw_num::{LineNo, Mode};
 use std::marker::Model;
@@ -23,13 +23,13 @@ pub struct Openings {
 impl Model for Openings {
     ghost use Rattle.std.specs.Prelude.{◌≡◌, length};
     ghost use Rattle.alw_model.specs.Caches.{Transactions};
-    ghost use Rattle.alw_proc.specs.Openings.{map_from, IsSingle};
+    ghost use Rattle.alw_proc.specs.Openings.{map_from, OpeningsAreSingle};
 
     ghost Value = { Transactions };
 
     ghost view = { λ o. map_from 0 o.slots };
 
-    ghost invariant = { λ o. (length o.slots ≡ 4) × IsSingle o.slots };
+    ghost invariant = { λ o. (length o.slots ≡ 4) × OpeningsAreSingle o.slots };
 }
 
 impl Openings {
@@ -57,7 +57,7 @@ impl Openings {
     pub fn open(&mut self, slot: u8, line: LineNo, mode: Mode)
         requires slot { slot < 4 }
         requires line { value_at self.old line.0 ≡ None }
-        requires free { (l : ℕ) → IsNotOf slot (value_at self.old l) }
+        requires free { (l : ℕ) → OpeningIsNotOf slot (value_at self.old l) }
         ensures { self.new ≡ with_value self.old line.0 (record { mode = mode; opener = slot }) }
     {
         self.slots[slot as usize] = Some(Opening { line, mode });
@@ -82,7 +82,7 @@ impl Openings {
 // The slot that has opened a transaction on a line.
 fn find(slots: &[Option<Opening>; 4], line: LineNo) -> Option<u8>
     ensures found { IfSome result (λ slot. (slot < 4) × (passes (is_of line.0) (opened_at slots.now slot) ≡ true)) }
-    ensures none { IfNone result (HasNone slots.now line.0) }
+    ensures none { IfNone result (HasNoOpening slots.now line.0) }
 {
     for slot in 0..4 {
         if is_of(slots[slot as usize], line) {

@@ -11,7 +11,7 @@ ghost use Rattle.alw_model.specs.ProcessorSteps.{Steps, instr, takes, evict_from
 ghost use Rattle.alw_model.specs.NodeStates.{node_start, processor_of};
 ghost use Rattle.alw_ctx.specs.Residents.{number_of};
 ghost use Rattle.alw_proc.specs.Openings.{opener_of};
-ghost use Rattle.alw_proc.specs.Processors.{may_take, mode_of, cached_of, IsProcessor, AreBegun};
+ghost use Rattle.alw_proc.specs.Processors.{may_take, mode_of, cached_of, IsProcessor, SendsAreBegun};
 
 use crate::changes::{ask, end, replaces_held, take_turn};
 use crate::homeward::{Homes, evict, fill, invalidate};
@@ -83,7 +83,7 @@ impl Proc {
     /// cache; a miss waits, and asks the line's home unless the line was asked for before. `code` has
     /// the words from address 0 on. Where no context is Ready, nothing happens.
     pub fn instr(&mut self, code: &[u32], sent: &mut Sends) -> Did
-        requires begun { AreBegun self.old.number sent.old }
+        requires begun { SendsAreBegun self.old.number sent.old }
         ensures { Steps self.old self.new sent.old sent.new result (instr code.now sent.old.stamp self.old (running self.old.slots self.old.current)) }
     {
         let Some(slot) = self.contexts.current() else {
@@ -101,7 +101,7 @@ impl Proc {
     /// A message to a cache: RDATA and WDATA bring a line, BUSY sends the waiters back to try again,
     /// and INV takes the line away.
     pub fn cache_msg(&mut self, msg: &Msg, sent: &mut Sends) -> Did
-        requires begun { AreBegun self.old.number sent.old }
+        requires begun { SendsAreBegun self.old.number sent.old }
         requires to_cache { to_memory msg.now.kind ≡ false }
         requires line { msg.now.line.0 < lines_of self.old }
         ensures { Steps self.old self.new sent.old sent.new result (takes sent.old.stamp self.old msg.now.line.0 (content msg.now)) }
@@ -139,7 +139,7 @@ impl Proc {
 
     /// An eviction empties a set of the cache. A Read-Write copy goes home.
     pub fn evict(&mut self, set: u32, sent: &mut Sends) -> Did
-        requires begun { AreBegun self.old.number sent.old }
+        requires begun { SendsAreBegun self.old.number sent.old }
         requires set { set < self.old.sets }
         ensures { Steps self.old self.new sent.old sent.new result (evict_from sent.old.stamp self.old set) }
     {

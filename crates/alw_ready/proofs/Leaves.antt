@@ -31,7 +31,7 @@ use Rattle.alw_ready.specs.declared.rows.Row.{Row}
 use Rattle.alw_ready.specs.Rows.{instr_at, handle_at, delivery, no_row, row_at}
 use Rattle.alw_ready.specs.Fits.{may_happen, is_in_time, SaysBut, RowFitsBut, RowsFit}
 use Rattle.alw_ready.specs.declared.changes.Happened.{Happened}
-use Rattle.alw_ready.specs.Changes.{is_wide_event, is_fed, is_fed_for, IsRenewed, RowsFitBut, IsTold}
+use Rattle.alw_ready.specs.Changes.{is_wide_event, is_fed, is_fed_for, RowIsRenewed, RowsFitBut, EventIsTold}
 use Rattle.alw_ready.proofs.MainEvents.{stamp_above}
 use Rattle.alw_ready.proofs.Reach.{KeepsReach, event_keeps, reach_kept}
 
@@ -176,7 +176,7 @@ module _ (parts : Parts) (parameters : Parameters) (s : MachineState) (event : E
   }
 
   own_row : (wide : Bool) → (wide ≡ false → is_wide_event parts parameters s event ≡ false) → (row own : Row) → RowFitsBut parts parameters s n (λ from. false) row
-      → own.in_time ≡ is_in_time parameters next n → IsRenewed (may_happen parts parameters next) n (λ from. wide || takes_from event from n) row own → RowFitsBut parts parameters next n (λ from. is_fed n sends from n) own
+      → own.in_time ≡ is_in_time parameters next n → RowIsRenewed (may_happen parts parameters next) n (λ from. wide || takes_from event from n) row own → RowFitsBut parts parameters next n (λ from. is_fed n sends from n) own
   own_row wide narrow row own fits timely renewed = record {
     in_time = timely;
     events = λ is. record {
@@ -201,7 +201,7 @@ module _ (parts : Parts) (parameters : Parameters) (s : MachineState) (event : E
 
   -- with the row of the event's node renewed all rows fit, but for deliveries of what was sent
   pub rows_left : (wide : Bool) → (wide ≡ false → is_wide_event parts parameters s event ≡ false) → (rows : List Row) (own : Row) → RowsFit parts parameters s rows
-      → own.in_time ≡ is_in_time parameters next n → IsRenewed (may_happen parts parameters next) n (λ from. wide || takes_from event from n) (row_at rows n) own → RowsFitBut parts parameters next n sends (set rows n own)
+      → own.in_time ≡ is_in_time parameters next n → RowIsRenewed (may_happen parts parameters next) n (λ from. wide || takes_from event from n) (row_at rows n) own → RowsFitBut parts parameters next n sends (set rows n own)
   rows_left wide narrow rows own fit timely renewed = record {
     counted = length-set rows n own ∙ fit.counted;
     each = λ m here. is_node _ m n
@@ -220,8 +220,8 @@ module _ (parts : Parts) (parameters : Parameters) (s : MachineState) (event : E
 
 -- the same by what is told of an event
 pub told_left : (parts : Parts) (parameters : Parameters) (before after : MachineState) (happened : Happened) (told_sends : List (ℕ × Msg)) (rows next : List Row) (node : ℕ) (row own : Row) → IsAimed parts before
-    → IsTold parts parameters before after happened told_sends → happened.halted ≡ false → RowsFit parts parameters before rows → node ≡ node_of happened.event → slice_get rows node ≡ Some row → next ≡ set rows node own
-    → own.in_time ≡ is_in_time parameters after (node_of happened.event) → IsRenewed (may_happen parts parameters after) (node_of happened.event) (λ from. happened.wide || takes_from happened.event from (node_of happened.event)) row own
+    → EventIsTold parts parameters before after happened told_sends → happened.halted ≡ false → RowsFit parts parameters before rows → node ≡ node_of happened.event → slice_get rows node ≡ Some row → next ≡ set rows node own
+    → own.in_time ≡ is_in_time parameters after (node_of happened.event) → RowIsRenewed (may_happen parts parameters after) (node_of happened.event) (λ from. happened.wide || takes_from happened.event from (node_of happened.event)) row own
     → RowsFitBut parts parameters after node told_sends next
 told_left parts parameters before after happened told_sends rows next node row own aimed told going fit node_is read next_is timely renewed =
     let row_is : row_at rows (node_of happened.event) ≡ row = rw (← node_is) (get_or_from_slice_get rows node row no_row read) in

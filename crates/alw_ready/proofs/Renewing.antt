@@ -25,7 +25,7 @@ use Rattle.law_order.specs.Orders.{takes_from}
 use Rattle.alw_ready.specs.declared.rows.Row.{Row}
 use Rattle.alw_ready.specs.Rows.{instr_at, handle_at, delivery, no_row, row_at}
 use Rattle.alw_ready.specs.Fits.{may_happen, is_in_time, SaysBut, RowFitsBut, RowFits, RowsFit, nobody}
-use Rattle.alw_ready.specs.Changes.{is_fed, IsRenewed, RowsFitBut}
+use Rattle.alw_ready.specs.Changes.{is_fed, RowIsRenewed, RowsFitBut}
 use Rattle.alw_ready.proofs.MainEvents.{sender_exists}
 
 -- ---- sends

@@ -11,7 +11,7 @@ use Rattle.alw_num.proofs.Words.{count_at_most}
 use Rattle.alw_msg.specs.declared.events.Event.{Event}
 use Rattle.alw_model.proofs.Journals.{and_parts}
 use Rattle.alw_ready.specs.declared.rows.Row.{Row}
-use Rattle.alw_ready.specs.Rows.{instr_at, handle_at, delivery, event_if, row_events, row_count, events_from, events_of, no_row, row_at, AreCounted}
+use Rattle.alw_ready.specs.Rows.{instr_at, handle_at, delivery, event_if, row_events, row_count, events_from, events_of, no_row, row_at, RowsAreCounted}
 use Rattle.alw_num.specs.PlaceCounts.{sum_before, total, IsPlace}
 
 -- ---- one row
@@ -110,13 +110,13 @@ none_counted : (n : ℕ) → replicate n 0 ≡ map row_count (replicate n no_row
 none_counted zero = refl
 none_counted (suc n) = ap (λ counts. 0 ∷ counts) (none_counted n)
 
-pub starts : (n : ℕ) (rows : List Row) (counts : List ℕ) → n ≤ 256 → rows ≡ replicate n no_row → counts ≡ replicate n 0 → AreCounted rows counts
+pub starts : (n : ℕ) (rows : List Row) (counts : List ℕ) → n ≤ 256 → rows ≡ replicate n no_row → counts ≡ replicate n 0 → RowsAreCounted rows counts
 starts n rows counts few rows_are counts_are = record {
   few = omega (arith, ap length rows_are, length-replicate {A = Row} n no_row);
   counted = counts_are ∙ (none_counted n ∙ ap (map row_count) (sym rows_are));
 }
 
-module _ (rows : List Row) (counts : List ℕ) (are : AreCounted rows counts) where
+module _ (rows : List Row) (counts : List ℕ) (are : RowsAreCounted rows counts) where
   pub total_is : (now : List Row) → rows ≡ now → total counts ≡ length (events_of now)
   total_is now is = ap total are.counted ∙ (sym (events_counted 0 rows) ∙ ap (λ (seen : List Row). length (events_of seen)) is)
 
@@ -131,7 +131,7 @@ module _ (rows : List Row) (counts : List ℕ) (are : AreCounted rows counts) wh
       ∙ (nth_event 0 rows k place left (rw (← are.counted) found)
       ∙ (λ x. slice_get (row_events (e x) (sym (get_or_read rows place row here read no_row) x)) left))
 
-  pub set_counted : (place count : ℕ) (row : Row) (next : List ℕ) → next ≡ set counts place count → count ≡ row_count row → AreCounted (set rows place row) next
+  pub set_counted : (place count : ℕ) (row : Row) (next : List ℕ) → next ≡ set counts place count → count ≡ row_count row → RowsAreCounted (set rows place row) next
   set_counted place count row next next_is count_is = record {
     few = omega (arith, are.few, length-set rows place row);
     counted = next_is ∙ ((λ x. set (are.counted x) place (count_is x)) ∙ sym (map-set row_count rows place row));

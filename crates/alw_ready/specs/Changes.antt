@@ -65,17 +65,17 @@ is_fed_for sender sends (Deliver from to) = is_fed sender sends from.0 to.0
 is_fed_for sender sends _ = false
 
 -- a row once the instruction, the handler and the deliveries from some senders were looked at again, with all other senders as they were
-pub record IsRenewed (test : Event → Bool) (at : ℕ) (again : ℕ → Bool) (before after : Row) : Type 0 where
+pub record RowIsRenewed (test : Event → Bool) (at : ℕ) (again : ℕ → Bool) (before after : Row) : Type 0 where
   pub instr : after.instr ≡ test (instr_at at)
   pub handle : after.handle ≡ test (handle_at at)
   pub senders : (from : ℕ) → has_node (nodes_of after.senders) from ≡ cond (again from) (test (delivery from at)) (has_node (nodes_of before.senders) from)
 
 -- the row of an event's own node was looked at again, with those of its senders that the event may have changed; all other rows stay
-pub record IsOwnRenewed (parts : Parts) (parameters : Parameters) (machine : MachineState) (happened : Happened) (before after : List Row) : Type 0 where
+pub record OwnRowIsRenewed (parts : Parts) (parameters : Parameters) (machine : MachineState) (happened : Happened) (before after : List Row) : Type 0 where
   pub own : Row
   pub rows_are : after ≡ slice_set before (node_of happened.event) own
   pub in_time : own.in_time ≡ is_in_time parameters machine (node_of happened.event)
-  pub renewed : IsRenewed (may_happen parts parameters machine) (node_of happened.event) (λ from. happened.wide || takes_from happened.event from (node_of happened.event)) (row_at before (node_of happened.event)) own
+  pub renewed : RowIsRenewed (may_happen parts parameters machine) (node_of happened.event) (λ from. happened.wide || takes_from happened.event from (node_of happened.event)) (row_at before (node_of happened.event)) own
 
 -- there is a row for each node, and it fits, but for deliveries from a sender of messages that were sent just now
 pub record RowsFitBut (parts : Parts) (parameters : Parameters) (machine : MachineState) (sender : ℕ) (sends : List (ℕ × Msg)) (rows : List Row) : Type 0 where
@@ -88,7 +88,7 @@ EveryStep Fact = EveryJournal (λ parts parameters journal. (event : Event) → 
     IsTrue (is_enabled parts parameters machine event) → has_halted (step parts parameters machine event) ≡ has_halted machine → Fact parts parameters machine event (step parts parameters machine event))
 
 -- what is told of an event of a machine is so: it is enabled, its sends and the machine after it are these, and where it isn't told, it isn't wide, and not every context halts with it
-pub record IsTold (parts : Parts) (parameters : Parameters) (before after : MachineState) (happened : Happened) (sends : List (ℕ × Msg)) : Type 0 where
+pub record EventIsTold (parts : Parts) (parameters : Parameters) (before after : MachineState) (happened : Happened) (sends : List (ℕ × Msg)) : Type 0 where
   pub enabled : IsTrue (is_enabled parts parameters before happened.event)
   pub sends_are : sends ≡ (stepped_by parts parameters before happened.event).sends
   pub after_is : after ≡ step parts parameters before happened.event

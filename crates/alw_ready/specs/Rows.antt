@@ -46,6 +46,6 @@ abbrev pub row_at : List Row → ℕ → Row
 row_at rows at = slice_index_or rows at no_row
 
 -- rows of at most 256 nodes, each with the count of its events
-pub record AreCounted (rows : List Row) (counts : List ℕ) : Type 0 where
+pub record RowsAreCounted (rows : List Row) (counts : List ℕ) : Type 0 where
   pub few : length rows ≤ 256
   pub counted : counts ≡ map row_count rows

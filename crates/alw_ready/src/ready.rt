@@ -17,13 +17,13 @@ pub struct Ready {
 impl Model for Ready {
     ghost use Rattle.std.specs.Prelude.{List};
     ghost use Rattle.alw_ready.specs.declared.rows.Row.{Row};
-    ghost use Rattle.alw_ready.specs.Rows.{AreCounted};
+    ghost use Rattle.alw_ready.specs.Rows.{RowsAreCounted};
 
     ghost Value = { List Row };
 
     ghost view = { λ r. r.rows.items };
 
-    ghost invariant = { λ r. AreCounted r.rows.items r.tally };
+    ghost invariant = { λ r. RowsAreCounted r.rows.items r.tally };
 }
 
 impl Ready {

@@ -8,7 +8,7 @@ ghost use Rattle.law_lines.specs.Links.{GoBelow};
 ghost use Rattle.law_order.specs.Orders.{takes_from};
 ghost use Rattle.alw_ready.specs.Rows.{instr_at, handle_at, delivery};
 ghost use Rattle.alw_ready.specs.Fits.{may_happen, is_in_time, RowFits, RowsFit};
-ghost use Rattle.alw_ready.specs.Changes.{IsRenewed, IsOwnRenewed, RowsFitBut, IsTold};
+ghost use Rattle.alw_ready.specs.Changes.{RowIsRenewed, OwnRowIsRenewed, RowsFitBut, EventIsTold};
 
 use crate::changes::Happened;
 use crate::ready::Ready;
@@ -40,7 +40,7 @@ impl Ready {
         requires here { node_of happened.now.event < length self.old }
         requires below { GoBelow (length self.old) sends.now.messages }
         ensures { (journal : List Entry) → IsLegal (V.image view.now) (V.parameters view.now) journal →
-            IsTold (V.image view.now) (V.parameters view.now) (state (V.image view.now) (V.parameters view.now) journal) (V.state view.now) happened.now sends.now.messages →
+            EventIsTold (V.image view.now) (V.parameters view.now) (state (V.image view.now) (V.parameters view.now) journal) (V.state view.now) happened.now sends.now.messages →
             RowsFit (V.image view.now) (V.parameters view.now) (state (V.image view.now) (V.parameters view.now) journal) self.old →
             RowsFit (V.image view.now) (V.parameters view.now) (V.state view.now) self.new }
     {
@@ -57,7 +57,7 @@ impl Ready {
         requires counted { length self.old ≡ node_count (V.image view.now) }
         requires few { node_count (V.image view.now) ≤ 256 }
         requires here { node_of happened.now.event < length self.old }
-        ensures { IsOwnRenewed (V.image view.now) (V.parameters view.now) (V.state view.now) happened.now self.old self.new }
+        ensures { OwnRowIsRenewed (V.image view.now) (V.parameters view.now) (V.state view.now) happened.now self.old self.new }
     {
         let node = happened.event.node();
         if keeps_senders(happened) {
@@ -99,7 +99,7 @@ fn own_row<V: View>(view: &V, happened: &Happened, row: Row) -> Row
     requires few { node_count (V.image view.now) ≤ 256 }
     requires here { node_of happened.now.event < node_count (V.image view.now) }
     ensures in_time { result.in_time ≡ is_in_time (V.parameters view.now) (V.state view.now) (node_of happened.now.event) }
-    ensures renewed { IsRenewed (may_happen (V.image view.now) (V.parameters view.now) (V.state view.now)) (node_of happened.now.event)
+    ensures renewed { RowIsRenewed (may_happen (V.image view.now) (V.parameters view.now) (V.state view.now)) (node_of happened.now.event)
         (λ from. happened.now.wide || takes_from happened.now.event from (node_of happened.now.event)) row result }
 {
     let senders = own_senders(view, happened, row.senders);

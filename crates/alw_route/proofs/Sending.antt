@@ -22,7 +22,7 @@ use Rattle.alw_mesh.specs.Histories.{History, state_of, entry_of, grown, last_se
 use Rattle.alw_mesh.proofs.Journals.{last_push}
 use Rattle.alw_replay.specs.Replays.{may_follow}
 use Rattle.mesh_route.specs.declared.queues.Packet.{Packet}
-use Rattle.mesh_route.specs.Meshes.{Act, Injects, IsWithin}
+use Rattle.mesh_route.specs.Meshes.{Act, Injects, ActIsWithin}
 use Rattle.alw_route.specs.Sending.{packet_from, packets_in, packets_of}
 use Rattle.alw_route.specs.Loading.{sent_in}
 
@@ -66,18 +66,18 @@ goals_exist h entry joined follows legal =
 
 -- ---- a whole journal
 
-all_append : (n : ℕ) (front back : List Packet) → AllByRecursion (IsWithin n) (map Injects front) → AllByRecursion (IsWithin n) (map Injects back)
-    → AllByRecursion (IsWithin n) (map Injects (front ++ back))
+all_append : (n : ℕ) (front back : List Packet) → AllByRecursion (ActIsWithin n) (map Injects front) → AllByRecursion (ActIsWithin n) (map Injects back)
+    → AllByRecursion (ActIsWithin n) (map Injects (front ++ back))
 all_append n [] back a b = b
 all_append n (packet ∷ rest) back a b = (a.0, all_append n rest back a.1 b)
 
-one_within : (n from : ℕ) (sends : List (ℕ × Msg)) → from < n → GoBelow n sends → AllByRecursion (IsWithin n) (map Injects (map (packet_from from) sends))
+one_within : (n from : ℕ) (sends : List (ℕ × Msg)) → from < n → GoBelow n sends → AllByRecursion (ActIsWithin n) (map Injects (map (packet_from from) sends))
 one_within n from [] here go = tt
 one_within n from (send ∷ rest) here go = ((here, go.0), one_within n from rest here go.1)
 
 module _ (image : Parts) (parameters : Parameters) where
   all_within : (s : MachineState) (journal : List Entry) → IsAimed image s → AreLegal image parameters s journal
-      → AllByRecursion (IsWithin (node_count image)) (map Injects (flat_map packets_in (moments_from image parameters s journal)))
+      → AllByRecursion (ActIsWithin (node_count image)) (map Injects (flat_map packets_in (moments_from image parameters s journal)))
   all_within s [] aimed legal = tt
   all_within s (entry ∷ rest) aimed (next, legal) =
       all_append (node_count image) (packets_in (moment_of image parameters s entry))
@@ -88,7 +88,7 @@ module _ (image : Parts) (parameters : Parameters) where
       (all_within (step image parameters s entry.event) rest (step_aimed image parameters s entry.event next.enabled aimed) legal)
 
   -- the messages of a legal journal can be injected
-  pub within : (journal : List Entry) → IsLegal image parameters journal → AllByRecursion (IsWithin (node_count image))
+  pub within : (journal : List Entry) → IsLegal image parameters journal → AllByRecursion (ActIsWithin (node_count image))
       (map Injects (packets_of image parameters journal))
   unfolding moments
   within journal legal = all_within (machine_start image) journal (start_aimed image parameters) legal

@@ -2,7 +2,7 @@ ghost use Rattle.std.specs.Prelude.{◌≡◌, ◌<◌, IfOk, OnOk};
 ghost use Rattle.law_lines.specs.Links.{GoBelow};
 ghost use Rattle.alw_replay.specs.Replays.{Replays, Takes, taken_on};
 ghost use Rattle.mesh_route.specs.Meshes.{count_of};
-ghost use Rattle.alw_route.specs.Loading.{IsLoaded, replayed_in, after_sends, IsUnderWay};
+ghost use Rattle.alw_route.specs.Loading.{MessagesAreLoaded, replayed_in, after_sends, RouteIsUnderWay};
 
 use alw_image::{Image, Params};
 use alw_mesh::{FitErr, Machine};
@@ -31,7 +31,7 @@ pub fn carry(
     entries: &Journal,
 ) -> Result<Carried, FitErr>
     ensures replays { Replays image.now params.now entries.now (replayed_in result) }
-    ensures loaded { IfOk result (λ carried. IsLoaded carried.machine carried.hops) }
+    ensures loaded { IfOk result (λ carried. MessagesAreLoaded carried.machine carried.hops) }
 {
     let mut machine = Machine::start(alloc, image, params)?;
     let mut hops = Hops::start(alloc, image.width(), image.height())?;
@@ -46,9 +46,9 @@ pub fn carry(
 
 // Takes entries one by one, up to the first that isn't the next, and gives the routers what each sends.
 fn carry_all(machine: &mut Machine, hops: &mut Hops, entries: &[Entry]) -> Result<(), NoMemory>
-    requires { IsUnderWay machine.old hops.old }
+    requires { RouteIsUnderWay machine.old hops.old }
     ensures taken { OnOk result (machine.new ≡ taken_on machine.old entries.now) }
-    ensures under_way { OnOk result (IsUnderWay machine.new hops.new) }
+    ensures under_way { OnOk result (RouteIsUnderWay machine.new hops.new) }
 {
     for entry in entries {
         if !carry_one(machine, hops, *entry)? {
@@ -60,9 +60,9 @@ fn carry_all(machine: &mut Machine, hops: &mut Hops, entries: &[Entry]) -> Resul
 
 // Takes an entry where it is the next one, and gives the routers what it sends.
 fn carry_one(machine: &mut Machine, hops: &mut Hops, entry: Entry) -> Result<bool, NoMemory>
-    requires { IsUnderWay machine.old hops.old }
+    requires { RouteIsUnderWay machine.old hops.old }
     ensures taken { IfOk result (λ taken. Takes machine.old entry machine.new taken) }
-    ensures under_way { OnOk result (IsUnderWay machine.new hops.new) }
+    ensures under_way { OnOk result (RouteIsUnderWay machine.new hops.new) }
 {
     let taken = take(machine, entry)?;
     if !taken {

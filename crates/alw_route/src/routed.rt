@@ -1,6 +1,6 @@
 ghost use Rattle.std.specs.Prelude.{◌≡◌, ◌++◌, IfOk, OnOk};
 ghost use Rattle.std.specs.List.{flat_map};
-ghost use Rattle.alw_route.specs.Loading.{IsLoaded};
+ghost use Rattle.alw_route.specs.Loading.{MessagesAreLoaded};
 ghost use Rattle.alw_route.specs.Texts.{routed_of, count_line, title, mesh_line, wire_line, wires_text, head_text, routed_text, route_text_of};
 
 use crate::delivering::deliver;
@@ -26,7 +26,7 @@ pub struct Routed {
 /// each hop a number r is drawn from the seed; the queue is number r mod m of the m that have a message,
 /// by node and then in the order Local, West, East, North, South. The text is the same for every seed.
 pub fn route_text(alloc: Global, machine: &Machine, hops: Hops, seed: u64) -> Result<Text, NoMemory>
-    requires { IsLoaded machine.now hops }
+    requires { MessagesAreLoaded machine.now hops }
     ensures { IfOk result (λ text. text ≡ route_text_of machine.now.image machine.now.parameters machine.now.journal) }
 {
     let mut hops = hops;
@@ -43,7 +43,7 @@ fn delivered(
     hops: &mut Hops,
     seed: u64,
 ) -> Result<Routed, NoMemory>
-    requires { IsLoaded machine.now hops.old }
+    requires { MessagesAreLoaded machine.now hops.old }
     ensures { IfOk result (λ routed. routed ≡ routed_of machine.now.image machine.now.parameters machine.now.journal) }
 {
     // A clause of this call says that the journal is legal.

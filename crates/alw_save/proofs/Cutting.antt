@@ -16,7 +16,7 @@ use Rattle.alw_replay.proofs.Kept.{first_illegal, all_legal, all_taken, legal_ta
 use Rattle.alw_trace.specs.declared.values.Trace.{Trace}
 use Rattle.alw_save.specs.declared.faults.CutErr.{CutErr}
 use Rattle.alw_save.specs.declared.faults.CutErr.TheVariants.{DoesNotFit, NotLegal, NoMemory}
-use Rattle.alw_save.specs.Cuts.{IsSound, IsCut, IsNoCut, LeavesAll, LeavesCut, cut_machine, no_cut_of}
+use Rattle.alw_save.specs.Cuts.{TraceIsSound, JournalIsCut, IsNoCut, LeavesAll, LeavesCut, cut_machine, no_cut_of}
 
 -- a cut that keeps as many entries as there are keeps them all
 few_kept : (at : ℕ) (entries : List Entry) → length (kept_by at entries) ≤ length entries
@@ -61,8 +61,8 @@ module _ (trace : Trace) where
   few_entries machine entries leaves same =
       omega (arith, journal_fits machine leaves.1, ap (λ (h : History). length h.journal) leaves.2, ap length same)
 
-  module _ (sound_is : IsSound trace) (at : ℕ) where
-    pub cut_is : (kept rest : List Entry) → kept ≡ kept_by at trace.journal → rest ≡ later_than at trace.journal → IsCut trace at kept rest
+  module _ (sound_is : TraceIsSound trace) (at : ℕ) where
+    pub cut_is : (kept rest : List Entry) → kept ≡ kept_by at trace.journal → rest ≡ later_than at trace.journal → JournalIsCut trace at kept rest
     cut_is kept rest one other = rw (one, other) (record {
       kept_are = refl;
       rest_are = refl;

@@ -9,7 +9,7 @@ use Rattle.alw_trace.specs.declared.values.Trace.{Trace}
 use Rattle.alw_trace.specs.Fronts.{front_text}
 use Rattle.alw_save.specs.declared.faults.CutErr.{CutErr}
 use Rattle.alw_save.specs.States.{state_text}
-use Rattle.alw_save.specs.Cuts.{IsSound, IsNoCut}
+use Rattle.alw_save.specs.Cuts.{TraceIsSound, IsNoCut}
 
 unfoldable pub save_title : List ℕ
 save_title = codes "ALEWIFE SAVE 1\n"
@@ -23,5 +23,5 @@ checkpoint_text parts parameters journal = save_title ++ (front_text parts param
 
 -- what `save` answers: the checkpoint of the entries that the cut keeps, or why the trace isn't cut
 abbrev pub Saves : Trace → ℕ → Result (List ℕ) CutErr → Type 0
-Saves trace at (Ok text) = IsSound trace × (text ≡ checkpoint_text trace.image trace.params (kept_by at trace.journal))
+Saves trace at (Ok text) = TraceIsSound trace × (text ≡ checkpoint_text trace.image trace.params (kept_by at trace.journal))
 Saves trace at (Err fault) = IsNoCut trace fault

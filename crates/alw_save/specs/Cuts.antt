@@ -16,12 +16,12 @@ use Rattle.alw_save.specs.declared.faults.CutErr.{CutErr}
 use Rattle.alw_save.specs.declared.faults.CutErr.TheVariants.{DoesNotFit, NotLegal, NoMemory}
 
 -- the trace fits, and all its entries are legal
-pub record IsSound (trace : Trace) : Type 0 where
+pub record TraceIsSound (trace : Trace) : Type 0 where
   pub fits : stamps_of trace.image trace.params ≤ MOST_STEPS
   pub legal : IsLegal trace.image trace.params trace.journal
 
 -- a legal journal is cut at a stamp: the entries with at most this stamp are legal, and the others behind them, which leaves the same state
-pub record IsCut (trace : Trace) (at : ℕ) (kept rest : List Entry) : Type 0 where
+pub record JournalIsCut (trace : Trace) (at : ℕ) (kept rest : List Entry) : Type 0 where
   pub kept_are : kept ≡ kept_by at trace.journal
   pub rest_are : rest ≡ later_than at trace.journal
   pub legal : IsLegal trace.image trace.params kept
@@ -35,7 +35,7 @@ IsNoCut trace (NotLegal k) = (stamps_of trace.image trace.params ≤ MOST_STEPS)
 IsNoCut trace NoMemory = stamps_of trace.image trace.params ≤ MOST_STEPS
 
 abbrev pub Cuts : Trace → ℕ → Result Cut CutErr → Type 0
-Cuts trace at (Ok cut) = IsSound trace × IsCut trace at cut.kept cut.rest
+Cuts trace at (Ok cut) = TraceIsSound trace × JournalIsCut trace at cut.kept cut.rest
 Cuts trace at (Err fault) = IsNoCut trace fault
 
 -- the machine after all entries of a trace
@@ -43,7 +43,7 @@ abbrev pub whole_of : Trace → History
 whole_of trace = record { image = trace.image; parameters = trace.params; journal = trace.journal; joined = 0 }
 
 abbrev pub LeavesAll : Trace → Result History CutErr → Type 0
-LeavesAll trace (Ok machine) = IsSound trace × IsRun machine × (machine ≡ whole_of trace)
+LeavesAll trace (Ok machine) = TraceIsSound trace × IsRun machine × (machine ≡ whole_of trace)
 LeavesAll trace (Err fault) = IsNoCut trace fault
 
 -- the machine that a cut leaves
@@ -51,7 +51,7 @@ abbrev pub cut_machine : Trace → ℕ → History
 cut_machine trace at = record { image = trace.image; parameters = trace.params; journal = kept_by at trace.journal; joined = 0 }
 
 abbrev pub LeavesCut : Trace → ℕ → Result History CutErr → Type 0
-LeavesCut trace at (Ok machine) = IsSound trace × IsRun machine × (machine ≡ cut_machine trace at)
+LeavesCut trace at (Ok machine) = TraceIsSound trace × IsRun machine × (machine ≡ cut_machine trace at)
 LeavesCut trace at (Err fault) = IsNoCut trace fault
 
 -- why a machine doesn't start, of a trace

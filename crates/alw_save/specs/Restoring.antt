@@ -11,7 +11,7 @@ use Rattle.alw_save.specs.declared.faults.CutErr.{CutErr}
 use Rattle.alw_save.specs.declared.faults.CutErr.TheVariants as cuts
 use Rattle.alw_save.specs.declared.faults.RestoreErr.{RestoreErr}
 use Rattle.alw_save.specs.declared.faults.RestoreErr.TheVariants.{Text, DoesNotFit, NotLegal, StateDiffers, NoMemory}
-use Rattle.alw_save.specs.Cuts.{IsSound, IsNoCut}
+use Rattle.alw_save.specs.Cuts.{TraceIsSound, IsNoCut}
 use Rattle.alw_save.specs.Checkpoints.{save_title, state_part, checkpoint_text}
 use Rattle.alw_save.specs.Differences.{DiffersAt, ended_lines}
 
@@ -31,7 +31,7 @@ pub record IsCheckpoint (bytes : List ℕ) (evict : ℕ) (machine : History) : T
   pub text : bytes ≡ checkpoint_text machine.image machine.parameters machine.journal
 
 -- the lines up to the last entry are those of a trace, of which, with this evict, this holds, and of what stands behind them
-pub record IsReadAs (bytes : List ℕ) (evict : ℕ) (Holds : Trace → List ℕ → Type 0) : Type 0 where
+pub record TextIsReadAs (bytes : List ℕ) (evict : ℕ) (Holds : Trace → List ℕ → Type 0) : Type 0 where
   pub trace : Trace
   pub rest : List ℕ
   pub front : IsFrontOf save_title bytes trace rest
@@ -39,7 +39,7 @@ pub record IsReadAs (bytes : List ℕ) (evict : ℕ) (Holds : Trace → List ℕ
 
 -- its entries are legal, and a line behind them isn't the one that their state gives, the first such one
 pub record IsAnotherState (line : ℕ) (trace : Trace) (rest : List ℕ) : Type 0 where
-  pub sound : IsSound trace
+  pub sound : TraceIsSound trace
   pub agreed : ℕ
   pub differs : DiffersAt (ended_lines (state_part trace.image (state trace.image trace.params trace.journal))) (ended_lines rest) agreed
   pub place : line ≡ first_behind trace + agreed
@@ -52,9 +52,9 @@ LeavesNone fault trace rest = IsNoCut trace fault
 abbrev pub Restores : List ℕ → ℕ → Result History RestoreErr → Type 0
 Restores bytes evict (Ok machine) = IsCheckpoint bytes evict machine
 Restores bytes evict (Err (Text fault)) = (fault ≢ text.NoMemory) × IsNoFront save_title bytes fault
-Restores bytes evict (Err (DoesNotFit number most)) = IsReadAs bytes evict (LeavesNone (cuts.DoesNotFit number most))
-Restores bytes evict (Err (NotLegal k)) = IsReadAs bytes evict (LeavesNone (cuts.NotLegal k))
-Restores bytes evict (Err (StateDiffers line)) = IsReadAs bytes evict (IsAnotherState line)
+Restores bytes evict (Err (DoesNotFit number most)) = TextIsReadAs bytes evict (LeavesNone (cuts.DoesNotFit number most))
+Restores bytes evict (Err (NotLegal k)) = TextIsReadAs bytes evict (LeavesNone (cuts.NotLegal k))
+Restores bytes evict (Err (StateDiffers line)) = TextIsReadAs bytes evict (IsAnotherState line)
 Restores bytes evict (Err NoMemory) = ⊤
 
 -- ---- the errors of what it calls

@@ -4,10 +4,10 @@ use Rattle.alw_num.specs.Draws.{drawn, drawn_times}
 use Rattle.alw_msg.specs.declared.events.Event.{Event}
 use Rattle.alw_msg.specs.declared.events.Entry.{Entry}
 use Rattle.alw_mesh.specs.Histories.{History, grown, entry_of}
-use Rattle.alw_sched.specs.Schedules.{AreDrawn, IsSeeded}
+use Rattle.alw_sched.specs.Schedules.{EventsAreDrawn, MachineIsSeeded}
 
 -- each event took one draw, and is one entry
-drawn_count : (h : History) (x : ℕ) (events : List Event) (after : History) (y : ℕ) → AreDrawn h x events after y →
+drawn_count : (h : History) (x : ℕ) (events : List Event) (after : History) (y : ℕ) → EventsAreDrawn h x events after y →
     (length after.journal ≡ length events + length h.journal) × (y ≡ drawn_times (length events) x)
 drawn_count h x [] after y are = let same = ap (λ (g : History). length g.journal) (sym are.0) in (omega (arith, same), sym are.1)
 drawn_count h x (event ∷ rest) after y are =
@@ -17,12 +17,12 @@ drawn_count h x (event ∷ rest) after y are =
 
 -- events behind others
 drawn_behind : (h : History) (x : ℕ) (events : List Event) (mid : History) (y : ℕ) (more : List Event) (after : History) (z : ℕ) →
-    AreDrawn h x events mid y → AreDrawn mid y more after z → AreDrawn h x (events ++ more) after z
+    EventsAreDrawn h x events mid y → EventsAreDrawn mid y more after z → EventsAreDrawn h x (events ++ more) after z
 drawn_behind h x [] mid y more after z are next = rw (are.0, are.1) next
 drawn_behind h x (event ∷ rest) mid y more after z are next = (are.0, drawn_behind (grown h event) (drawn x) rest mid y more after z are.1 next)
 
-pub goes_on : (before : History) (seed : ℕ) (refused after : History) → IsSeeded before seed refused →
-    IsSeeded refused (drawn_times (length refused.journal - length before.journal) seed) after → IsSeeded before seed after
+pub goes_on : (before : History) (seed : ℕ) (refused after : History) → MachineIsSeeded before seed refused →
+    MachineIsSeeded refused (drawn_times (length refused.journal - length before.journal) seed) after → MachineIsSeeded before seed after
 goes_on before seed refused after first then_on =
     let counted = drawn_count before seed first.events refused first.last first.drawn_are in
     let count : length refused.journal - length before.journal ≡ length first.events = omega (arith, counted.0) in
@@ -31,5 +31,5 @@ goes_on before seed refused after first then_on =
       events = first.events ++ then_on.events;
       last = then_on.last;
       drawn_are = drawn_behind before seed first.events refused first.last then_on.events after then_on.last first.drawn_are
-          (subst (λ (x : ℕ). AreDrawn refused x then_on.events after then_on.last) state then_on.drawn_are);
+          (subst (λ (x : ℕ). EventsAreDrawn refused x then_on.events after then_on.last) state then_on.drawn_are);
     }

@@ -18,12 +18,12 @@ use Rattle.alw_mesh.specs.Readings.{node_in}
 use Rattle.alw_model.specs.Contexts.{all_halted}
 use Rattle.std.proofs.lemmas.Bool.Decides.{nat_tests}
 use Rattle.alw_num.specs.Draws.{drawn, drawn_number}
-use Rattle.alw_sched.specs.Schedules.{end_in, picked, is_evicted, asked_node, asked_eviction, IsDrawn, AreDrawn, IsSeeded, IsSeededRun}
+use Rattle.alw_sched.specs.Schedules.{end_in, picked, is_evicted, asked_node, asked_eviction, EventIsDrawn, EventsAreDrawn, MachineIsSeeded, IsSeededRun}
 
 -- ---- one event more
 
-pub drawn_more : (h : History) (x : ℕ) (events : List Event) (mid : History) (y : ℕ) (event : Event) → AreDrawn h x events mid y → IsDrawn mid y event →
-    AreDrawn h x (events ++ event ∷ []) (grown mid event) (drawn y)
+pub drawn_more : (h : History) (x : ℕ) (events : List Event) (mid : History) (y : ℕ) (event : Event) → EventsAreDrawn h x events mid y → EventIsDrawn mid y event →
+    EventsAreDrawn h x (events ++ event ∷ []) (grown mid event) (drawn y)
 drawn_more h x [] mid y event same next = rw (same.0, same.1) (next, (refl, refl))
 drawn_more h x (first ∷ rest) mid y event are next = (are.0, drawn_more (grown h first) (drawn x) rest mid y event are.1 next)
 
@@ -33,16 +33,16 @@ some_is : (a b : Event) → Some a ≡ Some b → a ≡ b
 some_is a b same = cc
 
 -- two runs from one place, each up to an end, are one
-alike : (h : History) (x : ℕ) (events others : List Event) (a b : History) (y z : ℕ) → AreDrawn h x events a y → AreDrawn h x others b z →
+alike : (h : History) (x : ℕ) (events others : List Event) (a b : History) (y z : ℕ) → EventsAreDrawn h x events a y → EventsAreDrawn h x others b z →
     (end_in a ≡ None → ⊥) → (end_in b ≡ None → ⊥) → a ≡ b
 alike h x [] [] a b y z here there ended also = sym here.0 ∙ there.0
 alike h x [] (other ∷ more) a b y z here there ended also = absurd (ended (ap end_in (sym here.0) ∙ there.0.going))
 alike h x (event ∷ rest) [] a b y z here there ended also = absurd (also (ap end_in (sym there.0) ∙ here.0.going))
 alike h x (event ∷ rest) (other ∷ more) a b y z here there ended also =
     let same = some_is event other (sym here.0.pick ∙ there.0.pick) in
-    alike (grown h other) (drawn x) rest more a b y z (subst (λ (e : Event). AreDrawn (grown h e) (drawn x) rest a y) same here.1) there.1 ended also
+    alike (grown h other) (drawn x) rest more a b y z (subst (λ (e : Event). EventsAreDrawn (grown h e) (drawn x) rest a y) same here.1) there.1 ended also
 
-pub one_seeded : (before : History) (seed : ℕ) (a b : History) → IsSeeded before seed a → IsSeeded before seed b →
+pub one_seeded : (before : History) (seed : ℕ) (a b : History) → MachineIsSeeded before seed a → MachineIsSeeded before seed b →
     (end_in a ≡ None → ⊥) → (end_in b ≡ None → ⊥) → a ≡ b
 one_seeded before seed a b one other ended also = alike before seed one.events other.events a b one.last other.last one.drawn_are other.drawn_are ended also
 
@@ -97,7 +97,7 @@ main_picked h number event none pick =
 
 -- ---- no end before the last entry
 
-scheduled : (h : History) (x : ℕ) (events : List Event) (after : History) (y : ℕ) → AreDrawn h x events after y →
+scheduled : (h : History) (x : ℕ) (events : List Event) (after : History) (y : ℕ) → EventsAreDrawn h x events after y →
     IsScheduled h.image h.parameters h.journal → IsScheduled after.image after.parameters after.journal
 scheduled h x [] after y are so_far = subst (λ (g : History). IsScheduled g.image g.parameters g.journal) are.0 so_far
 scheduled h x (event ∷ rest) after y are so_far =
@@ -114,7 +114,7 @@ seeded_scheduled image parameters seed journal seeded =
 abbrev of_journal : History → List Entry → History
 of_journal h journal = record { image = h.image; parameters = h.parameters; journal = journal; joined = h.joined }
 
-stays : (h : History) (x : ℕ) (events : List Event) (after : History) (y : ℕ) → AreDrawn h x events after y → after ≡ of_journal h after.journal
+stays : (h : History) (x : ℕ) (events : List Event) (after : History) (y : ℕ) → EventsAreDrawn h x events after y → after ≡ of_journal h after.journal
 stays h x [] after y are = subst (λ (g : History). g ≡ of_journal h g.journal) are.0 (same h)
   where
     same : (g : History) → g ≡ of_journal g g.journal
@@ -122,26 +122,26 @@ stays h x [] after y are = subst (λ (g : History). g ≡ of_journal h g.journal
 stays h x (event ∷ rest) after y are = stays (grown h event) (drawn x) rest after y are.1
 
 -- a machine that a seed has taken from its start has the seed's journal
-pub seeded_run : (image : Parts) (parameters : Parameters) (seed : ℕ) (after : History) → IsSeeded (begun image parameters) seed after → IsSeededRun image parameters seed after.journal
+pub seeded_run : (image : Parts) (parameters : Parameters) (seed : ℕ) (after : History) → MachineIsSeeded (begun image parameters) seed after → IsSeededRun image parameters seed after.journal
 seeded_run image parameters seed after seeded =
-    subst (λ (g : History). IsSeeded (begun image parameters) seed g) (stays (begun image parameters) seed seeded.events after seeded.last seeded.drawn_are) seeded
+    subst (λ (g : History). MachineIsSeeded (begun image parameters) seed g) (stays (begun image parameters) seed seeded.events after seeded.last seeded.drawn_are) seeded
 
-pub of_start : (image : Parts) (parameters : Parameters) (seed : ℕ) (after : History) → IsSeeded (begun image parameters) seed after → after ≡ record { image = image; parameters = parameters; journal = after.journal; joined = 0 }
+pub of_start : (image : Parts) (parameters : Parameters) (seed : ℕ) (after : History) → MachineIsSeeded (begun image parameters) seed after → after ≡ record { image = image; parameters = parameters; journal = after.journal; joined = 0 }
 of_start image parameters seed after seeded = stays (begun image parameters) seed seeded.events after seeded.last seeded.drawn_are
 
-pub seeded_stays : (before : History) (seed : ℕ) (after : History) → IsSeeded before seed after →
+pub seeded_stays : (before : History) (seed : ℕ) (after : History) → MachineIsSeeded before seed after →
     after ≡ record { image = before.image; parameters = before.parameters; journal = after.journal; joined = before.joined }
 seeded_stays before seed after seeded = stays before seed seeded.events after seeded.last seeded.drawn_are
 
 -- ---- what stood before stays in front
 
-drawn_front : (h : History) (x : ℕ) (events : List Event) (after : History) (y : ℕ) → AreDrawn h x events after y → (rest : List Entry) × (after.journal ≡ h.journal ++ rest)
+drawn_front : (h : History) (x : ℕ) (events : List Event) (after : History) (y : ℕ) → EventsAreDrawn h x events after y → (rest : List Entry) × (after.journal ≡ h.journal ++ rest)
 drawn_front h x [] after y are = ([], ap (λ (g : History). g.journal) (sym are.0) ∙ sym (append-nil h.journal))
 drawn_front h x (event ∷ rest) after y are =
     let more = drawn_front (grown h event) (drawn x) rest after y are.1 in
     (entry_of h event ∷ more.0, more.1 ∙ append_assoc h.journal (entry_of h event ∷ []) more.0)
 
-pub seeded_front : (before : History) (seed : ℕ) (after : History) → IsSeeded before seed after → (rest : List Entry) × (after.journal ≡ before.journal ++ rest)
+pub seeded_front : (before : History) (seed : ℕ) (after : History) → MachineIsSeeded before seed after → (rest : List Entry) × (after.journal ≡ before.journal ++ rest)
 seeded_front before seed after seeded = drawn_front before seed seeded.events after seeded.last seeded.drawn_are
 
 -- no eviction comes where none is to be tried
@@ -152,12 +152,12 @@ none_more : (entries : List Entry) (entry : Entry) → NoneEvicts entries → is
 none_more [] entry all one = (one, tt)
 none_more (first ∷ rest) entry all one = (all.0, none_more rest entry all.1 one)
 
-drawn_evicts : (h : History) (x : ℕ) (events : List Event) (after : History) (y : ℕ) → AreDrawn h x events after y → h.parameters.evict ≡ 0 →
+drawn_evicts : (h : History) (x : ℕ) (events : List Event) (after : History) (y : ℕ) → EventsAreDrawn h x events after y → h.parameters.evict ≡ 0 →
     NoneEvicts h.journal → NoneEvicts after.journal
 drawn_evicts h x [] after y are none all = subst (λ (g : History). NoneEvicts g.journal) are.0 all
 drawn_evicts h x (event ∷ rest) after y are none all =
     drawn_evicts (grown h event) (drawn x) rest after y are.1 none
     (none_more h.journal (entry_of h event) all (main_picked h (drawn_number (drawn x)) event none are.0.pick))
 
-pub seeded_evicts : (before : History) (seed : ℕ) (after : History) → IsSeeded before seed after → before.parameters.evict ≡ 0 → NoneEvicts before.journal → NoneEvicts after.journal
+pub seeded_evicts : (before : History) (seed : ℕ) (after : History) → MachineIsSeeded before seed after → before.parameters.evict ≡ 0 → NoneEvicts before.journal → NoneEvicts after.journal
 seeded_evicts before seed after seeded none all = drawn_evicts before seed seeded.events after seeded.last seeded.drawn_are none all

@@ -44,32 +44,32 @@ picked h number = cond (is_evicted h number) (Some (asked_eviction h number)) (s
 -- ---- the run of a seed
 
 -- an event is drawn next: no end holds, and the number drawn picks it
-pub record IsDrawn (h : History) (x : ℕ) (event : Event) : Type 0 where
+pub record EventIsDrawn (h : History) (x : ℕ) (event : Event) : Type 0 where
   pub going : end_in h ≡ None
   pub pick : picked h (drawn_number (drawn x)) ≡ Some event
 
 -- events are drawn, one after another, from a machine and a state of the draws on, and leave a machine and a state of the draws
-abbrev pub AreDrawn : History → ℕ → List Event → History → ℕ → Type 0
-AreDrawn h x [] after y = (h ≡ after) × (x ≡ y)
-AreDrawn h x (event ∷ rest) after y = IsDrawn h x event × AreDrawn (grown h event) (drawn x) rest after y
+abbrev pub EventsAreDrawn : History → ℕ → List Event → History → ℕ → Type 0
+EventsAreDrawn h x [] after y = (h ≡ after) × (x ≡ y)
+EventsAreDrawn h x (event ∷ rest) after y = EventIsDrawn h x event × EventsAreDrawn (grown h event) (drawn x) rest after y
 
 -- a seed takes a machine to another
-pub record IsSeeded (before : History) (seed : ℕ) (after : History) : Type 0 where
+pub record MachineIsSeeded (before : History) (seed : ℕ) (after : History) : Type 0 where
   pub events : List Event
   pub last : ℕ
-  pub drawn_are : AreDrawn before seed events after last
+  pub drawn_are : EventsAreDrawn before seed events after last
 
 -- a journal is what a seed makes of an image from its start on
 abbrev pub IsSeededRun : Parts → Parameters → ℕ → List Entry → Type 0
-IsSeededRun image parameters seed journal = IsSeeded (begun image parameters) seed (record { image = image; parameters = parameters; journal = journal; joined = 0 })
+IsSeededRun image parameters seed journal = MachineIsSeeded (begun image parameters) seed (record { image = image; parameters = parameters; journal = journal; joined = 0 })
 
 -- a seed has taken a machine to an end
-pub record IsFinished (before : History) (seed : ℕ) (after : History) (ended : Ended) : Type 0 where
-  pub seeded : IsSeeded before seed after
+pub record RunIsFinished (before : History) (seed : ℕ) (after : History) (ended : Ended) : Type 0 where
+  pub seeded : MachineIsSeeded before seed after
   pub run : IsRun after
   pub end : IsEnd after.image after.parameters after.journal ended
 
 -- what the schedule of a seed leaves and answers: an end; or memory was refused before one
 abbrev pub Finishes : History → ℕ → History → Result Ended NoMemory → Type 0
-Finishes before seed after (Ok ended) = IsFinished before seed after ended
-Finishes before seed after (Err e) = IsSeeded before seed after
+Finishes before seed after (Ok ended) = RunIsFinished before seed after ended
+Finishes before seed after (Err e) = MachineIsSeeded before seed after

@@ -5,13 +5,13 @@ ghost use Rattle.alw_image.specs.declared.parts.Parts.{Parts};
 ghost use Rattle.alw_image.specs.Parameters.{Parameters};
 ghost use Rattle.alw_model.specs.Headline.{IsScheduled};
 ghost use Rattle.alw_mesh.specs.Histories.{History};
-ghost use Rattle.alw_sched.specs.Schedules.{end_in, IsSeeded, IsSeededRun};
+ghost use Rattle.alw_sched.specs.Schedules.{end_in, MachineIsSeeded, IsSeededRun};
 
 /// Two runs that one seed makes from one place, each up to an end, are one: so a report is a function
 /// of image, parameters and seed.
 #[tactic(auto, using(crate::proofs::Seeded::one_seeded))]
 pub fn one_run_a_seed()
-    ensures { (before : History) → (seed : ℕ) → (one : History) → (other : History) → IsSeeded before seed one → IsSeeded before seed other →
+    ensures { (before : History) → (seed : ℕ) → (one : History) → (other : History) → MachineIsSeeded before seed one → MachineIsSeeded before seed other →
         end_in one ≢ None → end_in other ≢ None → one ≡ other }
 {}
 
@@ -26,6 +26,6 @@ pub fn seeded_runs_are_scheduled()
 /// event took one, it comes to what the seed makes of the first place undisturbed.
 #[tactic(auto, using(crate::proofs::GoingOn::goes_on))]
 pub fn refused_runs_go_on()
-    ensures { (before : History) → (seed : ℕ) → (refused : History) → (after : History) → IsSeeded before seed refused →
-        IsSeeded refused (drawn_times (length refused.journal - length before.journal) seed) after → IsSeeded before seed after }
+    ensures { (before : History) → (seed : ℕ) → (refused : History) → (after : History) → MachineIsSeeded before seed refused →
+        MachineIsSeeded refused (drawn_times (length refused.journal - length before.journal) seed) after → MachineIsSeeded before seed after }
 {}

@@ -14,7 +14,7 @@ use Rattle.alw_model.specs.declared.ends.TrapAt.{TrapAt}
 use Rattle.alw_tally.specs.declared.happenings.Happened.{Happened}
 use Rattle.alw_model.specs.Ends.{trap_in, or_else}
 use Rattle.alw_tally.specs.Told.{Told, turn_at, contexts_of, words_printed, told_with, sum_of}
-use Rattle.alw_tally.specs.Happenings.{IsOf, HasPc}
+use Rattle.alw_tally.specs.Happenings.{HappeningIsOf, HasPc}
 use Rattle.alw_tally.specs.Counted.{trap_by, counts_of_event}
 
 or_is : (a b : Option TrapAt) → option_or a b ≡ or_else a b
@@ -22,7 +22,7 @@ or_is None b = refl
 or_is (Some at) b = refl
 
 -- the counts of an event
-counts_are : (parts : Parts) (happened : Happened) (sends : List (ℕ × Msg)) (moment : Moment) → IsOf happened sends moment
+counts_are : (parts : Parts) (happened : Happened) (sends : List (ℕ × Msg)) (moment : Moment) → HappeningIsOf happened sends moment
     → counts_of_event parts happened sends ≡ counts_of parts (moment ∷ [])
 counts_are parts happened sends moment of = rw (of.node, of.did, of.taken, of.used, of.sends_are) (simp add-zero)
 
@@ -41,7 +41,7 @@ trap_is entry happened moment (Handled kind state) node pc = refl
 trap_is entry happened moment Evicted node pc = refl
 
 -- one event more is told
-pub told_by_event : (parts : Parts) (told : Told) (happened : Happened) (sends : List (ℕ × Msg)) (moment : Moment) → IsOf happened sends moment →
+pub told_by_event : (parts : Parts) (told : Told) (happened : Happened) (sends : List (ℕ × Msg)) (moment : Moment) → HappeningIsOf happened sends moment →
     (next : Told) (turn : Option (ℕ × Outcome)) → option_to_list turn ≡ turn_in parts happened.node.0 happened.did
     → next.turns ≡ told.turns ++ contexts_of (option_to_list turn)
     → next.prints ≡ told.prints ++ words_printed (option_to_list turn)

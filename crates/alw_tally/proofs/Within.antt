@@ -15,9 +15,9 @@ use Rattle.alw_model.specs.declared.steps.Did.TheVariants.{Turn, Missed, Took, P
 use Rattle.alw_model.specs.Flat.{print_of}
 use Rattle.alw_model.specs.Runs.{Moment, number_of, turn_in}
 use Rattle.alw_model.specs.Counts.{is_turn, is_miss, is_eviction, is_handling, is_spill, uses_hold, hops_between, counts_of}
-use Rattle.alw_tally.specs.Counted.{brings_line, is_of_kind, AreAtMost}
+use Rattle.alw_tally.specs.Counted.{brings_line, is_of_kind, CountsAreAtMost}
 use Rattle.alw_tally.specs.Told.{turn_at, words_printed, told_of}
-use Rattle.alw_tally.specs.Tallies.{IsWithin}
+use Rattle.alw_tally.specs.Tallies.{EventIsWithin}
 
 -- an event sends few messages, each over a short way
 pub record SendsFew (parts : Parts) (moment : Moment) : Type 0 where
@@ -57,7 +57,7 @@ module _ (parts : Parts) where
   words_few [] = omega arith
   words_few (turn ∷ rest) = omega (arith, print_few turn.0 turn.1, words_few rest, length-append (print_of turn.0 turn.1) (words_printed rest))
 
-  counts_few : (run : List Moment) → AllByRecursion (SendsFew parts) run → AreAtMost (33554432 * length run) (counts_of parts run)
+  counts_few : (run : List Moment) → AllByRecursion (SendsFew parts) run → CountsAreAtMost (33554432 * length run) (counts_of parts run)
   counts_few [] all = search arith
   counts_few (moment ∷ rest) all =
       let sends = moment.stepped.sends in
@@ -88,7 +88,7 @@ module _ (parts : Parts) where
         digit_le (uses_hold moment.before did),
       )
 
-  pub within : (run : List Moment) → length run < 4294967296 → AllByRecursion (SendsFew parts) run → IsWithin (told_of parts run)
+  pub within : (run : List Moment) → length run < 4294967296 → AllByRecursion (SendsFew parts) run → EventIsWithin (told_of parts run)
   within run fits all = record {
     entries = fits;
     turns = omega (arith, turns_few run, length-map (flat_map (turn_at parts) run) (λ (turn : ℕ × Outcome). turn.0));

@@ -155,7 +155,7 @@ AreFew most s = AllByRecursion (λ count. count ≤ most) (
     s.rreq ∷ s.wreq ∷ s.repm ∷ s.update ∷ s.ackc ∷ s.rdata ∷ s.wdata ∷ s.inv ∷ s.busy ∷ s.hops ∷ [])
 
 -- no count is above a number
-abbrev pub AreAtMost : ℕ → Counts → Type 0
-AreAtMost most c = AllByRecursion (λ count. count ≤ most) (
+abbrev pub CountsAreAtMost : ℕ → Counts → Type 0
+CountsAreAtMost most c = AllByRecursion (λ count. count ≤ most) (
     c.entries ∷ c.turns ∷ c.misses ∷ c.evicts ∷ c.rreq ∷ c.wreq ∷ c.repm ∷ c.update ∷ c.ackc ∷
     c.rdata ∷ c.wdata ∷ c.inv ∷ c.busy ∷ c.hops ∷ c.handlers ∷ c.spills ∷ c.replies ∷ c.used ∷ [])

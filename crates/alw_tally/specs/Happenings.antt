@@ -16,7 +16,7 @@ HasPc before pc (Turn slot (Trap tt)) = pc ≡ (slot_at before.slots slot).regs.
 HasPc before pc _ = Unit {0}
 
 -- what a tally is told of an event is that of an event of a run
-pub record IsOf (happened : Happened) (sends : List (ℕ × Msg)) (moment : Moment) : Type 0 where
+pub record HappeningIsOf (happened : Happened) (sends : List (ℕ × Msg)) (moment : Moment) : Type 0 where
   pub node : happened.node.0 ≡ number_of moment
   pub did : happened.did ≡ moment.stepped.did
   pub taken : happened.taken ≡ moment.taken

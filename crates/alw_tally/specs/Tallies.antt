@@ -5,7 +5,7 @@ use Rattle.alw_image.specs.declared.parts.Parts.{Parts}
 use Rattle.alw_model.specs.Runs.{turn_in}
 use Rattle.alw_tally.specs.declared.happenings.Happened.{Happened}
 use Rattle.alw_tally.specs.Told.{Told, contexts_of, words_printed, sum_of}
-use Rattle.alw_tally.specs.Counted.{counts_of_event, AreAtMost}
+use Rattle.alw_tally.specs.Counted.{counts_of_event, CountsAreAtMost}
 
 -- what a tally tells, and the number of events that it can be told of without memory
 pub record Tallied : Type 0 where
@@ -13,11 +13,11 @@ pub record Tallied : Type 0 where
   pub room : ℕ
 
 -- an event is one entry, at most one turn with one print, and at most 2^25 of anything else that is counted: 256 messages of less than 2^17 hops each
-pub record IsWithin (told : Told) : Type 0 where
+pub record EventIsWithin (told : Told) : Type 0 where
   pub entries : told.counts.entries < 2 ^ 32
   pub turns : length told.turns ≤ told.counts.entries
   pub prints : length told.prints ≤ told.counts.entries
-  pub counts : AreAtMost (2 ^ 25 * told.counts.entries) told.counts
+  pub counts : CountsAreAtMost (2 ^ 25 * told.counts.entries) told.counts
 
 -- room for so many events: for the entry, the turn and the print of each
 abbrev pub HasRoom : ℕ → ℕ → ℕ → ℕ → Type 0

@@ -2,7 +2,7 @@ ghost use Rattle.std.specs.Prelude.{◌≡◌, ◌≤◌, ◌<◌, ◌-◌, ◌+
 ghost use Rattle.alw_num.specs.Weights.{digit};
 ghost use Rattle.alw_model.specs.declared.steps.Did.TheVariants.{Handled};
 ghost use Rattle.alw_model.specs.Counts.{hops_between, is_spill};
-ghost use Rattle.alw_tally.specs.Counted.{brings_line, sent_of, with_sent, with_send, with_did, with_event, with_kind, counts_of_event, AreFew, AreAtMost};
+ghost use Rattle.alw_tally.specs.Counted.{brings_line, sent_of, with_sent, with_send, with_did, with_event, with_kind, counts_of_event, AreFew, CountsAreAtMost};
 ghost use Rattle.alw_tally.specs.Told.{sum_of};
 
 use crate::happenings::Happened;
@@ -14,9 +14,9 @@ use alw_num::{MOST_NODES, NodeNo, State};
 /// One event more is counted. Of each number it is at most 2^25.
 pub fn count_event(counts: &mut Counts, image: &Image, happened: &Happened, sends: &Sends)
     requires sends { length sends.now.messages ≤ MOST_NODES }
-    requires few { AreAtMost (2 ^ 62) counts.old }
+    requires few { CountsAreAtMost (2 ^ 62) counts.old }
     ensures counts { counts.new ≡ sum_of counts.old (counts_of_event image.now happened.now sends.now.messages) }
-    ensures few { AreAtMost (2 ^ 25) (counts_of_event image.now happened.now sends.now.messages) }
+    ensures few { CountsAreAtMost (2 ^ 25) (counts_of_event image.now happened.now sends.now.messages) }
 {
     count_act(counts, happened);
     count_sends(counts, image, happened.node, sends);
@@ -25,9 +25,9 @@ pub fn count_event(counts: &mut Counts, image: &Image, happened: &Happened, send
 /// One event more is counted, whose messages are read off a log.
 pub fn count_logged(counts: &mut Counts, image: &Image, happened: &Happened, sends: &[(u16, Msg)])
     requires sends { length sends.now ≤ MOST_NODES }
-    requires few { AreAtMost (2 ^ 62) counts.old }
+    requires few { CountsAreAtMost (2 ^ 62) counts.old }
     ensures counts { counts.new ≡ sum_of counts.old (counts_of_event image.now happened.now sends.now) }
-    ensures few { AreAtMost (2 ^ 25) (counts_of_event image.now happened.now sends.now) }
+    ensures few { CountsAreAtMost (2 ^ 25) (counts_of_event image.now happened.now sends.now) }
 {
     count_act(counts, happened);
     count_messages(counts, image, happened.node, sends);
@@ -35,7 +35,7 @@ pub fn count_logged(counts: &mut Counts, image: &Image, happened: &Happened, sen
 
 // An event is counted, but for what it sent.
 fn count_act(counts: &mut Counts, happened: &Happened)
-    requires { AreAtMost (2 ^ 62) counts.old }
+    requires { CountsAreAtMost (2 ^ 62) counts.old }
     ensures { counts.new ≡ with_event happened.now counts.old }
 {
     counts.entries += 1;
@@ -50,7 +50,7 @@ fn count_act(counts: &mut Counts, happened: &Happened)
 
 // What a node did is counted.
 fn count_did(counts: &mut Counts, did: Did)
-    requires { AreAtMost (2 ^ 62 + 1) counts.old }
+    requires { CountsAreAtMost (2 ^ 62 + 1) counts.old }
     ensures { counts.new ≡ with_did counts.old did }
 {
     match did {
@@ -68,7 +68,7 @@ fn count_did(counts: &mut Counts, did: Did)
 // What a node sends is counted: of each number it is at most 131,072 a message.
 fn count_sends(counts: &mut Counts, image: &Image, from: NodeNo, sends: &Sends)
     requires sends { length sends.now.messages ≤ MOST_NODES }
-    requires few { AreAtMost (2 ^ 62 + 1) counts.old }
+    requires few { CountsAreAtMost (2 ^ 62 + 1) counts.old }
     ensures counts { counts.new ≡ with_sent (sent_of image.now from.0 sends.now.messages) counts.old }
     ensures few { AreFew (2 ^ 25) (sent_of image.now from.0 sends.now.messages) }
 {
@@ -81,7 +81,7 @@ fn count_sends(counts: &mut Counts, image: &Image, from: NodeNo, sends: &Sends)
 // The same of messages that are read off a log.
 fn count_messages(counts: &mut Counts, image: &Image, from: NodeNo, sends: &[(u16, Msg)])
     requires sends { length sends.now ≤ MOST_NODES }
-    requires few { AreAtMost (2 ^ 62 + 1) counts.old }
+    requires few { CountsAreAtMost (2 ^ 62 + 1) counts.old }
     ensures counts { counts.new ≡ with_sent (sent_of image.now from.0 sends.now) counts.old }
     ensures few { AreFew (2 ^ 25) (sent_of image.now from.0 sends.now) }
 {
@@ -93,7 +93,7 @@ fn count_messages(counts: &mut Counts, image: &Image, from: NodeNo, sends: &[(u1
 
 // A message is counted, by its kind and its way.
 fn count_send(counts: &mut Counts, image: &Image, from: NodeNo, to: NodeNo, kind: Kind)
-    requires { AreAtMost (2 ^ 63 - 2 ^ 17) counts.old }
+    requires { CountsAreAtMost (2 ^ 63 - 2 ^ 17) counts.old }
     ensures counts { counts.new ≡ with_send image.now from.0 to.0 kind counts.old }
     ensures few { hops_between image.now from.0 to.0 < 2 ^ 17 }
 {
@@ -103,7 +103,7 @@ fn count_send(counts: &mut Counts, image: &Image, from: NodeNo, to: NodeNo, kind
 
 // One message of a kind more.
 fn add_kind(counts: &mut Counts, kind: Kind)
-    requires { AreAtMost (2 ^ 63) counts.old }
+    requires { CountsAreAtMost (2 ^ 63) counts.old }
     ensures { counts.new ≡ with_kind counts.old kind }
 {
     match kind {

@@ -2,8 +2,8 @@ ghost use Rattle.std.specs.Prelude.{◌≡◌, ◌+◌, ◌<◌, ◌≤◌, ◌^
 ghost use Rattle.alw_image.specs.declared.parts.Parts.{Parts};
 ghost use Rattle.alw_model.specs.Runs.{Moment};
 ghost use Rattle.alw_tally.specs.Told.{contexts_of, words_printed, told_of, told_with};
-ghost use Rattle.alw_tally.specs.Tallies.{IsWithin, told_logged};
-ghost use Rattle.alw_tally.specs.Happenings.{IsOf};
+ghost use Rattle.alw_tally.specs.Tallies.{EventIsWithin, told_logged};
+ghost use Rattle.alw_tally.specs.Happenings.{HappeningIsOf};
 
 use crate::counting::{count_event, count_logged};
 use crate::happenings::{Happened, note_trap, turn_of};
@@ -33,7 +33,7 @@ pub struct Tally {
 }
 
 impl Model for Tally {
-    ghost use Rattle.alw_tally.specs.Tallies.{Tallied, IsWithin, HasRoom};
+    ghost use Rattle.alw_tally.specs.Tallies.{Tallied, EventIsWithin, HasRoom};
 
     ghost Value = { Tallied };
 
@@ -42,7 +42,7 @@ impl Model for Tally {
       room = t.room;
     } };
 
-    ghost invariant = { λ t. IsWithin (record { turns = t.turns.list; prints = t.prints.list; counts = t.counts; trap = t.trap })
+    ghost invariant = { λ t. EventIsWithin (record { turns = t.turns.list; prints = t.prints.list; counts = t.counts; trap = t.trap })
         × HasRoom t.counts.entries t.turns.room t.prints.room t.room };
 }
 
@@ -68,7 +68,7 @@ impl Tally {
         counts: Counts,
         trap: Option<TrapAt>,
     ) -> Result<Tally, NoMemory>
-        requires { IsWithin (record { turns = turns.now; prints = prints.now; counts = counts; trap = trap }) }
+        requires { EventIsWithin (record { turns = turns.now; prints = prints.now; counts = counts; trap = trap }) }
         ensures { IfOk result (λ tally. tally.told ≡ record { turns = turns.now; prints = prints.now; counts = counts; trap = trap }) }
     {
         Ok(Tally {
@@ -113,7 +113,7 @@ impl Tally {
     pub fn add(&mut self, image: &Image, happened: &Happened, sends: &Sends)
         requires room { 1 ≤ self.old.room }
         requires few { length sends.now.messages ≤ MOST_NODES }
-        ensures told { (moment : Moment) → IsOf happened.now sends.now.messages moment → self.new.told ≡ told_with image.now self.old.told moment }
+        ensures told { (moment : Moment) → HappeningIsOf happened.now sends.now.messages moment → self.new.told ≡ told_with image.now self.old.told moment }
         ensures room { self.old.room ≤ self.new.room + 1 }
     {
         self.room -= 1;

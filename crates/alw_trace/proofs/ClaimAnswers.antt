@@ -15,7 +15,7 @@ use Rattle.alw_trace.specs.declared.raw.RawClaim.{RawClaim}
 use Rattle.alw_trace.specs.Texts.{image_text, claim_title, lists_text, claim_text}
 use Rattle.alw_trace.specs.Lines.{IsPrint, IsMemoryWord, ClaimLines, claim_lines, behind_image}
 use Rattle.alw_trace.specs.Readings.{is_short, run_tests, runs_tests, tested, fits_print, prints_tests, word_tests, memory_tests, claim_tests, most_turns, HasClaimTypes, ReadsClaim}
-use Rattle.alw_trace.specs.Raw.{IsRange, IsImageOf}
+use Rattle.alw_trace.specs.Raw.{IsRangeFault, IsImageOf}
 use Rattle.alw_trace.specs.Lists.{claim_of, AreTurns, ArePrints, AreWords, IsOfClaim, IsClaimOf, IsNoClaim}
 use Rattle.alw_trace.proofs.InRange.{no_fault}
 use Rattle.alw_trace.proofs.ReadWords.{words_in}
@@ -62,7 +62,7 @@ tests-are raw contexts shared at h =
     ++ memory_tests n (at + 1 + length raw.runs.items + 1 + length raw.prints.items) raw.memory.items)) (sym h.lines_are)
 
 pub wrong_run : (raw : RawClaim) (contexts shared at : ℕ) (runs : List (ℕ × ℕ)) (fault : TextErr) → HasSizes raw contexts shared at → runs ≡ raw.runs.items
-    → IsRange (λ line. first_unfit (runs_tests contexts at runs) ≡ Some line) fault → IsNoClaim (claim_of raw) fault
+    → IsRangeFault (λ line. first_unfit (runs_tests contexts at runs) ≡ Some line) fault → IsNoClaim (claim_of raw) fault
 wrong_run raw contexts shared at runs (Syntax line) h same is = is
 wrong_run raw contexts shared at runs (Image f) h same is = absurd is
 wrong_run raw contexts shared at runs (Range line) h same is =
@@ -81,7 +81,7 @@ runs_passed raw contexts at runs turns same are = ap (λ (r : List (ℕ × ℕ))
 pub wrong_print : (raw : RawClaim) (contexts shared at behind : ℕ) (runs : List (ℕ × ℕ)) (turns : List ℕ) (prints : List (ℕ × ℕ)) (fault : TextErr)
     → HasSizes raw contexts shared at → runs ≡ raw.runs.items → AreTurns contexts at runs turns
     → behind ≡ at + 1 + length raw.runs.items → prints ≡ raw.prints.items
-    → IsRange (λ line. first_unfit (prints_tests contexts behind prints) ≡ Some line) fault → IsNoClaim (claim_of raw) fault
+    → IsRangeFault (λ line. first_unfit (prints_tests contexts behind prints) ≡ Some line) fault → IsNoClaim (claim_of raw) fault
 wrong_print raw contexts shared at behind runs turns prints (Syntax line) h same are place all is = is
 wrong_print raw contexts shared at behind runs turns prints (Image f) h same are place all is = absurd is
 wrong_print raw contexts shared at behind runs turns prints (Range line) h same are place all is =
@@ -106,7 +106,7 @@ pub wrong_word : (raw : RawClaim) (contexts shared at behind last : ℕ) (runs :
     (fault : TextErr) → HasSizes raw contexts shared at → runs ≡ raw.runs.items → AreTurns contexts at runs turns
     → behind ≡ at + 1 + length raw.runs.items → lines ≡ raw.prints.items → ArePrints contexts behind lines prints
     → last ≡ behind + 1 + length raw.prints.items → words ≡ raw.memory.items
-    → IsRange (λ line. first_unfit (memory_tests shared last words) ≡ Some line) fault → IsNoClaim (claim_of raw) fault
+    → IsRangeFault (λ line. first_unfit (memory_tests shared last words) ≡ Some line) fault → IsNoClaim (claim_of raw) fault
 wrong_word raw contexts shared at behind last runs turns lines prints words (Syntax line) h same are place all listed end whole is = is
 wrong_word raw contexts shared at behind last runs turns lines prints words (Image f) h same are place all listed end whole is = absurd is
 wrong_word raw contexts shared at behind last runs turns lines prints words (Range line) h same are place all listed end whole is =

@@ -8,7 +8,7 @@ use Rattle.alw_trace.specs.declared.pairs.ListKind.TheVariants.{Runs, Prints, Me
 use Rattle.alw_trace.specs.Texts.{image_text, claim_title}
 use Rattle.alw_trace.specs.Lines.{IsNumber, IsRun, IsPrint, IsMemoryWord, AreBytes, IsFaultInImage, IsFaultInList, IsFaultAtEnd, IsClaimFault, ClaimLines, AreClaimLines, claim_lines, behind_image, title_of_claim, image_of_claim, runs_of_claim, prints_of_claim, memory_of_claim, end_of_claim}
 use Rattle.alw_trace.specs.Lists.{IsListRead, IsOfClaim}
-use Rattle.alw_trace.specs.Raw.{IsSyntax, IsImageRead}
+use Rattle.alw_trace.specs.Raw.{IsSyntaxFault, IsImageRead}
 
 -- ---- fronts of a claim
 
@@ -77,8 +77,8 @@ pub title_lacks : (text : List ℕ) → ((rest : List ℕ) → text ≢ codes "A
 unfolding claim_title
 title_lacks text lacks = title_of_claim lacks refl
 
-pub image_lacks : (text rest : List ℕ) (fault : TextErr) → text ≡ codes "ALEWIFE CLAIM 1\n" ++ rest → IsSyntax (IsFaultInImage rest) fault
-    → IsSyntax (IsClaimFault text) fault
+pub image_lacks : (text rest : List ℕ) (fault : TextErr) → text ≡ codes "ALEWIFE CLAIM 1\n" ++ rest → IsSyntaxFault (IsFaultInImage rest) fault
+    → IsSyntaxFault (IsClaimFault text) fault
 unfolding claim_title
 image_lacks text rest (Syntax at) e is = image_of_claim rest e is
 image_lacks text rest (Image f) e is = is
@@ -87,7 +87,7 @@ image_lacks text rest NoMemory e is = tt
 
 pub runs_lack : (text one image two : List ℕ) (line : ℕ) (fault : TextErr) → text ≡ codes "ALEWIFE CLAIM 1\n" ++ one → IsImageRead one image two
     → line ≡ behind_image image
-    → IsSyntax (IsFaultInList IsRun run_line (codes "runs") line two) fault → IsSyntax (IsClaimFault text) fault
+    → IsSyntaxFault (IsFaultInList IsRun run_line (codes "runs") line two) fault → IsSyntaxFault (IsClaimFault text) fault
 unfolding claim_title
 runs_lack text one image two line (Syntax at) e read here is =
     runs_of_claim image two read.bytes (e ∙ ap (λ (t : List ℕ). claim_title ++ t) read.parts)
@@ -98,7 +98,7 @@ runs_lack text one image two line NoMemory e read here is = tt
 
 pub prints_lack : (text image : List ℕ) (runs : List (ℕ × ℕ)) (rest : List ℕ) (line : ℕ) (fault : TextErr) → IsRunsFront text image runs rest
     → line ≡ behind_image image + 1 + length runs
-    → IsSyntax (IsFaultInList IsPrint print_line (codes "prints") line rest) fault → IsSyntax (IsClaimFault text) fault
+    → IsSyntaxFault (IsFaultInList IsPrint print_line (codes "prints") line rest) fault → IsSyntaxFault (IsClaimFault text) fault
 prints_lack text image runs rest line (Syntax at) front here is =
     prints_of_claim image runs rest front.bytes front.each front.count front.parts
     (subst (λ (n : ℕ). IsFaultInList IsPrint print_line (codes "prints") n rest at) here is)
@@ -108,7 +108,7 @@ prints_lack text image runs rest line NoMemory front here is = tt
 
 pub memory_lacks : (text image : List ℕ) (runs prints : List (ℕ × ℕ)) (rest : List ℕ) (line : ℕ) (fault : TextErr) → IsPrintsFront text image runs prints rest
     → line ≡ behind_image image + 2 + length runs + length prints
-    → IsSyntax (IsFaultInList IsMemoryWord word_line (codes "memory") line rest) fault → IsSyntax (IsClaimFault text) fault
+    → IsSyntaxFault (IsFaultInList IsMemoryWord word_line (codes "memory") line rest) fault → IsSyntaxFault (IsClaimFault text) fault
 memory_lacks text image runs prints rest line (Syntax at) front here is =
     memory_of_claim image runs prints rest front.before front.runs_are front.run_count front.each front.count front.parts
     (subst (λ (n : ℕ). IsFaultInList IsMemoryWord word_line (codes "memory") n rest at) here is)
@@ -117,8 +117,8 @@ memory_lacks text image runs prints rest line (Range at) front here is = is
 memory_lacks text image runs prints rest line NoMemory front here is = tt
 
 pub end_lacks : (text : List ℕ) (lines : ClaimLines) (rest : List ℕ) (last : ℕ) (fault : TextErr) → IsMemoryFront text lines rest
-    → last ≡ behind_image lines.image + 3 + length lines.runs + length lines.prints + length lines.memory → IsSyntax (IsFaultAtEnd last rest) fault
-    → IsSyntax (IsClaimFault text) fault
+    → last ≡ behind_image lines.image + 3 + length lines.runs + length lines.prints + length lines.memory → IsSyntaxFault (IsFaultAtEnd last rest) fault
+    → IsSyntaxFault (IsClaimFault text) fault
 end_lacks text lines rest last (Syntax at) front here is = end_of_claim lines rest front.form front.parts (subst (λ (n : ℕ). IsFaultAtEnd n rest at) here is)
 end_lacks text lines rest last (Image f) front here is = is
 end_lacks text lines rest last (Range at) front here is = is

@@ -11,11 +11,11 @@ use Rattle.alw_trace.specs.declared.faults.TextErr.TheVariants.{Syntax, Image, R
 use Rattle.alw_trace.specs.Texts.{image_text, entries_text}
 use Rattle.alw_trace.specs.Lines.{TraceLines, IsFrontFault, SaysFront, behind_image}
 use Rattle.alw_trace.specs.Fronts.{front_text, first_behind, IsFrontOf, IsNoFront, IsFrontRead}
-use Rattle.alw_trace.specs.Raw.{IsSyntax, IsTraceOf, IsWrong}
+use Rattle.alw_trace.specs.Raw.{IsSyntaxFault, IsTraceOf, IsNoTrace}
 use Rattle.alw_trace.proofs.ReadWords.{words_in}
 
 -- a line of no front
-pub no_front : (title text : List ℕ) (fault : TextErr) → IsSyntax (IsFrontFault title text) fault → IsNoFront title text fault
+pub no_front : (title text : List ℕ) (fault : TextErr) → IsSyntaxFault (IsFrontFault title text) fault → IsNoFront title text fault
 no_front title text (Syntax line) is = is
 no_front title text (Image f) is = absurd is
 no_front title text (Range line) is = absurd is
@@ -23,7 +23,7 @@ no_front title text NoMemory is = tt
 
 module _ {title text : List ℕ} {lines : TraceLines} {rest : List ℕ} (says : SaysFront title text lines rest) where
   -- lines that are no trace's
-  pub wrong_front : (fault : TextErr) → IsWrong lines fault → IsNoFront title text fault
+  pub wrong_front : (fault : TextErr) → IsNoTrace lines fault → IsNoFront title text fault
   wrong_front (Syntax line) is = absurd is
   wrong_front (Image f) is = record { lines = lines; rest = rest; says = says; wrong = is }
   wrong_front (Range line) is = record { lines = lines; rest = rest; says = says; wrong = is }

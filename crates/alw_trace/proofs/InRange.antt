@@ -17,8 +17,8 @@ use Rattle.alw_trace.specs.declared.raw.RawEntry.{RawEntry}
 use Rattle.alw_trace.specs.declared.raw.RawTrace.{RawTrace}
 use Rattle.alw_trace.specs.Texts.{image_text, entries_text, trace_title, trace_text}
 use Rattle.alw_trace.specs.Lines.{TraceLines, trace_lines, behind_image}
-use Rattle.alw_trace.specs.Readings.{are_parameters, is_short, fits_entry, tested, trace_tests, IsStamped, HasTraceTypes, ReadsTrace}
-use Rattle.alw_trace.specs.Raw.{entry_of, lines_of, IsRange, IsOfTrace, IsImageOf, IsTraceOf, IsWrong}
+use Rattle.alw_trace.specs.Readings.{are_parameters, is_short, fits_entry, tested, trace_tests, EntryIsStamped, HasTraceTypes, ReadsTrace}
+use Rattle.alw_trace.specs.Raw.{entry_of, lines_of, IsRangeFault, IsOfTrace, IsImageOf, IsTraceOf, IsNoTrace}
 use Rattle.alw_trace.proofs.ReadWords.{words_in}
 
 -- ---- entries
@@ -28,7 +28,7 @@ pub record JournalSoFar (nodes sets first : ℕ) (entries rest : List RawEntry) 
   pub same : map entry_of entries ≡ journal ++ map entry_of rest
   pub fits : first_unfit (tested (fits_entry nodes sets) first (map entry_of entries)) ≡ first_unfit
       (tested (fits_entry nodes sets) (first + length journal) (map entry_of rest))
-  pub stamped : AllByRecursion (IsStamped nodes sets) journal
+  pub stamped : AllByRecursion (EntryIsStamped nodes sets) journal
 
 -- ---- the lines of a trace
 
@@ -66,14 +66,14 @@ unfolding trace_lines
 accepted text lines trace form is =
     (of_parts text lines.image lines.params lines.journal trace form.text_is is.image.spelled is.params is.journal, is.is_trace)
 
-pub wrong_lines : (text : List ℕ) (lines : TraceLines) (fault : TextErr) → IsOfTrace text lines → IsWrong lines fault → ReadsTrace text (Err fault)
+pub wrong_lines : (text : List ℕ) (lines : TraceLines) (fault : TextErr) → IsOfTrace text lines → IsNoTrace lines fault → ReadsTrace text (Err fault)
 wrong_lines text lines (Syntax line) form is = absurd is
 wrong_lines text lines (Image f) form is = (lines, record { form = form.form; text_is = form.text_is; image = is })
 wrong_lines text lines (Range line) form is = (lines, record { form = form.form; text_is = form.text_is; image = is.0 }, is.1)
 wrong_lines text lines NoMemory form is = tt
 
 pub answers : (text : List ℕ) (lines : TraceLines) (result : Result Trace TextErr) → IsOfTrace text lines → IfOk result (IsTraceOf lines)
-    → IfErr result (IsWrong lines) → ReadsTrace text result
+    → IfErr result (IsNoTrace lines) → ReadsTrace text result
 answers text lines (Ok trace) form ok err = accepted text lines trace form ok
 answers text lines (Err fault) form ok err = wrong_lines text lines fault form err
 
@@ -89,13 +89,13 @@ pub no_fault : (bytes other : List ℕ) (image : Parts) → bytes ≡ other → 
 no_fault bytes other image e is = ap image_fault (sym e) ∙ is.accepted
 
 pub wrong_params : (bytes : List ℕ) (lines : TraceLines) (image : Parts) (line : ℕ) → bytes ≡ lines.image → IsImageOf bytes image
-    → line ≡ behind_image lines.image → are_parameters lines.params ≡ false → IsWrong lines (Range line)
+    → line ≡ behind_image lines.image → are_parameters lines.params ≡ false → IsNoTrace lines (Range line)
 wrong_params bytes lines image line e is here unfit =
     (no_fault bytes lines.image image e is, params_unfit (node_count (image_in lines.image)) line lines here unfit)
 
 pub wrong_count : (bytes : List ℕ) (raw : RawTrace) (image : Parts) (line : ℕ) → bytes ≡ raw.image → IsImageOf bytes image → line ≡ behind_image raw.image
     → are_parameters (lines_of raw).params ≡ true
-    → 4294967295 < length raw.entries.items → IsWrong (lines_of raw) (Range (line + 1))
+    → 4294967295 < length raw.entries.items → IsNoTrace (lines_of raw) (Range (line + 1))
 wrong_count bytes raw image line e is here fit long =
     let size = length-map raw.entries.items entry_of in
     let many : is_short (map entry_of raw.entries.items) ≡ false = grind (arith, nat_tests) in
@@ -105,7 +105,7 @@ pub wrong_entry : (bytes : List ℕ) (raw : RawTrace) (image parts : Parts) (par
     (fault : TextErr) → bytes ≡ raw.image → IsImageOf bytes image
     → line ≡ behind_image raw.image → are_parameters (lines_of raw).params ≡ true → length raw.entries.items ≤ 4294967295 → parts ≡ image
     → nodes ≡ node_count parts → params ≡ (lines_of raw).params → sets ≡ params.sets → entries ≡ raw.entries.items
-    → IsRange (λ at. first_unfit (tested (fits_entry nodes sets) (line + 2) (map entry_of entries)) ≡ Some at) fault → IsWrong (lines_of raw) fault
+    → IsRangeFault (λ at. first_unfit (tested (fits_entry nodes sets) (line + 2) (map entry_of entries)) ≡ Some at) fault → IsNoTrace (lines_of raw) fault
 wrong_entry bytes raw image parts params line nodes sets entries fault e is here fit few same count three set all = go fault
   where
     size : length (map entry_of raw.entries.items) ≡ length raw.entries.items
@@ -123,8 +123,8 @@ wrong_entry bytes raw image parts params line nodes sets entries fault e is here
     sets-is : sets ≡ lines.params.sets
     sets-is = set ∙ ap (λ (p : Parameters). p.sets) three
 
-    go : (fault : TextErr) → IsRange (λ at. first_unfit (tested (fits_entry nodes sets) (line + 2) (map entry_of entries)) ≡ Some at) fault
-        → IsWrong lines fault
+    go : (fault : TextErr) → IsRangeFault (λ at. first_unfit (tested (fits_entry nodes sets) (line + 2) (map entry_of entries)) ≡ Some at) fault
+        → IsNoTrace lines fault
     go (Syntax at) none = none
     go (Image f) none = absurd none
     go (Range at) is_at =

@@ -10,7 +10,7 @@ use Rattle.alw_trace.specs.declared.faults.TextErr.{TextErr}
 use Rattle.alw_trace.specs.declared.faults.TextErr.TheVariants.{Syntax, Image, Range, NoMemory}
 use Rattle.alw_trace.specs.Texts.{entry_line, entries_text, image_text, trace_title}
 use Rattle.alw_trace.specs.Lines.{IsNumber, IsEntry, HasThree, AreBytes, Lacks, IsFaultInLines, IsFaultInList, IsFaultInImage, IsFaultAtEnd, IsFrontFault, SaysFront, IsTraceFault, TraceLines, trace_lines, behind_image, behind_entries, list_line, image_of_front, params_of_front, entries_of_front, front_of_trace, end_of_trace, goes_on}
-use Rattle.alw_trace.specs.Raw.{IsSyntax, AreEntriesRead, AreLinesRead, IsImageRead, IsOfTrace}
+use Rattle.alw_trace.specs.Raw.{IsSyntaxFault, AreEntriesRead, AreLinesRead, IsImageRead, IsOfTrace}
 use Rattle.alw_trace.proofs.LineTexts.{heading-is}
 
 -- lines are read, and the rest is to come
@@ -41,8 +41,8 @@ entries_found count text behind journal rest small e read =
     }
 
 pub entries_fault : (count first : ℕ) (text behind : List ℕ) (fault : TextErr) → IsNumber count → text ≡ codes "entries " ++ (decimal count ++ 10 ∷ behind)
-    → IsSyntax (IsFaultInLines IsEntry entry_line count (first + 1) behind) fault
-    → IsSyntax (IsFaultInList IsEntry entry_line (codes "entries") first text) fault
+    → IsSyntaxFault (IsFaultInLines IsEntry entry_line count (first + 1) behind) fault
+    → IsSyntaxFault (IsFaultInList IsEntry entry_line (codes "entries") first text) fault
 entries_fault count first text behind (Syntax at) small e is = list_line count behind small (e ∙ sym (heading-is (codes "entries") count behind)) is
 entries_fault count first text behind (Image f) small e is = is
 entries_fault count first text behind (Range at) small e is = is
@@ -57,7 +57,7 @@ pub record IsHead (title text image : List ℕ) (params : Parameters) (rest : Li
   pub parts : text ≡ title ++ (image_text image ++ (params_line params ++ rest))
 
 module _ (title text one : List ℕ) (e : text ≡ title ++ one) where
-  pub image_lacks : (fault : TextErr) → IsSyntax (IsFaultInImage one) fault → IsSyntax (IsFrontFault title text) fault
+  pub image_lacks : (fault : TextErr) → IsSyntaxFault (IsFaultInImage one) fault → IsSyntaxFault (IsFrontFault title text) fault
   image_lacks (Syntax at) is = image_of_front one e is
   image_lacks (Image f) is = is
   image_lacks (Range at) is = is
@@ -76,7 +76,7 @@ module _ (title text one : List ℕ) (e : text ≡ title ++ one) where
 
 module _ (title text image : List ℕ) (params : Parameters) (behind : List ℕ) (h : IsHead title text image params behind) where
   pub entries_lack : (line : ℕ) (fault : TextErr) → line ≡ behind_image image
-      → IsSyntax (IsFaultInList IsEntry entry_line (codes "entries") (line + 1) behind) fault → IsSyntax (IsFrontFault title text) fault
+      → IsSyntaxFault (IsFaultInList IsEntry entry_line (codes "entries") (line + 1) behind) fault → IsSyntaxFault (IsFrontFault title text) fault
   entries_lack line (Syntax at) here is =
       entries_of_front image params behind h.bytes h.three h.parts (subst (λ (n : ℕ). IsFaultInList IsEntry entry_line (codes "entries") (n + 1) behind at) here is)
   entries_lack line (Image f) here is = is
@@ -91,7 +91,7 @@ module _ (title text image : List ℕ) (params : Parameters) (behind : List ℕ)
   }
 
 -- no front of a trace
-pub front_lacks : (text : List ℕ) (fault : TextErr) → IsSyntax (IsFrontFault (codes "ALEWIFE TRACE 1\n") text) fault → IsSyntax (IsTraceFault text) fault
+pub front_lacks : (text : List ℕ) (fault : TextErr) → IsSyntaxFault (IsFrontFault (codes "ALEWIFE TRACE 1\n") text) fault → IsSyntaxFault (IsTraceFault text) fault
 unfolding trace_title
 front_lacks text (Syntax at) is = front_of_trace is
 front_lacks text (Image f) is = is
@@ -99,7 +99,7 @@ front_lacks text (Range at) is = is
 front_lacks text NoMemory is = tt
 
 pub end_lacks : (text : List ℕ) (lines : TraceLines) (rest : List ℕ) (last : ℕ) (fault : TextErr) → SaysFront (codes "ALEWIFE TRACE 1\n") text lines rest
-    → last ≡ behind_entries lines → IsSyntax (IsFaultAtEnd last rest) fault → IsSyntax (IsTraceFault text) fault
+    → last ≡ behind_entries lines → IsSyntaxFault (IsFaultAtEnd last rest) fault → IsSyntaxFault (IsTraceFault text) fault
 unfolding trace_title
 end_lacks text lines rest last (Syntax at) says place is = end_of_trace lines rest says (subst (λ (n : ℕ). IsFaultAtEnd n rest at) place is)
 end_lacks text lines rest last (Image f) says place is = is

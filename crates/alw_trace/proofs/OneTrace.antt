@@ -27,7 +27,7 @@ use Rattle.alw_trace.specs.declared.faults.TextErr.{TextErr}
 use Rattle.alw_trace.specs.declared.faults.TextErr.TheVariants.{Syntax, Image, Range, NoMemory}
 use Rattle.alw_trace.specs.Texts.{image_text, entry_line, entries_text, trace_title, trace_text}
 use Rattle.alw_trace.specs.Lines.{IsNumber, IsByte, AreBytes, HasThree, HasNumbers, IsEntry, TraceLines, AreTraceLines, trace_lines, behind_image, IsFaultInList, IsFaultAtEnd, IsFaultInImage, IsTraceFault, SaysFront, behind_entries, front_of_trace, end_of_trace}
-use Rattle.alw_trace.specs.Readings.{is_short, fits_event, fits_entry, tested, trace_tests, IsOfMachine, IsStamped, IsTrace, HasTraceTypes, without_evict, ReadsTrace}
+use Rattle.alw_trace.specs.Readings.{is_short, fits_event, fits_entry, tested, trace_tests, IsOfMachine, EntryIsStamped, IsTrace, HasTraceTypes, without_evict, ReadsTrace}
 use Rattle.alw_trace.proofs.RowReads.{all_append}
 use Rattle.alw_trace.proofs.ParamRanges.{fit, sets_within}
 use Rattle.alw_trace.proofs.OneLine.{no_fault_at_end}
@@ -134,7 +134,7 @@ numbers nodes sets (Handle node) few less is = omega arith
 numbers nodes sets (Deliver from to) few less is = ((let l = is.0 in omega arith), (let l = is.1 in omega arith))
 numbers nodes sets (Evict node set) few less is = ((let l = is.0 in omega arith), (let l = is.1 in omega arith))
 
-entries : (nodes sets : ℕ) (journal : List Entry) → nodes ≤ 256 → sets ≤ 4096 → AllByRecursion (IsStamped nodes sets) journal → AllByRecursion IsEntry journal
+entries : (nodes sets : ℕ) (journal : List Entry) → nodes ≤ 256 → sets ≤ 4096 → AllByRecursion (EntryIsStamped nodes sets) journal → AllByRecursion IsEntry journal
 entries nodes sets [] few less all = tt
 entries nodes sets (entry ∷ rest) few less all =
     let stamp : IsNumber entry.stamp = (let l = all.0.1.0 in omega arith) in
@@ -200,12 +200,12 @@ fits nodes sets (Deliver from to) is =
 fits nodes sets (Evict node set) is =
     and_from (nat_lt node.0 nodes) (nat_lt set sets) (let l = is.0 in grind (arith, nat_tests)) (let l = is.1 in grind (arith, nat_tests))
 
-entry_fits : (nodes sets : ℕ) (entry : Entry) → IsStamped nodes sets entry → fits_entry nodes sets entry ≡ true
+entry_fits : (nodes sets : ℕ) (entry : Entry) → EntryIsStamped nodes sets entry → fits_entry nodes sets entry ≡ true
 entry_fits nodes sets entry is =
     and_from (is_within 1 4294967295 entry.stamp) (fits_event nodes sets entry.event) (let low = is.0 in let high = is.1.0 in grind (arith, nat_tests))
     (fits nodes sets entry.event is.1.1)
 
-all_pass : (nodes sets line : ℕ) (journal : List Entry) → AllByRecursion (IsStamped nodes sets) journal
+all_pass : (nodes sets line : ℕ) (journal : List Entry) → AllByRecursion (EntryIsStamped nodes sets) journal
     → first_unfit (tested (fits_entry nodes sets) line journal) ≡ None
 all_pass nodes sets line [] all = refl
 all_pass nodes sets line (entry ∷ rest) all = rw (entry_fits nodes sets entry all.0) (all_pass nodes sets (line + 1) rest all.1)

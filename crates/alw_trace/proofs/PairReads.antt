@@ -13,7 +13,7 @@ use Rattle.alw_trace.specs.declared.pairs.ListKind.{ListKind}
 use Rattle.alw_trace.specs.declared.pairs.ListKind.TheVariants.{Runs, Prints, Memory}
 use Rattle.alw_trace.specs.Lines.{IsNumber, IsRun, IsPrint, IsMemoryWord, Lacks, IsFaultInLines, IsFaultInList, list_line}
 use Rattle.alw_trace.specs.Lists.{name_of, line_of, IsLineOf, list_text, IsListRead, ArePairsRead}
-use Rattle.alw_trace.specs.Raw.{IsSyntax}
+use Rattle.alw_trace.specs.Raw.{IsSyntaxFault}
 use Rattle.alw_trace.proofs.Numbers.{rest_is}
 use Rattle.alw_trace.proofs.LineTexts.{heading-is, pair-is}
 
@@ -85,8 +85,8 @@ list_found kind count front text behind pairs rest name small e read =
 
 pub list_fault : (kind : ListKind) (count first : ℕ) (front text behind : List ℕ) (fault : TextErr) → front ≡ name_of kind ++ codes " " → IsNumber count
     → text ≡ front ++ (decimal count ++ 10 ∷ behind)
-    → IsSyntax (IsFaultInLines (IsLineOf kind) (line_of kind) count (first + 1) behind) fault
-    → IsSyntax (IsFaultInList (IsLineOf kind) (line_of kind) (name_of kind) first text) fault
+    → IsSyntaxFault (IsFaultInLines (IsLineOf kind) (line_of kind) count (first + 1) behind) fault
+    → IsSyntaxFault (IsFaultInList (IsLineOf kind) (line_of kind) (name_of kind) first text) fault
 list_fault kind count first front text behind (Syntax at) name small e is =
     list_line count behind small (behind_heading (name_of kind) front text behind count name e) is
 list_fault kind count first front text behind (Image f) name small e is = is

@@ -8,7 +8,7 @@ use Rattle.alw_trace.specs.declared.faults.TextErr.TheVariants.{Syntax, Image, R
 use Rattle.alw_report.specs.Reports.{heading}
 use Rattle.alw_trace.specs.Texts.{byte_digits, hex_line, hex_lines, line_number, image_text}
 use Rattle.alw_trace.specs.Lines.{IsNumber, IsByte, IsRow, Lacks, IsFaultInRows, IsFaultInImage, image_row}
-use Rattle.alw_trace.specs.Raw.{IsSyntax, IsRowRead, AreRowsRead, IsImageRead}
+use Rattle.alw_trace.specs.Raw.{IsSyntaxFault, IsRowRead, AreRowsRead, IsImageRead}
 use Rattle.alw_trace.proofs.LineTexts.{heading-is}
 
 pub all_append : {X : Type 0} (P : X → Type 0) (xs ys : List X) → AllByRecursion P xs → AllByRecursion P ys → AllByRecursion P (xs ++ ys)
@@ -116,8 +116,8 @@ image_found count text behind image rest small e read =
     }
 
 pub image_fault_in : (count : ℕ) (text behind : List ℕ) (fault : TextErr) → IsNumber count → text ≡ codes "image " ++ (decimal count ++ 10 ∷ behind)
-    → IsSyntax (IsFaultInRows count 3 behind) fault
-    → IsSyntax (IsFaultInImage text) fault
+    → IsSyntaxFault (IsFaultInRows count 3 behind) fault
+    → IsSyntaxFault (IsFaultInImage text) fault
 image_fault_in count text behind (Syntax at) small e is = image_row count behind small (e ∙ sym (heading-is (codes "image") count behind)) is
 image_fault_in count text behind (Image f) small e is = is
 image_fault_in count text behind (Range at) small e is = is

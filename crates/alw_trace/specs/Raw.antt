@@ -17,7 +17,7 @@ use Rattle.alw_image.specs.declared.parts.Parts.{Parts}
 use Rattle.alw_image.specs.Images.{spelling, node_count}
 use Rattle.alw_image.specs.Faults.{first_unfit, image_fault, image_in}
 use Rattle.alw_trace.specs.declared.values.Trace.{Trace}
-use Rattle.alw_trace.specs.Readings.{tested, fits_entry, trace_tests, IsStamped, IsTrace}
+use Rattle.alw_trace.specs.Readings.{tested, fits_entry, trace_tests, EntryIsStamped, IsTrace}
 use Rattle.alw_trace.specs.Lines.{IsNumber, IsRow, IsEntry, AreBytes, TraceLines, AreTraceLines, trace_lines}
 
 abbrev pub event_of : RawEvent → Event
@@ -36,18 +36,18 @@ abbrev pub lines_of : RawTrace → TraceLines
 lines_of t = record { image = t.image; params = params_of t.params; journal = map entry_of t.entries.items }
 
 -- the line at fault is this; or memory was refused
-abbrev pub IsSyntax : (ℕ → Type 0) → TextErr → Type 0
-IsSyntax IsFault (Syntax line) = IsFault line
-IsSyntax IsFault (Image fault) = ⊥
-IsSyntax IsFault (Range line) = ⊥
-IsSyntax IsFault NoMemory = ⊤
+abbrev pub IsSyntaxFault : (ℕ → Type 0) → TextErr → Type 0
+IsSyntaxFault IsFault (Syntax line) = IsFault line
+IsSyntaxFault IsFault (Image fault) = ⊥
+IsSyntaxFault IsFault (Range line) = ⊥
+IsSyntaxFault IsFault NoMemory = ⊤
 
 -- the same of a line with a number out of range
-abbrev pub IsRange : (ℕ → Type 0) → TextErr → Type 0
-IsRange IsFault (Syntax line) = ⊥
-IsRange IsFault (Image fault) = ⊥
-IsRange IsFault (Range line) = IsFault line
-IsRange IsFault NoMemory = ⊤
+abbrev pub IsRangeFault : (ℕ → Type 0) → TextErr → Type 0
+IsRangeFault IsFault (Syntax line) = ⊥
+IsRangeFault IsFault (Image fault) = ⊥
+IsRangeFault IsFault (Range line) = IsFault line
+IsRangeFault IsFault NoMemory = ⊤
 
 -- ---- what is read, and what follows it
 
@@ -89,7 +89,7 @@ pub record IsOfTrace (text : List ℕ) (lines : TraceLines) : Type 0 where
 pub record IsJournal (nodes sets first : ℕ) (entries : List RawEntry) (journal : List Entry) : Type 0 where
   pub same : journal ≡ map entry_of entries
   pub fits : first_unfit (tested (fits_entry nodes sets) first (map entry_of entries)) ≡ None
-  pub stamped : AllByRecursion (IsStamped nodes sets) journal
+  pub stamped : AllByRecursion (EntryIsStamped nodes sets) journal
 
 -- the image that bytes spell
 pub record IsImageOf (bytes : List ℕ) (image : Parts) : Type 0 where
@@ -113,8 +113,8 @@ pub record IsTraceOf (lines : TraceLines) (trace : Trace) : Type 0 where
   pub is_trace : IsTrace trace
 
 -- what is wrong with lines that are no trace's
-abbrev pub IsWrong : TraceLines → TextErr → Type 0
-IsWrong lines (Syntax line) = ⊥
-IsWrong lines (Image fault) = image_fault lines.image ≡ Some fault
-IsWrong lines (Range line) = (image_fault lines.image ≡ None) × (first_unfit (trace_tests (node_count (image_in lines.image)) lines) ≡ Some line)
-IsWrong lines NoMemory = ⊤
+abbrev pub IsNoTrace : TraceLines → TextErr → Type 0
+IsNoTrace lines (Syntax line) = ⊥
+IsNoTrace lines (Image fault) = image_fault lines.image ≡ Some fault
+IsNoTrace lines (Range line) = (image_fault lines.image ≡ None) × (first_unfit (trace_tests (node_count (image_in lines.image)) lines) ≡ Some line)
+IsNoTrace lines NoMemory = ⊤

@@ -117,15 +117,15 @@ IsOfMachine nodes sets (Handle node) = node.0 < nodes
 IsOfMachine nodes sets (Deliver from to) = (from.0 < nodes) × (to.0 < nodes)
 IsOfMachine nodes sets (Evict node set) = (node.0 < nodes) × (set < sets)
 
-abbrev pub IsStamped : ℕ → ℕ → Entry → Type 0
-IsStamped nodes sets entry = (1 ≤ entry.stamp) × ((entry.stamp < 2 ^ 32) × IsOfMachine nodes sets entry.event)
+abbrev pub EntryIsStamped : ℕ → ℕ → Entry → Type 0
+EntryIsStamped nodes sets entry = (1 ≤ entry.stamp) × ((entry.stamp < 2 ^ 32) × IsOfMachine nodes sets entry.event)
 
 -- what a trace can be: its journal speaks of the image's machine
 pub record IsTrace (trace : Trace) : Type 0 where
   pub image : IsImage trace.image
   pub params : AreParameters trace.params
   pub evict : trace.params.evict ≡ 0
-  pub journal : AllByRecursion (IsStamped (node_count trace.image) trace.params.sets) trace.journal
+  pub journal : AllByRecursion (EntryIsStamped (node_count trace.image) trace.params.sets) trace.journal
 
 -- the same trace, as its text says it
 abbrev pub without_evict : Trace → Trace

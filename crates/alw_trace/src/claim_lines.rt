@@ -1,6 +1,6 @@
 ghost use Rattle.std.specs.Prelude.{◌≡◌, ◌≤◌, ◌<◌, ◌+◌, ◌-◌, ◌^◌, length, IfOk, IfErr};
 ghost use Rattle.alw_trace.specs.Lines.{IsClaimFault, IsFaultInLines, IsFaultInList};
-ghost use Rattle.alw_trace.specs.Raw.{IsSyntax};
+ghost use Rattle.alw_trace.specs.Raw.{IsSyntaxFault};
 ghost use Rattle.alw_trace.specs.Lists.{ArePairsRead, IsLineOf, IsListRead, IsOfClaim, claim_of, line_of, name_of};
 
 use crate::faults::TextErr;
@@ -14,7 +14,7 @@ use std::alloc::Global;
 /// What the lines of a claim say, in range or not, or the first line that isn't of its form.
 pub fn read_claim_lines(alloc: Global, text: &[u8]) -> Result<RawClaim, TextErr>
     ensures ok { IfOk result (λ claim. IsOfClaim text.now (claim_of claim)) }
-    ensures err { IfErr result (IsSyntax (IsClaimFault text.now)) }
+    ensures err { IfErr result (IsSyntaxFault (IsClaimFault text.now)) }
 {
     let Some(rest) = behind(text, b"ALEWIFE CLAIM 1\n") else {
         return Err(TextErr::Syntax { line: 1 });
@@ -45,7 +45,7 @@ fn list_at(
     requires { first + length text.now < 2 ^ 64 - 4 }
     ensures ok { IfOk result (λ read. IsListRead kind text.now read.0.items read.1.now) }
     ensures room { IfOk result (λ read. length read.0.items + 1 + length read.1.now ≤ length text.now) }
-    ensures err { IfErr result (IsSyntax (IsFaultInList (IsLineOf kind) (line_of kind) (name_of kind) first text.now)) }
+    ensures err { IfErr result (IsSyntaxFault (IsFaultInList (IsLineOf kind) (line_of kind) (name_of kind) first text.now)) }
 {
     match number_behind(text, heading_of(kind), b'\n') {
         Some((count, rest)) => pairs_at(alloc, rest, kind, count, first + 1),
@@ -63,7 +63,7 @@ fn pairs_at(
 ) -> Result<(Vec<(u64, u64)>, &[u8]), TextErr>
     requires { first + length text.now < 2 ^ 64 - 3 }
     ensures ok { IfOk result (λ read. ArePairsRead kind count text.now read.0.items read.1.now) }
-    ensures err { IfErr result (IsSyntax (IsFaultInLines (IsLineOf kind) (line_of kind) count first text.now)) }
+    ensures err { IfErr result (IsSyntaxFault (IsFaultInLines (IsLineOf kind) (line_of kind) count first text.now)) }
 {
     let mut pairs = Vec::new(alloc);
     let mut rest = text;

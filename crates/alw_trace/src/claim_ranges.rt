@@ -3,7 +3,7 @@ ghost use Rattle.std.specs.List.{AllByRecursion};
 ghost use Rattle.alw_image.specs.Faults.{first_unfit, is_above};
 ghost use Rattle.alw_trace.specs.Lines.{IsMemoryWord, IsPrint};
 ghost use Rattle.alw_trace.specs.Readings.{fits_run, fits_word, is_shared, memory_tests, most_turns, prints_tests, runs_tests};
-ghost use Rattle.alw_trace.specs.Raw.{IsRange};
+ghost use Rattle.alw_trace.specs.Raw.{IsRangeFault};
 ghost use Rattle.alw_trace.specs.Lists.{ArePrints, AreTurns, AreWords};
 
 use crate::faults::TextErr;
@@ -26,7 +26,7 @@ pub fn turns_of(
 ) -> Result<Turns, TextErr>
     requires { at ≤ 2 ^ 61 }
     ensures ok { IfOk result (λ turns. AreTurns contexts at runs.now turns) }
-    ensures err { IfErr result (IsRange (λ line. first_unfit (runs_tests contexts at runs.now) ≡ Some line)) }
+    ensures err { IfErr result (IsRangeFault (λ line. first_unfit (runs_tests contexts at runs.now) ≡ Some line)) }
 {
     if runs.len() > MOST_MEMBERS {
         return Err(TextErr::Range { line: at });
@@ -82,7 +82,7 @@ pub fn prints_of(
     requires at { at ≤ 2 ^ 61 }
     requires words { AllByRecursion IsPrint lines.now }
     ensures ok { IfOk result (λ prints. ArePrints contexts at lines.now prints) }
-    ensures err { IfErr result (IsRange (λ line. first_unfit (prints_tests contexts at lines.now) ≡ Some line)) }
+    ensures err { IfErr result (IsRangeFault (λ line. first_unfit (prints_tests contexts at lines.now) ≡ Some line)) }
 {
     if lines.len() > MOST_MEMBERS {
         return Err(TextErr::Range { line: at });
@@ -105,7 +105,7 @@ pub fn words_of(alloc: Global, lines: &[(u64, u64)], shared: u32, at: u64) -> Re
     requires shared { shared ≤ 2 ^ 20 }
     requires words { AllByRecursion IsMemoryWord lines.now }
     ensures ok { IfOk result (λ words. AreWords shared at lines.now words) }
-    ensures err { IfErr result (IsRange (λ line. first_unfit (memory_tests shared at lines.now) ≡ Some line)) }
+    ensures err { IfErr result (IsRangeFault (λ line. first_unfit (memory_tests shared at lines.now) ≡ Some line)) }
 {
     if lines.len() > MOST_MEMBERS {
         return Err(TextErr::Range { line: at });

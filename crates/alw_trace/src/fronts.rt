@@ -3,7 +3,7 @@ ghost use Rattle.alw_image.specs.Images.{spelling};
 ghost use Rattle.alw_trace.specs.Texts.{image_text};
 ghost use Rattle.alw_trace.specs.Lines.{IsFrontFault, SaysFront, behind_entries};
 ghost use Rattle.alw_trace.specs.Fronts.{IsFrontRead, IsNoFront, front_text};
-ghost use Rattle.alw_trace.specs.Raw.{IsSyntax, lines_of};
+ghost use Rattle.alw_trace.specs.Raw.{IsSyntaxFault, lines_of};
 
 use crate::entries::put_journal;
 use crate::faults::TextErr;
@@ -60,7 +60,7 @@ pub fn front_at<'a>(
     text: &'a [u8],
 ) -> Result<(RawTrace, &'a [u8]), TextErr>
     ensures ok { IfOk result (λ read. SaysFront title.now text.now (lines_of read.0) read.1.now) }
-    ensures err { IfErr result (IsSyntax (IsFrontFault title.now text.now)) }
+    ensures err { IfErr result (IsSyntaxFault (IsFrontFault title.now text.now)) }
 {
     let Some(rest) = behind(text, title) else {
         return Err(TextErr::Syntax { line: 1 });

@@ -1,7 +1,7 @@
 ghost use Rattle.std.specs.Prelude.{◌≡◌, ◌≤◌, ◌<◌, ◌^◌, ◌+◌, length, IfOk, IfErr};
 ghost use Rattle.alw_trace.specs.Texts.{hex_line};
 ghost use Rattle.alw_trace.specs.Lines.{IsFaultInImage, IsFaultInRows, IsRow, Lacks, behind_image};
-ghost use Rattle.alw_trace.specs.Raw.{AreRowsRead, IsImageRead, IsRowRead, IsSyntax};
+ghost use Rattle.alw_trace.specs.Raw.{AreRowsRead, IsImageRead, IsRowRead, IsSyntaxFault};
 
 use crate::faults::TextErr;
 use crate::readers::{behind, byte_at, number_behind};
@@ -14,7 +14,7 @@ const ROW: u64 = 32;
 // The bytes of an image, behind their number in the second line of a text, and what follows them.
 pub fn image_at(alloc: Global, text: &[u8]) -> Result<(Bytes, &[u8]), TextErr>
     ensures ok { IfOk result (λ read. IsImageRead text.now read.0 read.1.now) }
-    ensures err { IfErr result (IsSyntax (IsFaultInImage text.now)) }
+    ensures err { IfErr result (IsSyntaxFault (IsFaultInImage text.now)) }
 {
     match number_behind(text, b"image ", b'\n') {
         Some((count, rest)) => rows_at(alloc, rest, count),
@@ -25,7 +25,7 @@ pub fn image_at(alloc: Global, text: &[u8]) -> Result<(Bytes, &[u8]), TextErr>
 // So many bytes, 32 to a line, of which the first line is the third of a text, and what follows them.
 fn rows_at(alloc: Global, text: &[u8], count: u64) -> Result<(Bytes, &[u8]), TextErr>
     ensures ok { IfOk result (λ read. AreRowsRead count text.now read.0 read.1.now) }
-    ensures err { IfErr result (IsSyntax (IsFaultInRows count 3 text.now)) }
+    ensures err { IfErr result (IsSyntaxFault (IsFaultInRows count 3 text.now)) }
 {
     let mut image = Bytes::empty(alloc);
     let mut rest = text;
@@ -44,7 +44,7 @@ fn put_row<'a>(
     line: u64,
 ) -> Result<&'a [u8], TextErr>
     ensures ok { IfOk result (λ rest. IsRowRead count image.old image.new text.now rest.now) }
-    ensures err { IfErr result (IsSyntax (λ fault. (fault ≡ line) × Lacks (IsRow count) hex_line text.now)) }
+    ensures err { IfErr result (IsSyntaxFault (λ fault. (fault ≡ line) × Lacks (IsRow count) hex_line text.now)) }
 {
     let mut rest = text;
     for _place in 0..count {

@@ -1,8 +1,8 @@
 ghost use Rattle.std.specs.Prelude.{◌≡◌, ◌≤◌, ◌<◌, ◌^◌, ◌+◌, ◌↔◌, false, true, nat_lt, length, map, None, Some, IfOk, IfErr, IfSome, IfNone, IsTrue};
 ghost use Rattle.std.specs.List.{AllByRecursion};
 ghost use Rattle.alw_image.specs.Faults.{first_unfit};
-ghost use Rattle.alw_trace.specs.Readings.{are_parameters, fits_entry, fits_event, tested, IsOfMachine, IsStamped};
-ghost use Rattle.alw_trace.specs.Raw.{IsRange, IsJournal, entry_of, event_of, params_of};
+ghost use Rattle.alw_trace.specs.Readings.{are_parameters, fits_entry, fits_event, tested, IsOfMachine, EntryIsStamped};
+ghost use Rattle.alw_trace.specs.Raw.{IsRangeFault, IsJournal, entry_of, event_of, params_of};
 
 use crate::faults::TextErr;
 use crate::raw::{RawEntry, RawEvent, RawParams};
@@ -37,7 +37,7 @@ pub fn journal_of(
     requires nodes { nodes ≤ 2 ^ 16 }
     requires first { first ≤ 2 ^ 61 }
     ensures ok { IfOk result (λ journal. IsJournal nodes sets first entries.now journal) }
-    ensures err { IfErr result (IsRange (λ line. first_unfit (tested (fits_entry nodes sets) first (map entry_of entries.now)) ≡ Some line)) }
+    ensures err { IfErr result (IsRangeFault (λ line. first_unfit (tested (fits_entry nodes sets) first (map entry_of entries.now)) ≡ Some line)) }
 {
     let mut journal = Journal::empty(alloc);
     for entry in entries {
@@ -56,7 +56,7 @@ fn entry_of(raw: &RawEntry, nodes: u32, sets: u32) -> Option<Entry>
     requires { nodes ≤ 2 ^ 16 }
     ensures some { IfSome result (λ entry. entry ≡ entry_of raw.now) }
     ensures fits { IfSome result (λ entry. fits_entry nodes sets (entry_of raw.now) ≡ true) }
-    ensures stamped { IfSome result (λ entry. IsStamped nodes sets entry) }
+    ensures stamped { IfSome result (λ entry. EntryIsStamped nodes sets entry) }
     ensures none { IfNone result (fits_entry nodes sets (entry_of raw.now) ≡ false) }
 {
     if raw.stamp == 0 || raw.stamp > u64::from(u32::MAX) {

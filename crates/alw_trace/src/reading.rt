@@ -1,7 +1,7 @@
 ghost use Rattle.std.specs.Prelude.{◌≡◌, ◌≤◌, IfOk, IfErr};
 ghost use Rattle.alw_image.specs.Images.{IsImage, node_count};
 ghost use Rattle.alw_trace.specs.Readings.{HasTraceTypes, ReadsTrace};
-ghost use Rattle.alw_trace.specs.Raw.{IsImageFault, IsImageOf, IsTraceOf, IsWrong, lines_of};
+ghost use Rattle.alw_trace.specs.Raw.{IsImageFault, IsImageOf, IsTraceOf, IsNoTrace, lines_of};
 
 use crate::faults::TextErr;
 use crate::image_lines::line_behind;
@@ -26,7 +26,7 @@ pub fn read_trace(alloc: Global, bytes: &[u8]) -> Result<Trace, TextErr>
 // The trace of a text's lines.
 pub fn trace_of(alloc: Global, lines: &RawTrace) -> Result<Trace, TextErr>
     ensures ok { IfOk result (λ trace. IsTraceOf (lines_of lines.now) trace) }
-    ensures err { IfErr result (IsWrong (lines_of lines.now)) }
+    ensures err { IfErr result (IsNoTrace (lines_of lines.now)) }
 {
     let image = image_of(alloc, lines.image.bytes())?;
     let line = line_behind(&lines.image);

@@ -1,7 +1,7 @@
 ghost use Rattle.std.specs.Prelude.{◌≡◌, ◌≤◌, ◌<◌, ◌-◌, ◌^◌, ◌+◌, length, map, codes, IfOk, IfErr, OnOk};
 ghost use Rattle.alw_trace.specs.Texts.{entry_line};
 ghost use Rattle.alw_trace.specs.Lines.{IsEntry, IsFaultAtEnd, IsFaultInLines, IsFaultInList, IsTraceFault};
-ghost use Rattle.alw_trace.specs.Raw.{AreEntriesRead, AreLinesRead, IsOfTrace, IsSyntax, entry_of, lines_of};
+ghost use Rattle.alw_trace.specs.Raw.{AreEntriesRead, AreLinesRead, IsOfTrace, IsSyntaxFault, entry_of, lines_of};
 
 use crate::faults::TextErr;
 use crate::fronts::{front_at, last_line};
@@ -13,7 +13,7 @@ use std::alloc::Global;
 /// What the lines of a trace say, in range or not, or the first line that isn't of its form.
 pub fn read_lines(alloc: Global, text: &[u8]) -> Result<RawTrace, TextErr>
     ensures ok { IfOk result (λ trace. IsOfTrace text.now (lines_of trace)) }
-    ensures err { IfErr result (IsSyntax (IsTraceFault text.now)) }
+    ensures err { IfErr result (IsSyntaxFault (IsTraceFault text.now)) }
 {
     let (lines, rest) = front_at(alloc, b"ALEWIFE TRACE 1\n", text)?;
     end_at(rest, last_line(&lines))?;
@@ -24,7 +24,7 @@ pub fn read_lines(alloc: Global, text: &[u8]) -> Result<RawTrace, TextErr>
 pub fn entries_at(alloc: Global, text: &[u8], first: u64) -> Result<(Vec<RawEntry>, &[u8]), TextErr>
     requires { first ≤ 2 ^ 60 }
     ensures ok { IfOk result (λ read. AreEntriesRead text.now (map entry_of read.0.items) read.1.now) }
-    ensures err { IfErr result (IsSyntax (IsFaultInList IsEntry entry_line (codes "entries") first text.now)) }
+    ensures err { IfErr result (IsSyntaxFault (IsFaultInList IsEntry entry_line (codes "entries") first text.now)) }
 {
     match number_behind(text, b"entries ", b'\n') {
         Some((count, rest)) => lines_at(alloc, rest, count, first + 1),
@@ -41,7 +41,7 @@ fn lines_at(
 ) -> Result<(Vec<RawEntry>, &[u8]), TextErr>
     requires { first ≤ 2 ^ 61 }
     ensures ok { IfOk result (λ read. AreLinesRead count text.now (map entry_of read.0.items) read.1.now) }
-    ensures err { IfErr result (IsSyntax (IsFaultInLines IsEntry entry_line count first text.now)) }
+    ensures err { IfErr result (IsSyntaxFault (IsFaultInLines IsEntry entry_line count first text.now)) }
 {
     let mut entries = Vec::new(alloc);
     let mut rest = text;
@@ -61,7 +61,7 @@ fn lines_at(
 pub fn end_at(text: &[u8], last: u64) -> Result<(), TextErr>
     requires { last < 2 ^ 64 - 1 }
     ensures ok { OnOk result (text.now ≡ codes "end\n") }
-    ensures err { IfErr result (IsSyntax (IsFaultAtEnd last text.now)) }
+    ensures err { IfErr result (IsSyntaxFault (IsFaultAtEnd last text.now)) }
 {
     let Some(rest) = behind(text, b"end\n") else {
         return Err(TextErr::Syntax { line: last });

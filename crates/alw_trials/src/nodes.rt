@@ -1,7 +1,7 @@
 ghost use Rattle.std.specs.Prelude.{◌≡◌, ◌≤◌, true};
 ghost use Rattle.alw_image.specs.Images.{node_count};
 ghost use Rattle.alw_model.specs.NodeStates.{is_enabled_at};
-ghost use Rattle.alw_node.specs.Nodes.{IsGiven};
+ghost use Rattle.alw_node.specs.Nodes.{MessageIsGiven};
 
 use crate::images::{LINK_TO_ITSELF, ONE_NODE, Sizes, image_of};
 use crate::plays::{event_of, said_of};
@@ -96,7 +96,7 @@ fn head(waiting: &[(NodeNo, NodeNo, Msg)], event: Event) -> Option<(usize, Msg)>
 // An event is enabled at a node of a machine of at most two.
 fn may(node: &Node, event: Event, head: Option<Msg>) -> bool
     ensures enabled { result ≡ true → is_enabled_at node.now.parts node.now.parameters node.now.number node.now.state event head ≡ true }
-    ensures taken { result ≡ true → IsGiven event head }
+    ensures taken { result ≡ true → MessageIsGiven event head }
     ensures few { result ≡ true → node_count node.now.parts ≤ 2 }
 {
     let share = node.share();

@@ -13,8 +13,8 @@ use Rattle.alw_ruled.specs.Ends.{LinkName}
 use Rattle.alw_work.specs.declared.ends.Out.{Out}
 use Rattle.alw_work.specs.declared.ends.In.{In}
 use Rattle.alw_work.specs.declared.closing.Left.{Left}
-use Rattle.alw_work.specs.Seats.{EachAt, came_of, AreAlone, AreFinished}
-use Rattle.alw_work.specs.Ties.{given, all_carried, SendsPlain, SendPlain, FitsOut, FitsIn, cells_in, IsTied, AreTied, Keeps, AgreesAt, AllAgree, TakesOut, TakesIn, TakesLast}
+use Rattle.alw_work.specs.Seats.{EachAt, came_of, CellsAreAlone, CellsAreFinished}
+use Rattle.alw_work.specs.Ties.{given, all_carried, SendsPlain, SendPlain, FitsOut, FitsIn, cells_in, IsTied, EndsAreTied, Keeps, AgreesAt, AllAgree, TakesOut, TakesIn, TakesLast}
 use Rattle.alw_work.proofs.Finishing.{get_last, get_left, each_set}
 
 -- ---- one link
@@ -85,10 +85,10 @@ agrees_all nodes least cells count none done from to one other at_one at_other =
 pub record AreClosed (all : List LinkName) (nodes : ℕ) (start : List Left) (links : List LinkName) (lefts : List Left) : Type 0 where
   pub keeps : Keeps links all
   pub cells : cells_in lefts ≡ cells_in start
-  pub tied : AreTied all nodes lefts
+  pub tied : EndsAreTied all nodes lefts
   pub done : AgreesFrom (length links) nodes (cells_in start)
 
-pub closed_none : (all : List LinkName) (nodes : ℕ) (start : List Left) → length all ≡ nodes * nodes → AreTied all nodes start
+pub closed_none : (all : List LinkName) (nodes : ℕ) (start : List Left) → length all ≡ nodes * nodes → EndsAreTied all nodes start
     → AreClosed all nodes start all start
 closed_none all nodes start count tied =
     record { keeps = λ place link at. at; cells = refl; tied = tied; done = agrees_none (length all) nodes (cells_in start) count }
@@ -184,13 +184,13 @@ takes_in from to lefts was now found here cell same takes = record {
 -- ---- afterwards
 
 -- nothing has come to any cell
-pub alone_agree : (cells : List Cell) → AreAlone cells → AllAgree cells
+pub alone_agree : (cells : List Cell) → CellsAreAlone cells → AllAgree cells
 alone_agree cells alone from to one other at_one at_other =
     let none = alone to other at_other in
     (sent_to to one.log, λ i. (none.took from i ++ none.come from i) ++ sent_to to one.log)
 
 -- the caller's steps
-pub still_agree : (before after : List Cell) → AllAgree before → AreFinished before after → AllAgree after
+pub still_agree : (before after : List Cell) → AllAgree before → CellsAreFinished before after → AllAgree after
 still_agree before after agree are from to one other at_one at_other =
     let was_one = are.each from one at_one in
     let was_other = are.each to other at_other in

@@ -16,7 +16,7 @@ use Rattle.alw_model.specs.Threads.{Logged, is_from, took_from}
 use Rattle.alw_cells.specs.Cells.{Cell, IsCell, cell_start, in_from}
 use Rattle.alw_cells.specs.Choice.{taken_by, come_taken, logged_by, after_event}
 use Rattle.alw_cells.proofs.Runs.{clock_most}
-use Rattle.alw_work.specs.Seats.{EachAt, IsCellOf, StandsAt, HasTrapped, IsMarked, IsOfNode, TakesNothing, Works, Finishes, AreFinished, AreAlone}
+use Rattle.alw_work.specs.Seats.{EachAt, IsCellOf, StandsAt, HasTrapped, TrapIsMarked, CellIsOfNode, TakesNothing, Works, Finishes, CellsAreFinished, CellsAreAlone}
 use Rattle.alw_work.proofs.Working.{works_none, works_trans, works_step}
 
 -- ---- one step
@@ -154,7 +154,7 @@ pub so_far_none : (parts : Parts) (parameters : Parameters) → AreSoFar parts p
 so_far_none parts parameters = record { each = λ k cell is. absurd (cc); marked = λ is. absurd (cc) }
 
 pub so_far_push : (parts : Parts) (parameters : Parameters) (cells : List Cell) (trapped : Bool) (number : ℕ) (cell : Cell) (has : Bool)
-    → AreSoFar parts parameters cells trapped → number ≡ length cells → StandsAt parts parameters number cell → IsMarked has cell
+    → AreSoFar parts parameters cells trapped → number ≡ length cells → StandsAt parts parameters number cell → TrapIsMarked has cell
     → AreSoFar parts parameters (cells ++ cell ∷ []) (trapped || has)
 so_far_push parts parameters cells trapped number cell has are here stands marked = record {
   each = each_push (StandsAt parts parameters) cells cell are.each (subst (λ n. StandsAt parts parameters n cell) here stands);
@@ -198,12 +198,12 @@ finished_next n before after old new here are finishes = record {
           ),
         )
 
-pub finished_all : (n : ℕ) (before after : List Cell) → n ≡ length after → AreFinishedTo n before after → AreFinished before after
+pub finished_all : (n : ℕ) (before after : List Cell) → n ≡ length after → AreFinishedTo n before after → CellsAreFinished before after
 finished_all n before after all are = record { count = are.count; each = λ k cell at. are.done k cell (omega (arith, all, get_within after k cell at)) at }
 
 -- a cell on its way to be spent
 pub record Goes (before after : Cell) : Type 0 where
-  pub same : IsOfNode before after
+  pub same : CellIsOfNode before after
   pub alone : TakesNothing before → TakesNothing after
   pub works : Works before after
 
@@ -231,6 +231,6 @@ stands_next parts parameters cells number cell here is stands each =
     each_push (StandsAt parts parameters) cells cell each (subst (λ n. StandsAt parts parameters n cell) here (is_of, stands))
 
 pub alone_next : (parts : Parts) (parameters : Parameters) (cells : List Cell) (number : ℕ) (cell : Cell) → cell ≡ cell_start parts parameters number
-    → AreAlone cells → AreAlone (cells ++ cell ∷ [])
+    → CellsAreAlone cells → CellsAreAlone (cells ++ cell ∷ [])
 alone_next parts parameters cells number cell is alone =
     each_push (λ k. TakesNothing) cells cell alone (subst (λ (c : Cell). TakesNothing c) (sym is) (alone_start parts parameters number))

@@ -11,7 +11,7 @@ use Rattle.alw_ruled.specs.Ends.{LinkName, sender_at_start, receiver_at_start}
 use Rattle.alw_work.specs.declared.ends.Out.{Out}
 use Rattle.alw_work.specs.declared.ends.In.{In}
 use Rattle.alw_work.specs.Seats.{EachAt, came_of}
-use Rattle.alw_work.specs.Ties.{given, all_carried, IsNewOut, IsNewIn, AreNewOuts, AreNewIns, AreColumns, Keeps, AreTiedOuts, AreTiedIns}
+use Rattle.alw_work.specs.Ties.{given, all_carried, IsNewOut, IsNewIn, AreNewOuts, AreNewIns, LinksAreColumns, Keeps, AreTiedOuts, AreTiedIns}
 use Rattle.alw_work.proofs.Finishing.{get_last, get_left, get_within, set_length, at_place, each_set, each_none, each_push, none_come}
 
 -- ---- a link more
@@ -49,7 +49,7 @@ row_next links nodes from row link out here is none each =
 pub columns_next : (links : List LinkName) (nodes from to : ℕ) (ins : List (Vec In)) (link : LinkName) (column more : Vec In) (come : In)
     → length links ≡ from * nodes + to
     → slice_get ins to ≡ Some column → more.items ≡ column.items ++ come ∷ [] → come.end ≡ receiver_at_start link → come.kept ≡ None
-    → AreColumns links nodes from to ins → AreColumns (links ++ link ∷ []) nodes from (to + 1) (slice_set ins to more)
+    → LinksAreColumns links nodes from to ins → LinksAreColumns (links ++ link ∷ []) nodes from (to + 1) (slice_set ins to more)
 columns_next links nodes from to ins link column more come here at_to more_is is none are =
     let all = links ++ link ∷ [] in
     let before : length column.items ≡ from = are.above to column at_to (omega arith) in
@@ -74,8 +74,8 @@ columns_next links nodes from to ins link column more come here at_to more_is is
 
 -- ---- a row more
 
-pub columns_turn : (links : List LinkName) (nodes from : ℕ) (ins : List (Vec In)) → AreColumns links nodes from nodes ins
-    → AreColumns links nodes (from + 1) 0 ins
+pub columns_turn : (links : List LinkName) (nodes from : ℕ) (ins : List (Vec In)) → LinksAreColumns links nodes from nodes ins
+    → LinksAreColumns links nodes (from + 1) 0 ins
 columns_turn links nodes from ins are = record {
   count = are.count;
   each = are.each;
@@ -91,7 +91,7 @@ rows_next before after nodes from outs row keeps here new each =
     (subst (λ (k : ℕ). EachAt (IsNewOut after nodes k) row.items) here new)
 
 pub columns_start : (nodes : ℕ) (ins : List (Vec In)) → length ins ≡ nodes → EachAt (λ number (column : Vec In). column.items ≡ []) ins
-    → AreColumns [] nodes 0 0 ins
+    → LinksAreColumns [] nodes 0 0 ins
 columns_start nodes ins count empty = record {
   count = count;
   each = λ number column at. each_none (IsNewIn [] nodes number) column.items (empty number column at);

@@ -17,10 +17,10 @@ use Rattle.alw_node.specs.Nodes.{Whole}
 use Rattle.alw_cells.specs.declared.parts.Worked.{Worked}
 use Rattle.alw_cells.specs.Cells.{Cell, in_from, dids_of, IsSpent}
 use Rattle.alw_cells.specs.Logs.{Written, logged}
-use Rattle.alw_cells.specs.Leaving.{whole_after, IsWorked}
+use Rattle.alw_cells.specs.Leaving.{whole_after, LogsAreWorked}
 use Rattle.alw_cells.proofs.Runs.{local_run, left_alike, answers_alike}
-use Rattle.alw_work.specs.Works.{holds_trap, AreSpent, IsLeft}
-use Rattle.alw_work.specs.Seats.{EachAt, logs_in, nodes_in, dids_in, AreParts, StandsAt, HasTrapped, AreGathered, AreAlone, AreFinished}
+use Rattle.alw_work.specs.Works.{holds_trap, AreSpent, WorkIsLeft}
+use Rattle.alw_work.specs.Seats.{EachAt, logs_in, nodes_in, dids_in, CellsAreSplit, StandsAt, HasTrapped, CellsAreGathered, CellsAreAlone, CellsAreFinished}
 use Rattle.alw_work.specs.Ties.{AllAgree}
 use Rattle.alw_work.proofs.Trapping.{holds_same}
 use Rattle.alw_work.proofs.Finishing.{get_within}
@@ -109,7 +109,7 @@ part_at f cells n cell x at is = slice_get-map f cells n ∙ (ap (λ (o : Option
 
 pub worked_by : (parts : Parts) (parameters : Parameters) (cells : List Cell) (worked : Worked) → length cells ≡ node_count parts
     → EachAt (StandsAt parts parameters) cells
-    → AllAgree cells → AreParts cells worked → IsWorked parts parameters worked
+    → AllAgree cells → CellsAreSplit cells worked → LogsAreWorked parts parameters worked
 worked_by parts parameters cells worked count each agree are = record {
   runs = subst (λ (ls : Logs). AreLocalRuns parts parameters ls) (sym are.logs) (record {
     count = length-map cells (λ (cell : Cell). cell.log) ∙ count;
@@ -135,7 +135,7 @@ worked_by parts parameters cells worked count each agree are = record {
 -- ---- the caller's steps keep what they should
 
 pub still_cells : (parts : Parts) (parameters : Parameters) (before after : List Cell) → EachAt (StandsAt parts parameters) before
-    → AreFinished before after → EachAt (StandsAt parts parameters) after
+    → CellsAreFinished before after → EachAt (StandsAt parts parameters) after
 still_cells parts parameters before after each are k cell at =
     let one = are.each k cell at in
     let was = each k one.0 one.1.0 in
@@ -148,7 +148,7 @@ still_cells parts parameters before after each are k cell at =
       finishes.stands,
     )
 
-pub all_spent : (before after : List Cell) → AreFinished before after → (k : ℕ) (cell : Cell) → slice_get after k ≡ Some cell
+pub all_spent : (before after : List Cell) → CellsAreFinished before after → (k : ℕ) (cell : Cell) → slice_get after k ≡ Some cell
     → IsSpent cell.node.parameters cell.node.state
 all_spent before after are k cell at = (are.each k cell at).1.1.spent
 
@@ -162,21 +162,21 @@ pub record AreTaken (parts : Parts) (parameters : Parameters) (cells : List Cell
   pub marked : trapped ≡ true → (k : ℕ) × ((cell : Cell) × ((slice_get cells k ≡ Some cell) × HasTrapped cell))
 
 pub taken : (parts : Parts) (parameters : Parameters) (nodes : ℕ) (gathered closed cells : List Cell) (trapped : Bool)
-    → AreGathered parts parameters nodes gathered trapped → nodes ≡ node_count parts
+    → CellsAreGathered parts parameters nodes gathered trapped → nodes ≡ node_count parts
     → closed ≡ gathered → AllAgree gathered → cells ≡ closed → AreTaken parts parameters cells trapped
 taken parts parameters nodes gathered closed cells trapped are count same agree too =
     subst (λ (cs : List Cell). AreTaken parts parameters cs trapped) (sym (too ∙ same))
     (record { count = are.count ∙ count; each = are.each; agree = agree; marked = are.marked })
 
 module _ (parts : Parts) (parameters : Parameters) (cells : List Cell) (trapped : Bool) (are : AreTaken parts parameters cells trapped) where
-  pub left_at_trap : (worked : Worked) → trapped ≡ true → AreParts cells worked → IsLeft parts parameters worked
+  pub left_at_trap : (worked : Worked) → trapped ≡ true → CellsAreSplit cells worked → WorkIsLeft parts parameters worked
   left_at_trap worked traps split =
       let one = are.marked traps in (
         worked_by parts parameters cells worked are.count are.each are.agree split,
         left_trapped parts parameters cells are.count are.each one.0 one.1.0 one.1.1.0 one.1.1.1 (logged worked.logs) split.logs,
       )
 
-  pub left_at_end : (after : List Cell) (worked : Worked) → AreFinished cells after → AreParts after worked → IsLeft parts parameters worked
+  pub left_at_end : (after : List Cell) (worked : Worked) → CellsAreFinished cells after → CellsAreSplit after worked → WorkIsLeft parts parameters worked
   left_at_end after worked finished split =
       let count = finished.count ∙ are.count in
       let each = still_cells parts parameters cells after are.each finished in (

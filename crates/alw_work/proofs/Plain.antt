@@ -9,15 +9,15 @@ use Rattle.alw_model.specs.NodeStates.{NodeState, stamp_of}
 use Rattle.alw_model.specs.NodeSteps.{node_step}
 use Rattle.alw_model.specs.Threads.{Logged, IsRunFrom, sent_to}
 use Rattle.alw_cells.specs.Cells.{IsCell, picked, as_carried}
-use Rattle.alw_cells.specs.Records.{IsPlain, AreOfEvent}
+use Rattle.alw_cells.specs.Records.{BodyIsPlain, SendsAreOfEvent}
 use Rattle.alw_cells.proofs.Sends.{step_so}
 use Rattle.alw_cells.specs.Cells.{Cell}
 use Rattle.alw_work.specs.Ties.{all_carried, SendsPlain}
 
-same_msg : (msg : Msg) → IsPlain msg → as_carried msg ≡ msg
+same_msg : (msg : Msg) → BodyIsPlain msg → as_carried msg ≡ msg
 same_msg msg plain = ap (λ (body : Line). record msg { body = body }) plain
 
-picked_plain : (to n stamp : ℕ) (sent : List (ℕ × Msg)) → AreOfEvent n stamp sent → all_carried (picked to sent) ≡ picked to sent
+picked_plain : (to n stamp : ℕ) (sent : List (ℕ × Msg)) → SendsAreOfEvent n stamp sent → all_carried (picked to sent) ≡ picked to sent
 picked_plain to n stamp [] are = refl
 picked_plain to n stamp (send ∷ rest) are = go (send.0 == to) (picked_plain to n stamp rest are.1)
   where

@@ -12,7 +12,7 @@ use Rattle.alw_node.proofs.KeptMembers.{start_same, step_same}
 use Rattle.alw_cells.specs.Cells.{Cell, IsCell}
 use Rattle.alw_cells.specs.Choice.{stepped_by, logged_by, after_event}
 use Rattle.alw_work.specs.Works.{is_trap, traps_from, holds_trap}
-use Rattle.alw_work.specs.Seats.{IsMarked}
+use Rattle.alw_work.specs.Seats.{TrapIsMarked}
 
 or_false : (a : Bool) → (a || false) ≡ a
 or_false true = refl
@@ -53,8 +53,8 @@ module _ (parts : Parts) (parameters : Parameters) (number : ℕ) where
       ap (λ node. traps_from (share_of parts number) parameters number node log) (start_same parts number) ∙ traps_same (node_start parts number) log
 
 -- a mark that is set where the event was a trapping turn is of a log that holds one
-pub marks : (cell : Cell) (event : Event) (did : Did) (was : Bool) → IsCell cell → did ≡ (stepped_by cell event).did → IsMarked was cell
-    → IsMarked (was || is_trap did) (after_event cell event)
+pub marks : (cell : Cell) (event : Event) (did : Did) (was : Bool) → IsCell cell → did ≡ (stepped_by cell event).did → TrapIsMarked was cell
+    → TrapIsMarked (was || is_trap did) (after_event cell event)
 marks cell event did was stands is marked trapped =
     let node = cell.node in
     let more = traps_push node.parts node.parameters node.number (node_start node.parts node.number) cell.log (logged_by cell event) in

@@ -10,7 +10,7 @@ use Rattle.alw_ruled.specs.Ends.{LinkName}
 use Rattle.alw_work.specs.declared.ends.Out.{Out}
 use Rattle.alw_work.specs.declared.ends.In.{In}
 use Rattle.alw_work.specs.Works.{holds_trap}
-use Rattle.alw_work.specs.Seats.{IsMarked, IsSeat, IsOfNode, Works}
+use Rattle.alw_work.specs.Seats.{TrapIsMarked, IsSeat, CellIsOfNode, Works}
 use Rattle.alw_work.specs.Ties.{AreTiedOuts, AreTiedIns, IsSameButCome, IsSameButGiven}
 use Rattle.alw_work.proofs.Tying.{outs_same, ins_same, outs_work, ins_work}
 
@@ -28,7 +28,7 @@ module _ (image : Parts) (parameters : Parameters) (number : ℕ) (before after 
         is.marked;
   }
 
-  seat_work : (was now : Bool) → IsOfNode before after → (IsMarked was before → IsMarked now after) → IsSeat image parameters number before was
+  seat_work : (was now : Bool) → CellIsOfNode before after → (TrapIsMarked was before → TrapIsMarked now after) → IsSeat image parameters number before was
       → IsSeat image parameters number after now
   seat_work was now same marks is = record {
     cell_is = record {
@@ -51,8 +51,8 @@ module _ (image : Parts) (parameters : Parameters) (links : List LinkName) (node
   held_fetch trapped now is same tied =
       (is.0, seat_same image parameters number before after trapped same.node same.log is.1, outs_same links nodes number before after outs same is.2, tied)
 
-  pub held_step : (was now : Bool) → IsHeld image parameters links nodes number before was outs ins → IsOfNode before after
-      → (IsMarked was before → IsMarked now after)
+  pub held_step : (was now : Bool) → IsHeld image parameters links nodes number before was outs ins → CellIsOfNode before after
+      → (TrapIsMarked was before → TrapIsMarked now after)
       → Works before after → IsHeld image parameters links nodes number after now outs ins
   held_step was now is same marks works = (
     is.0,

@@ -30,16 +30,16 @@ abbrev pub HasTrapped : Cell → Type 0
 HasTrapped cell = holds_trap cell.node.parts cell.node.parameters cell.node.number cell.log ≡ true
 
 -- a mark of a trap is of a log that holds one
-abbrev pub IsMarked : Bool → Cell → Type 0
-IsMarked trapped cell = trapped ≡ true → HasTrapped cell
+abbrev pub TrapIsMarked : Bool → Cell → Type 0
+TrapIsMarked trapped cell = trapped ≡ true → HasTrapped cell
 
 -- what a lock keeps
 pub record IsSeat (parts : Parts) (parameters : Parameters) (number : ℕ) (cell : Cell) (trapped : Bool) : Type 0 where
   pub cell_is : IsCellOf parts parameters number cell
-  pub marked : IsMarked trapped cell
+  pub marked : TrapIsMarked trapped cell
 
 -- the node is the same one
-pub record IsOfNode (before after : Cell) : Type 0 where
+pub record CellIsOfNode (before after : Cell) : Type 0 where
   pub number : after.node.number ≡ before.node.number
   pub parts : after.node.parts ≡ before.node.parts
   pub parameters : after.node.parameters ≡ before.node.parameters
@@ -60,7 +60,7 @@ pub record TakesNothing (cell : Cell) : Type 0 where
 
 -- a cell has been stepped until it is spent
 pub record Finishes (before after : Cell) : Type 0 where
-  pub same : IsOfNode before after
+  pub same : CellIsOfNode before after
   pub stands : IsCell after
   pub spent : IsSpent after.node.parameters after.node.state
   pub alone : TakesNothing before → TakesNothing after
@@ -81,7 +81,7 @@ pub record AreCells (parts : Parts) (parameters : Parameters) (cells : List Cell
   pub each : EachAt (StandsAt parts parameters) cells
 
 -- the cells of so many nodes, and a mark of a trap is of one of them that has trapped
-pub record AreGathered (parts : Parts) (parameters : Parameters) (nodes : ℕ) (cells : List Cell) (trapped : Bool) : Type 0 where
+pub record CellsAreGathered (parts : Parts) (parameters : Parameters) (nodes : ℕ) (cells : List Cell) (trapped : Bool) : Type 0 where
   pub count : length cells ≡ nodes
   pub few : length cells < 2 ^ 32
   pub each : EachAt (StandsAt parts parameters) cells
@@ -98,16 +98,16 @@ abbrev pub dids_in : List Cell → List (List Did)
 dids_in cells = map (λ (cell : Cell). cell.dids) cells
 
 -- cells have been split, in order
-pub record AreParts (cells : List Cell) (worked : Worked) : Type 0 where
+pub record CellsAreSplit (cells : List Cell) (worked : Worked) : Type 0 where
   pub logs : logged worked.logs ≡ logs_in cells
   pub nodes : worked.nodes ≡ nodes_in cells
   pub dids : worked.dids ≡ dids_in cells
 
 -- nothing has come to any cell, and no log took anything
-abbrev pub AreAlone : List Cell → Type 0
-AreAlone cells = EachAt (λ k. TakesNothing) cells
+abbrev pub CellsAreAlone : List Cell → Type 0
+CellsAreAlone cells = EachAt (λ k. TakesNothing) cells
 
 -- each cell has been stepped until it is spent
-pub record AreFinished (before after : List Cell) : Type 0 where
+pub record CellsAreFinished (before after : List Cell) : Type 0 where
   pub count : length after ≡ length before
   pub each : (k : ℕ) → (cell : Cell) → slice_get after k ≡ Some cell → (was : Cell) × ((slice_get before k ≡ Some was) × Finishes was cell)

@@ -109,7 +109,7 @@ abbrev pub AreNewIns : List LinkName → ℕ → List (Vec In) → Type 0
 AreNewIns links nodes ins = EachAt (λ number (column : Vec In). EachAt (IsNewIn links nodes number) column.items) ins
 
 -- the same, from the first so many of them, and of the first `to` nodes from one more
-pub record AreColumns (links : List LinkName) (nodes from to : ℕ) (ins : List (Vec In)) : Type 0 where
+pub record LinksAreColumns (links : List LinkName) (nodes from to : ℕ) (ins : List (Vec In)) : Type 0 where
   pub count : length ins ≡ nodes
   pub each : AreNewIns links nodes ins
   pub below : (number : ℕ) (column : Vec In) → slice_get ins number ≡ Some column → number < to → length column.items ≡ from + 1
@@ -124,14 +124,14 @@ pub record LaysRow (nodes from : ℕ) (before after : List LinkName) (row : List
   pub keeps : Keeps before after
   pub count : length after ≡ from * nodes + nodes
   pub row_is : EachAt (IsNewOut after nodes from) row
-  pub ins_are : AreColumns after nodes (from + 1) 0 ins
+  pub ins_are : LinksAreColumns after nodes (from + 1) 0 ins
 
 -- all links and their ends
-pub record AreLaid (nodes : ℕ) (laid : Laid) : Type 0 where
+pub record LinksAreLaid (nodes : ℕ) (laid : Laid) : Type 0 where
   pub links : length laid.links.items ≡ nodes * nodes
   pub rows : length laid.outs.items ≡ nodes
   pub outs : AreNewOuts laid.links.items nodes laid.outs.items
-  pub ins : AreColumns laid.links.items nodes nodes 0 laid.ins.items
+  pub ins : LinksAreColumns laid.links.items nodes nodes 0 laid.ins.items
 
 -- ---- what locks leave
 
@@ -143,20 +143,20 @@ pub record IsTied (links : List LinkName) (nodes number : ℕ) (left : Left) : T
   pub outs : AreTiedOuts links nodes number left.cell left.outs.items
   pub ins : AreTiedIns links nodes number left.cell left.ins.items
 
-abbrev pub AreTied : List LinkName → ℕ → List Left → Type 0
-AreTied links nodes lefts = EachAt (IsTied links nodes) lefts
+abbrev pub EndsAreTied : List LinkName → ℕ → List Left → Type 0
+EndsAreTied links nodes lefts = EachAt (IsTied links nodes) lefts
 
 -- the last end of a node was taken off: that of its link to another one, where it is answered
 pub record TakesOut (from to : ℕ) (before after : List Left) (found : Option Out) : Type 0 where
   pub cells : cells_in after ≡ cells_in before
-  pub tied : (links : List LinkName) (nodes : ℕ) → AreTied links nodes before → AreTied links nodes after
-  pub fits : (links : List LinkName) (nodes : ℕ) (out : Out) → AreTied links nodes before → found ≡ Some out
+  pub tied : (links : List LinkName) (nodes : ℕ) → EndsAreTied links nodes before → EndsAreTied links nodes after
+  pub fits : (links : List LinkName) (nodes : ℕ) (out : Out) → EndsAreTied links nodes before → found ≡ Some out
       → (cell : Cell) × (slice_get (cells_in before) from ≡ Some cell) × FitsOut links nodes from cell to out
 
 pub record TakesIn (from to : ℕ) (before after : List Left) (found : Option In) : Type 0 where
   pub cells : cells_in after ≡ cells_in before
-  pub tied : (links : List LinkName) (nodes : ℕ) → AreTied links nodes before → AreTied links nodes after
-  pub fits : (links : List LinkName) (nodes : ℕ) (come : In) → AreTied links nodes before → found ≡ Some come
+  pub tied : (links : List LinkName) (nodes : ℕ) → EndsAreTied links nodes before → EndsAreTied links nodes after
+  pub fits : (links : List LinkName) (nodes : ℕ) (come : In) → EndsAreTied links nodes before → found ≡ Some come
       → (cell : Cell) × (slice_get (cells_in before) to ≡ Some cell) × FitsIn links nodes to cell from come
 
 -- a list became a front of itself, and what is answered stood at this place

@@ -12,7 +12,7 @@ use Rattle.alw_model.specs.Threads.{Logged, Logs, log_at, node_after}
 use Rattle.alw_cells.specs.declared.parts.Worked.{Worked}
 use Rattle.alw_cells.specs.Cells.{IsSpent}
 use Rattle.alw_cells.specs.Logs.{logged}
-use Rattle.alw_cells.specs.Leaving.{IsWorked}
+use Rattle.alw_cells.specs.Leaving.{LogsAreWorked}
 
 -- a trapping turn
 abbrev pub is_trap : Did → Bool
@@ -37,5 +37,5 @@ AreSpent parts parameters logs =
     → (n : ℕ) → n < node_count parts → IsSpent parameters (node_after parts parameters n (node_start parts n) (log_at logs n))
 
 -- what workers leave, with nodes that are spent as told
-abbrev pub IsLeft : Parts → Parameters → Worked → Type 0
-IsLeft parts parameters worked = IsWorked parts parameters worked × AreSpent parts parameters (logged worked.logs)
+abbrev pub WorkIsLeft : Parts → Parameters → Worked → Type 0
+WorkIsLeft parts parameters worked = LogsAreWorked parts parameters worked × AreSpent parts parameters (logged worked.logs)

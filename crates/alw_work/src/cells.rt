@@ -1,6 +1,6 @@
 ghost use Rattle.std.specs.Prelude.{◌≡◌, ◌<◌, ◌^◌, vec_len, IfOk, OnOk};
 ghost use Rattle.alw_image.specs.Images.{node_count};
-ghost use Rattle.alw_work.specs.Seats.{AreCells, AreAlone, AreParts, Finishes, AreFinished};
+ghost use Rattle.alw_work.specs.Seats.{AreCells, CellsAreAlone, CellsAreSplit, Finishes, CellsAreFinished};
 
 use alw_cells::{CellParts, DidLists, Logs, NodeCell, Stepped, Worked};
 use alw_image::{Image, Params};
@@ -21,7 +21,7 @@ pub fn count_nodes(image: &Image) -> u16
 /// The cells of all nodes at the start of an image.
 pub fn start_all(alloc: Global, image: &Image, params: &Params) -> Result<Vec<NodeCell>, NoMemory>
     ensures cells { IfOk result (λ cells. AreCells image.now params.now cells.items) }
-    ensures alone { IfOk result (λ cells. AreAlone cells.items) }
+    ensures alone { IfOk result (λ cells. CellsAreAlone cells.items) }
 {
     let code = Arc::new(alloc, image.code().copy()?)?;
     let count = count_nodes(image);
@@ -36,7 +36,7 @@ pub fn start_all(alloc: Global, image: &Image, params: &Params) -> Result<Vec<No
 
 /// Steps the cells one after the other, each until it is idle.
 pub fn finish_all(cells: &mut Vec<NodeCell>, state: u64) -> Result<(), NoMemory>
-    ensures { OnOk result (AreFinished cells.old.items cells.new.items) }
+    ensures { OnOk result (CellsAreFinished cells.old.items cells.new.items) }
 {
     let mut draws = Draws { state };
     for n in 0..cells.len() {
@@ -48,7 +48,7 @@ pub fn finish_all(cells: &mut Vec<NodeCell>, state: u64) -> Result<(), NoMemory>
 /// What the cells were of, in order.
 pub fn split_all(alloc: Global, cells: Vec<NodeCell>) -> Result<Worked, NoMemory>
     requires { vec_len cells < 2 ^ 32 }
-    ensures { IfOk result (λ worked. AreParts cells.items worked) }
+    ensures { IfOk result (λ worked. CellsAreSplit cells.items worked) }
 {
     let mut logs = Logs::empty(alloc);
     let mut nodes = Nodes::empty(alloc);

@@ -1,7 +1,7 @@
 ghost use Rattle.std.specs.Prelude.{◌≡◌, ◌<◌, ◌*◌, true, length, vec_len, IfOk, IfSome};
 ghost use Rattle.alw_image.specs.Images.{node_count};
-ghost use Rattle.alw_work.specs.Seats.{AreGathered};
-ghost use Rattle.alw_work.specs.Ties.{cells_in, AreTied, SendPlain, AllAgree, TakesOut, TakesIn, TakesLast};
+ghost use Rattle.alw_work.specs.Seats.{CellsAreGathered};
+ghost use Rattle.alw_work.specs.Ties.{cells_in, EndsAreTied, SendPlain, AllAgree, TakesOut, TakesIn, TakesLast};
 
 use crate::ends::{In, Out};
 use crate::seats::{Locked, Naming};
@@ -26,8 +26,8 @@ pub fn gather<I: Naming>(
     nodes: u16,
     locks: Vec<Mutex<Locked<I>>>,
 ) -> Result<Option<(Vec<Left>, bool)>, NoMemory>
-    ensures cells { IfOk result (λ found. IfSome found (λ left. AreGathered I.image I.parameters nodes (cells_in left.0.items) left.1)) }
-    ensures tied { IfOk result (λ found. IfSome found (λ left. AreTied I.links (node_count I.image) left.0.items)) }
+    ensures cells { IfOk result (λ found. IfSome found (λ left. CellsAreGathered I.image I.parameters nodes (cells_in left.0.items) left.1)) }
+    ensures tied { IfOk result (λ found. IfSome found (λ left. EndsAreTied I.links (node_count I.image) left.0.items)) }
 {
     let mut lefts = Vec::new(alloc);
     let mut trapped = false;
@@ -52,7 +52,7 @@ pub fn close_all<R: Wait>(rt: &R, nodes: u16, mut links: Vec<Link>, lefts: &mut 
     requires some { 0 < nodes }
     requires links { length links.items ≡ nodes * nodes }
     requires count { length lefts.old.items ≡ nodes }
-    requires tied { AreTied links.items nodes lefts.old.items }
+    requires tied { EndsAreTied links.items nodes lefts.old.items }
     requires plain { SendPlain (cells_in lefts.old.items) }
     ensures cells { cells_in lefts.new.items ≡ cells_in lefts.old.items }
     ensures agree { result ≡ true → AllAgree (cells_in lefts.old.items) }

@@ -1,5 +1,5 @@
 ghost use Rattle.std.specs.Prelude.{◌≡◌, ◌<◌, ◌*◌, vec_len, [], IfOk};
-ghost use Rattle.alw_work.specs.Ties.{AreColumns, AreLaid, LaysRow};
+ghost use Rattle.alw_work.specs.Ties.{LinksAreColumns, LinksAreLaid, LaysRow};
 
 use crate::ends::{In, Out};
 use alw_num::NoMemory;
@@ -18,7 +18,7 @@ pub struct Laid {
 
 /// The links between so many nodes, on which nothing was sent.
 pub fn lay_links<R: Wait>(rt: &R, alloc: Global, nodes: u16) -> Result<Laid, NoMemory>
-    ensures { IfOk result (λ laid. AreLaid nodes laid) }
+    ensures { IfOk result (λ laid. LinksAreLaid nodes laid) }
 {
     let mut links = Vec::new(alloc);
     let mut outs = Vec::new(alloc);
@@ -32,7 +32,7 @@ pub fn lay_links<R: Wait>(rt: &R, alloc: Global, nodes: u16) -> Result<Laid, NoM
 
 // A list of ends for each node, as yet empty.
 fn columns(alloc: Global, nodes: u16) -> Result<Vec<Vec<In>>, NoMemory>
-    ensures { IfOk result (λ ins. AreColumns [] nodes 0 0 ins.items) }
+    ensures { IfOk result (λ ins. LinksAreColumns [] nodes 0 0 ins.items) }
 {
     let mut ins = Vec::new(alloc);
     while ins.len() < usize::from(nodes) {
@@ -51,7 +51,7 @@ fn lay_row<R: Wait>(
     ins: &mut Vec<Vec<In>>,
 ) -> Result<Vec<Out>, NoMemory>
     requires links { vec_len links.old ≡ from * nodes }
-    requires ins { AreColumns links.old.items nodes from 0 ins.old.items }
+    requires ins { LinksAreColumns links.old.items nodes from 0 ins.old.items }
     ensures { IfOk result (λ row. LaysRow nodes from links.old.items links.new.items row.items ins.new.items) }
 {
     let mut row = Vec::new(alloc);

@@ -1,9 +1,9 @@
 ghost use Rattle.std.specs.Prelude.{◌≡◌, ◌<◌, ◌*◌, length, vec_len, IfOk};
 ghost use Rattle.alw_image.specs.Images.{node_count};
 ghost use Rattle.alw_cells.specs.Logs.{logged};
-ghost use Rattle.alw_cells.specs.Leaving.{IsWorked};
-ghost use Rattle.alw_work.specs.Works.{AreSpent, IsLeft};
-ghost use Rattle.alw_work.specs.Ties.{AreNewOuts, AreNewIns, AreLaid};
+ghost use Rattle.alw_cells.specs.Leaving.{LogsAreWorked};
+ghost use Rattle.alw_work.specs.Works.{AreSpent, WorkIsLeft};
+ghost use Rattle.alw_work.specs.Ties.{AreNewOuts, AreNewIns, LinksAreLaid};
 
 use crate::cells::{count_nodes, finish_all, split_all, start_all};
 use crate::closing::{cells_of, close_all, gather};
@@ -34,7 +34,7 @@ pub fn run_workers<R: Threads + Wait + Sync, G: Gate>(
     workers: u32,
     gate: &G,
 ) -> Result<Worked, NoMemory>
-    ensures worked { IfOk result (λ worked. IsWorked image.now params.now worked) }
+    ensures worked { IfOk result (λ worked. LogsAreWorked image.now params.now worked) }
     ensures spent { IfOk result (λ worked. AreSpent image.now params.now (logged worked.logs)) }
 {
     let laid = lay_links(rt, alloc, count_nodes(image))?;
@@ -55,8 +55,8 @@ fn run_named<I: Naming + Counting + Send + Sync, R: Threads + Wait + Sync, G: Ga
     requires parameters { params.now ≡ I.parameters }
     requires counted { node_count image.now ≡ I.nodes }
     requires links { laid.links.items ≡ I.links }
-    requires laid { AreLaid (node_count image.now) laid }
-    ensures { IfOk result (λ worked. IsLeft image.now params.now worked) }
+    requires laid { LinksAreLaid (node_count image.now) laid }
+    ensures { IfOk result (λ worked. WorkIsLeft image.now params.now worked) }
 {
     let Laid { links, outs, ins } = laid;
     let locks = lock_each(alloc, start_seats::<I>(alloc, image, params, outs, ins)?)?;
@@ -120,7 +120,7 @@ fn take_over<I: Naming, R: Wait>(
     requires parameters { params.now ≡ I.parameters }
     requires links { links.items ≡ I.links }
     requires all { length links.items ≡ node_count image.now * node_count image.now }
-    ensures { IfOk result (λ worked. IsLeft image.now params.now worked) }
+    ensures { IfOk result (λ worked. WorkIsLeft image.now params.now worked) }
 {
     let nodes = count_nodes(image);
     let Some((mut lefts, trapped)) = gather(alloc, nodes, locks)? else {
@@ -144,7 +144,7 @@ fn run_apart(
     params: &Params,
     workers: u32,
 ) -> Result<Worked, NoMemory>
-    ensures { IfOk result (λ worked. IsLeft image.now params.now worked) }
+    ensures { IfOk result (λ worked. WorkIsLeft image.now params.now worked) }
 {
     let mut cells = start_all(alloc, image, params)?;
     finish_all(&mut cells, u64::from(workers))?;

@@ -1,7 +1,7 @@
 ghost use Rattle.std.specs.Prelude.{◌≡◌, ◌<◌};
 ghost use Rattle.alw_image.specs.Images.{node_count};
 ghost use Rattle.alw_work.specs.Works as works;
-ghost use Rattle.alw_work.specs.Seats.{IsCellOf, StandsAt, IsMarked, IsOfNode, Works};
+ghost use Rattle.alw_work.specs.Seats.{IsCellOf, StandsAt, TrapIsMarked, CellIsOfNode, Works};
 ghost use Rattle.alw_work.specs.Ties.{AreTiedOuts, AreTiedIns};
 
 use crate::ends::{In, Out};
@@ -150,7 +150,7 @@ impl<I: Naming> Locked<I> {
     /// gone.
     pub fn open(self) -> (NodeNo, NodeCell, bool, Vec<Out>, Vec<In>)
         ensures cell { StandsAt I.image I.parameters result.0.0 result.1 }
-        ensures trapped { IsMarked result.2 result.1 }
+        ensures trapped { TrapIsMarked result.2 result.1 }
         ensures outs { AreTiedOuts I.links (node_count I.image) result.0.0 result.1 result.3.items }
         ensures ins { AreTiedIns I.links (node_count I.image) result.0.0 result.1 result.4.items }
     {
@@ -184,8 +184,8 @@ fn is_trap(did: Did) -> bool
 
 // One step, which is marked where it is a trapping turn. Answers whether the cell did anything.
 fn step(cell: &mut NodeCell, trapped: &mut bool, pick: u32) -> Result<bool, NoMemory>
-    ensures same { IsOfNode cell.old cell.new }
-    ensures marked { IsMarked trapped.old cell.old → IsMarked trapped.new cell.new }
+    ensures same { CellIsOfNode cell.old cell.new }
+    ensures marked { TrapIsMarked trapped.old cell.old → TrapIsMarked trapped.new cell.new }
     ensures works { Works cell.old cell.new }
 {
     let _stands = cell.log();

@@ -8,7 +8,7 @@ use Rattle.alw_num.specs.Maps.{value_at, with_value, without_value}
 use Rattle.alw_num.proofs.MapLaws.{value-empty, value-with, value-without, same_maps}
 use Rattle.dir_soft.specs.declared.places.Place.{Place}
 use Rattle.dir_soft.specs.Chains.{line_at, with_next}
-use Rattle.dir_soft.specs.Pools.{Entry, entry_of, contents, is_free, map_of, first_of, IsSingle, chain_of, chain_at}
+use Rattle.dir_soft.specs.Pools.{Entry, entry_of, contents, is_free, map_of, first_of, PlacesAreSingle, chain_of, chain_at}
 use Rattle.alw_num.proofs.MapLengths.{length-empty, length-with_new}
 
 -- the map has what the first place of a line has
@@ -22,7 +22,7 @@ value-map_of (place ∷ rest) line = go (is_free place) (value-map_of rest line)
     go false later = value-with (map_of rest) place.line place.nodes line ∙ ap (λ (o : Option Nodes). cond (line == place.line) (Some place.nodes) o) later
 
 -- a place that isn't free has its line's set
-pub first-at : (pool : List Entry) (k : ℕ) (place : Entry) → IsSingle pool → slice_get pool k ≡ Some place → is_free place ≡ false → first_of pool place.line ≡ Some place.nodes
+pub first-at : (pool : List Entry) (k : ℕ) (place : Entry) → PlacesAreSingle pool → slice_get pool k ≡ Some place → is_free place ≡ false → first_of pool place.line ≡ Some place.nodes
 first-at [] k place single at used = absurd (cc)
 first-at (first ∷ rest) zero place single at used = grind (arith, nat_tests)
 first-at (first ∷ rest) (suc k) place single at used = grind (arith, nat_tests, first-at rest k place)
@@ -35,33 +35,33 @@ first-filled [] k p q line at free used new = absurd (cc)
 first-filled (first ∷ rest) zero p q line at free used new = grind (arith, nat_tests)
 first-filled (first ∷ rest) (suc k) p q line at free used new = grind (arith, nat_tests, first-filled rest k p q line)
 
-pub single-filled : (pool : List Entry) (k : ℕ) (p q : Entry) → IsSingle pool → slice_get pool k ≡ Some p → is_free p ≡ true → is_free q ≡ false → first_of pool q.line ≡ None → IsSingle (slice_set pool k q)
+pub single-filled : (pool : List Entry) (k : ℕ) (p q : Entry) → PlacesAreSingle pool → slice_get pool k ≡ Some p → is_free p ≡ true → is_free q ≡ false → first_of pool q.line ≡ None → PlacesAreSingle (slice_set pool k q)
 single-filled [] k p q single at free used new = absurd (cc)
 single-filled (first ∷ rest) zero p q single at free used new = grind (arith, nat_tests)
 single-filled (first ∷ rest) (suc k) p q single at free used new = grind (arith, nat_tests, single-filled rest k p q, first-filled rest k p q first.line)
 
 -- ---- a line's set changes
 
-pub first-changed : (pool : List Entry) (k : ℕ) (p q : Entry) (line : ℕ) → IsSingle pool → slice_get pool k ≡ Some p → is_free p ≡ false → is_free q ≡ false → q.line ≡ p.line
+pub first-changed : (pool : List Entry) (k : ℕ) (p q : Entry) (line : ℕ) → PlacesAreSingle pool → slice_get pool k ≡ Some p → is_free p ≡ false → is_free q ≡ false → q.line ≡ p.line
     → first_of (slice_set pool k q) line ≡ cond (line == q.line) (Some q.nodes) (first_of pool line)
 first-changed [] k p q line single at used still same = absurd (cc)
 first-changed (first ∷ rest) zero p q line single at used still same = grind (arith, nat_tests)
 first-changed (first ∷ rest) (suc k) p q line single at used still same = grind (arith, nat_tests, first-changed rest k p q line, first-at rest k p)
 
-pub single-changed : (pool : List Entry) (k : ℕ) (p q : Entry) → IsSingle pool → slice_get pool k ≡ Some p → is_free p ≡ false → is_free q ≡ false → q.line ≡ p.line → IsSingle (slice_set pool k q)
+pub single-changed : (pool : List Entry) (k : ℕ) (p q : Entry) → PlacesAreSingle pool → slice_get pool k ≡ Some p → is_free p ≡ false → is_free q ≡ false → q.line ≡ p.line → PlacesAreSingle (slice_set pool k q)
 single-changed [] k p q single at used still same = absurd (cc)
 single-changed (first ∷ rest) zero p q single at used still same = grind (arith, nat_tests)
 single-changed (first ∷ rest) (suc k) p q single at used still same = grind (arith, nat_tests, single-changed rest k p q, first-changed rest k p q first.line, first-at rest k p)
 
 -- ---- a line's place becomes free
 
-pub first-freed : (pool : List Entry) (k : ℕ) (p q : Entry) (line : ℕ) → IsSingle pool → slice_get pool k ≡ Some p → is_free p ≡ false → is_free q ≡ true
+pub first-freed : (pool : List Entry) (k : ℕ) (p q : Entry) (line : ℕ) → PlacesAreSingle pool → slice_get pool k ≡ Some p → is_free p ≡ false → is_free q ≡ true
     → first_of (slice_set pool k q) line ≡ cond (line == p.line) None (first_of pool line)
 first-freed [] k p q line single at used gone = absurd (cc)
 first-freed (first ∷ rest) zero p q line single at used gone = grind (arith, nat_tests)
 first-freed (first ∷ rest) (suc k) p q line single at used gone = grind (arith, nat_tests, first-freed rest k p q line, first-at rest k p)
 
-pub single-freed : (pool : List Entry) (k : ℕ) (p q : Entry) → IsSingle pool → slice_get pool k ≡ Some p → is_free p ≡ false → is_free q ≡ true → IsSingle (slice_set pool k q)
+pub single-freed : (pool : List Entry) (k : ℕ) (p q : Entry) → PlacesAreSingle pool → slice_get pool k ≡ Some p → is_free p ≡ false → is_free q ≡ true → PlacesAreSingle (slice_set pool k q)
 single-freed [] k p q single at used gone = absurd (cc)
 single-freed (first ∷ rest) zero p q single at used gone = grind (arith, nat_tests)
 single-freed (first ∷ rest) (suc k) p q single at used gone = grind (arith, nat_tests, single-freed rest k p q, first-freed rest k p q first.line)
@@ -71,16 +71,16 @@ single-freed (first ∷ rest) (suc k) p q single at used gone = grind (arith, na
 pub map-filled : (pool : List Entry) (k : ℕ) (p q : Entry) → slice_get pool k ≡ Some p → is_free p ≡ true → is_free q ≡ false → first_of pool q.line ≡ None → map_of (slice_set pool k q) ≡ with_value (map_of pool) q.line q.nodes
 map-filled pool k p q at free used new = same_maps _ _ (λ l. value-map_of (slice_set pool k q) l ∙ first-filled pool k p q l at free used new ∙ sym (value-with (map_of pool) q.line q.nodes l ∙ ap (λ (o : Option Nodes). cond (l == q.line) (Some q.nodes) o) (value-map_of pool l)))
 
-pub map-changed : (pool : List Entry) (k : ℕ) (p q : Entry) → IsSingle pool → slice_get pool k ≡ Some p → is_free p ≡ false → is_free q ≡ false → q.line ≡ p.line → map_of (slice_set pool k q) ≡ with_value (map_of pool) q.line q.nodes
+pub map-changed : (pool : List Entry) (k : ℕ) (p q : Entry) → PlacesAreSingle pool → slice_get pool k ≡ Some p → is_free p ≡ false → is_free q ≡ false → q.line ≡ p.line → map_of (slice_set pool k q) ≡ with_value (map_of pool) q.line q.nodes
 map-changed pool k p q single at used still same = same_maps _ _ (λ l. value-map_of (slice_set pool k q) l ∙ first-changed pool k p q l single at used still same ∙ sym (value-with (map_of pool) q.line q.nodes l ∙ ap (λ (o : Option Nodes). cond (l == q.line) (Some q.nodes) o) (value-map_of pool l)))
 
-pub map-freed : (pool : List Entry) (k : ℕ) (p q : Entry) → IsSingle pool → slice_get pool k ≡ Some p → is_free p ≡ false → is_free q ≡ true → map_of (slice_set pool k q) ≡ without_value (map_of pool) p.line
+pub map-freed : (pool : List Entry) (k : ℕ) (p q : Entry) → PlacesAreSingle pool → slice_get pool k ≡ Some p → is_free p ≡ false → is_free q ≡ true → map_of (slice_set pool k q) ≡ without_value (map_of pool) p.line
 map-freed pool k p q single at used gone = same_maps _ _ (λ l. value-map_of (slice_set pool k q) l ∙ first-freed pool k p q l single at used gone ∙ sym (value-without (map_of pool) p.line l ∙ ap (λ (o : Option Nodes). cond (l == p.line) None o) (value-map_of pool l)))
 
 pub none_at : (pool : List Entry) (line : ℕ) → first_of pool line ≡ None → value_at (map_of pool) line ≡ None
 none_at pool line none = value-map_of pool line ∙ none
 
-pub set_at : (pool : List Entry) (k : ℕ) (p : Entry) → IsSingle pool → slice_get pool k ≡ Some p → is_free p ≡ false → value_at (map_of pool) p.line ≡ Some p.nodes
+pub set_at : (pool : List Entry) (k : ℕ) (p : Entry) → PlacesAreSingle pool → slice_get pool k ≡ Some p → is_free p ≡ false → value_at (map_of pool) p.line ≡ Some p.nodes
 set_at pool k p single here used = value-map_of pool p.line ∙ first-at pool k p single here used
 
 -- a line without a set: all stays as it is
@@ -93,7 +93,7 @@ without_none pool line none = same_maps _ _ (λ l. value-without (map_of pool) l
 
 -- ---- how many are in use
 
-pub used_le : (pool : List Entry) → IsSingle pool → length (map_of pool).entries ≤ length pool
+pub used_le : (pool : List Entry) → PlacesAreSingle pool → length (map_of pool).entries ≤ length pool
 used_le [] single = omega (arith, length-empty Nodes)
 used_le (entry ∷ rest) single = go (used_le rest single.1) (is_free entry) refl
   where
@@ -109,7 +109,7 @@ pub record HasFree (pool : List Entry) : Type 0 where
   pub here : slice_get pool place ≡ Some entry
   pub free : is_free entry ≡ true
 
-pub some_free : (pool : List Entry) → IsSingle pool → length (map_of pool).entries < length pool → HasFree pool
+pub some_free : (pool : List Entry) → PlacesAreSingle pool → length (map_of pool).entries < length pool → HasFree pool
 some_free [] single less = absurd (omega arith)
 some_free (entry ∷ rest) single less = go (λ l. some_free rest single.1 l) (is_free entry) refl less
   where

@@ -7,7 +7,7 @@ use Rattle.alw_num.specs.Weights.{digit, times}
 use Rattle.alw_num.proofs.Weigh.{weigh-append, digit_other, digit_same, digit_le, true_of_digit}
 use Rattle.dir_soft.specs.declared.places.Place.{Place}
 use Rattle.dir_soft.specs.declared.places.Spot.{Spot}
-use Rattle.dir_soft.specs.Chains.{next_at, head_at, with_next, unlinked, IsPath, IsBefore, IsLinked, IsSpot}
+use Rattle.dir_soft.specs.Chains.{next_at, head_at, with_next, unlinked, IsPath, IsPlaceBefore, PlacesAreLinked, IsSpot}
 
 -- ---- reads after a change
 
@@ -80,10 +80,10 @@ put k v f j = cond (j == k) v (f j)
 -- ---- the chains
 
 -- a place that is on no chain is put at the front of one
-pub linked : (tag : ℕ → ℕ) (heads heads' : List ℕ) (places after : List Place) (t k : ℕ) → IsLinked tag heads places
+pub linked : (tag : ℕ → ℕ) (heads heads' : List ℕ) (places after : List Place) (t k : ℕ) → PlacesAreLinked tag heads places
     → length heads' ≡ length heads → ((u : ℕ) → head_at heads' u ≡ cond (u == t) k (head_at heads u))
     → length after ≡ length places → ((j : ℕ) → next_at after j ≡ cond (j == k) (head_at heads t) (next_at places j))
-    → t < length heads → k < length places → length heads ≤ tag k → IsLinked (put k t tag) heads' after
+    → t < length heads → k < length places → length heads ≤ tag k → PlacesAreLinked (put k t tag) heads' after
 linked tag heads heads' places after t k before h heads_are p next_is here within loose = record {
   chains = λ u. cond (u == t) (k ∷ before.chains t) (before.chains u);
   paths = paths;
@@ -124,9 +124,9 @@ linked tag heads heads' places after t k before h heads_are p next_is here withi
     each u j l = counts u j (omega (arith, h, l)) (u == t) refl (j == k) refl
 
 -- the first place of a chain is taken off
-pub unlinked_front : (tag : ℕ → ℕ) (heads heads' : List ℕ) (places : List Place) (t k : ℕ) (rest : List ℕ) (before : IsLinked tag heads places)
+pub unlinked_front : (tag : ℕ → ℕ) (heads heads' : List ℕ) (places : List Place) (t k : ℕ) (rest : List ℕ) (before : PlacesAreLinked tag heads places)
     → length heads' ≡ length heads → ((u : ℕ) → head_at heads' u ≡ cond (u == t) (next_at places k) (head_at heads u))
-    → t < length heads → before.chains t ≡ k ∷ rest → IsLinked (put k (length heads) tag) heads' places
+    → t < length heads → before.chains t ≡ k ∷ rest → PlacesAreLinked (put k (length heads) tag) heads' places
 unlinked_front tag heads heads' places t k rest before h heads_are here whole = record {
   chains = λ u. cond (u == t) rest (before.chains u);
   paths = λ u l. rw (heads_are u) (go u (omega (arith, h, l)) (u == t) refl);
@@ -160,9 +160,9 @@ unlinked_front tag heads heads' places t k rest before h heads_are here whole = 
     counts u j l false e false f = before.each u j l
 
 -- a place is taken out from behind place i
-pub unlinked_behind : (tag : ℕ → ℕ) (heads : List ℕ) (places after : List Place) (t i k : ℕ) (front rest : List ℕ) (before : IsLinked tag heads places)
+pub unlinked_behind : (tag : ℕ → ℕ) (heads : List ℕ) (places after : List Place) (t i k : ℕ) (front rest : List ℕ) (before : PlacesAreLinked tag heads places)
     → length after ≡ length places → ((j : ℕ) → next_at after j ≡ cond (j == i) (next_at places k) (next_at places j))
-    → t < length heads → before.chains t ≡ front ++ i ∷ k ∷ rest → IsLinked (put k (length heads) tag) heads after
+    → t < length heads → before.chains t ≡ front ++ i ∷ k ∷ rest → PlacesAreLinked (put k (length heads) tag) heads after
 unlinked_behind tag heads places after t i k front rest before long next_is here whole = record {
   chains = λ u. cond (u == t) (front ++ i ∷ rest) (before.chains u);
   paths = λ u l. go u l (u == t) refl;
@@ -205,11 +205,11 @@ unlinked_behind tag heads places after t i k front rest before long next_is here
     counts u j l false e false f = before.each u j l
 
 -- a place is taken out of its chain
-pub unlinked_at : (tag : ℕ → ℕ) (heads : List ℕ) (places : List Place) (t : ℕ) (spot : Spot) (before : IsLinked tag heads places) → t < length heads → IsSpot places (before.chains t) spot
-    → let after = unlinked t heads places spot.at spot.before in IsLinked (put spot.at (length heads) tag) after.0 after.1
+pub unlinked_at : (tag : ℕ → ℕ) (heads : List ℕ) (places : List Place) (t : ℕ) (spot : Spot) (before : PlacesAreLinked tag heads places) → t < length heads → IsSpot places (before.chains t) spot
+    → let after = unlinked t heads places spot.at spot.before in PlacesAreLinked (put spot.at (length heads) tag) after.0 after.1
 unlinked_at tag heads places t spot before here is = go spot.before is.before
   where
-    go : (b : Option ℕ) → IsBefore b is.seen → let after = unlinked t heads places spot.at b in IsLinked (put spot.at (length heads) tag) after.0 after.1
+    go : (b : Option ℕ) → IsPlaceBefore b is.seen → let after = unlinked t heads places spot.at b in PlacesAreLinked (put spot.at (length heads) tag) after.0 after.1
     go None e = unlinked_front tag heads (slice_set heads t (next_at places spot.at)) places t spot.at is.rest before (length-set heads t (next_at places spot.at)) (λ u. head-set heads t (next_at places spot.at) u here) here
         (is.whole ∙ ap (λ (js : List ℕ). js ++ spot.at ∷ is.rest) e)
     go (Some i) (front, e) =

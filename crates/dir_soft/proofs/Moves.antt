@@ -12,8 +12,8 @@ use Rattle.alw_num.proofs.Weigh.{digit_same, true_of_digit}
 use Rattle.dir_soft.specs.declared.places.Place.{Place}
 use Rattle.dir_soft.specs.declared.places.Spot.{Spot}
 use Rattle.dir_soft.specs.Tables.{set_or_none}
-use Rattle.dir_soft.specs.Chains.{next_at, head_at, unlinked, IsPath, IsLinked, IsSpot, IsBefore, IsBeforeWithin}
-use Rattle.dir_soft.specs.Pools.{Entry, entry_of, contents, is_free, map_of, first_of, IsSingle, IsTable, chain_of, chain_at}
+use Rattle.dir_soft.specs.Chains.{next_at, head_at, unlinked, IsPath, PlacesAreLinked, IsSpot, IsPlaceBefore, IsBeforeWithin}
+use Rattle.dir_soft.specs.Pools.{Entry, entry_of, contents, is_free, map_of, first_of, PlacesAreSingle, IsTable, chain_of, chain_at}
 use Rattle.alw_num.proofs.MapLengths.{length-with_new, length-without}
 use Rattle.dir_soft.proofs.Links.{next-set, head-set, length-with_next, put, linked, unlinked_at, on_path}
 use Rattle.dir_soft.proofs.Pools.{IsLines, relinked, some_free, bucket-lt}
@@ -34,19 +34,19 @@ unlinked_is t heads places at (Some i) = record { heads_long = refl; long = leng
 pub before_within : (places : List Place) (k : ℕ) (chain : List ℕ) (spot : Spot) → IsPath places k chain → IsSpot places chain spot → IsBeforeWithin spot.before (length places)
 before_within places k chain spot path is = go spot.before is.before
   where
-    go : (b : Option ℕ) → IsBefore b is.seen → IsBeforeWithin b (length places)
+    go : (b : Option ℕ) → IsPlaceBefore b is.seen → IsBeforeWithin b (length places)
     go None e = tt
     go (Some i) (front, e) = on_path places k front i (spot.at ∷ is.rest) (subst (λ (js : List ℕ). IsPath places k js) (is.whole ∙ (ap (λ (js : List ℕ). js ++ spot.at ∷ is.rest) e ∙ append_assoc front (i ∷ []) (spot.at ∷ is.rest))) path)
 
 -- a place goes to the front of another chain, with other contents that belong there
-pub moved : (buckets : ℕ) (heads : List ℕ) (places : List Place) (t to : ℕ) (spot : Spot) (p : Place) (before : IsLinked (chain_at buckets (contents places)) heads places)
+pub moved : (buckets : ℕ) (heads : List ℕ) (places : List Place) (t to : ℕ) (spot : Spot) (p : Place) (before : PlacesAreLinked (chain_at buckets (contents places)) heads places)
     → t < length heads → to < length heads → spot.at < length places → IsSpot places (before.chains t) spot → (r : List ℕ × List Place) → r ≡ unlinked t heads places spot.at spot.before
     → p.next ≡ head_at r.0 to → chain_of buckets (entry_of p) ≡ to
-    → IsLinked (chain_at buckets (contents (slice_set r.1 spot.at p))) (slice_set r.0 to spot.at) (slice_set r.1 spot.at p)
+    → PlacesAreLinked (chain_at buckets (contents (slice_set r.1 spot.at p))) (slice_set r.0 to spot.at) (slice_set r.1 spot.at p)
 moved buckets heads places t to spot p before from there within is r r_is next_is chain_is =
     let loose_tag : ℕ → ℕ = put spot.at (length heads) (chain_at buckets (contents places)) in
     let u : IsUnlinked heads places r = subst (IsUnlinked heads places) (sym r_is) (unlinked_is t heads places spot.at spot.before) in
-    let out : IsLinked loose_tag r.0 r.1 = subst (λ (q : List ℕ × List Place). IsLinked loose_tag q.0 q.1) (sym r_is) (unlinked_at (chain_at buckets (contents places)) heads places t spot before from is) in
+    let out : PlacesAreLinked loose_tag r.0 r.1 = subst (λ (q : List ℕ × List Place). PlacesAreLinked loose_tag q.0 q.1) (sym r_is) (unlinked_at (chain_at buckets (contents places)) heads places t spot before from is) in
     let there' : to < length r.0 = omega (arith, there, u.heads_long) in
     let within' : spot.at < length r.1 = omega (arith, within, u.long) in
     let back = linked loose_tag r.0 (slice_set r.0 to spot.at) r.1 (slice_set r.1 spot.at p) to spot.at out
@@ -65,7 +65,7 @@ moved buckets heads places t to spot p before from there within is r r_is next_i
 -- ---- a line gets a place
 
 -- the first free place
-pub record IsFree (heads : List ℕ) (places : List Place) (buckets : ℕ) (linked_is : IsLinked (chain_at buckets (contents places)) heads places) (at : ℕ) : Type 0 where
+pub record IsFree (heads : List ℕ) (places : List Place) (buckets : ℕ) (linked_is : PlacesAreLinked (chain_at buckets (contents places)) heads places) (at : ℕ) : Type 0 where
   pub within : at < length places
   pub on : IsSpot places (linked_is.chains buckets) (record { before = None; at = at })
   pub entry : Entry
@@ -134,7 +134,7 @@ opens lines buckets used heads places is line node nodes empty r room none nobod
     record {
       table_is = record {
         pool = record {
-          single = subst IsSingle (sym contents_are) (Entries.single-filled (contents places) at f.entry q is.pool.single f.here f.free used_now none);
+          single = subst PlacesAreSingle (sym contents_are) (Entries.single-filled (contents places) at f.entry q is.pool.single f.here f.free used_now none);
           counted = ap (λ (m : Map Nodes). length m.entries) same ∙ omega (arith, length-with_new (map_of (contents places)) line (nodes_of nodes) before, is.pool.counted);
         };
         linked = moved buckets heads places buckets t (record { before = None; at = at }) p is.linked f.chain bucket f.within f.on r r_is refl (ap (λ (b : Bool). cond b buckets t) used_now);
@@ -163,7 +163,7 @@ leaves lines buckets used heads places is line spot seen empty r at nobody r_is 
     record {
       table_is = record {
         pool = record {
-          single = subst IsSingle (sym contents_are) (Entries.single-freed (contents places) spot.at (entry_of seen) q is.pool.single at.here at.used_place gone);
+          single = subst PlacesAreSingle (sym contents_are) (Entries.single-freed (contents places) spot.at (entry_of seen) q is.pool.single at.here at.used_place gone);
           counted = ap (λ (m : Map Nodes). length m.entries) same ∙ omega (arith, length-without (map_of (contents places)) seen.line (nodes_of seen.nodes) before, is.pool.counted);
         };
         linked = moved buckets heads places (line % buckets) buckets spot p is.linked at.bucket here at.within at.on r r_is refl (ap (λ (b : Bool). cond b buckets (0 % buckets)) gone);

@@ -12,8 +12,8 @@ use Rattle.alw_num.proofs.Weigh.{sum_times, sum_le, sum_ones, digit_same, digit_
 use Rattle.dir_soft.specs.declared.places.Place.{Place}
 use Rattle.dir_soft.specs.declared.places.Spot.{Spot}
 use Rattle.dir_soft.specs.Tables.{Table, set_or_none, table_of, set_of_line, used_lines}
-use Rattle.dir_soft.specs.Chains.{next_at, line_at, head_at, IsPath, IsChain, IsLinked, IsMissing, IsSpot}
-use Rattle.dir_soft.specs.Pools.{Entry, entry_of, contents, is_free, map_of, first_of, IsSingle, IsTable, chain_of, chain_at}
+use Rattle.dir_soft.specs.Chains.{next_at, line_at, head_at, IsPath, IsChain, PlacesAreLinked, LineIsMissing, IsSpot}
+use Rattle.dir_soft.specs.Pools.{Entry, entry_of, contents, is_free, map_of, first_of, PlacesAreSingle, IsTable, chain_of, chain_at}
 use Rattle.alw_num.proofs.MapLengths.{length-with_same}
 use Rattle.dir_soft.proofs.Walks.{head-read}
 use Rattle.dir_soft.proofs.Links.{next-set, kept}
@@ -23,7 +23,7 @@ use Rattle.dir_soft.proofs.Walks
 -- ---- look-ups
 
 -- a chain has no more places than the pool
-short : (tag : ℕ → ℕ) (heads : List ℕ) (places : List Place) (t : ℕ) (before : IsLinked tag heads places) → t < length heads → ((k : ℕ) → length places ≤ k → length heads ≤ tag k) → length (before.chains t) ≤ length places
+short : (tag : ℕ → ℕ) (heads : List ℕ) (places : List Place) (t : ℕ) (before : PlacesAreLinked tag heads places) → t < length heads → ((k : ℕ) → length places ≤ k → length heads ≤ tag k) → length (before.chains t) ≤ length places
 short tag heads places t before here beyond =
     let all = sum_times (length places) (before.chains t) (λ k l. before.each t k here ∙ digit_other (tag k) t (λ e. omega (arith, e, here, beyond k l))) in
     let most = sum_le (length places) (λ k. times k (before.chains t)) (λ k. 1) (λ k l. omega (arith, before.each t k here, digit_le (tag k == t))) in
@@ -84,7 +84,7 @@ finds lines buckets used heads places is line head spot seen h look read =
 
 -- a line that isn't on its chain has no place
 pub misses : (lines buckets used : ℕ) (heads : List ℕ) (places : List Place) (is : IsTable lines buckets used heads places) (line head : ℕ) → head ≡ get_or heads (line % buckets) head
-    → ((chain : List ℕ) → IsPath places head chain → IsMissing places chain line) → first_of (contents places) line ≡ None
+    → ((chain : List ℕ) → IsPath places head chain → LineIsMissing places chain line) → first_of (contents places) line ≡ None
 misses lines buckets used heads places is line head h missing =
     let below = bucket-lt line buckets is.some in
     let bucket : line % buckets < length heads = omega (arith, is.heads_are, below) in
@@ -97,7 +97,7 @@ misses lines buckets used heads places is line head h missing =
 -- ---- changes
 
 -- the chains where the pool's places name the same next ones and belong on the same chains
-pub relinked : (tag other : ℕ → ℕ) (heads : List ℕ) (places after : List Place) → IsLinked tag heads places → length after ≡ length places → ((j : ℕ) → next_at after j ≡ next_at places j) → ((j : ℕ) → other j ≡ tag j) → IsLinked other heads after
+pub relinked : (tag other : ℕ → ℕ) (heads : List ℕ) (places after : List Place) → PlacesAreLinked tag heads places → length after ≡ length places → ((j : ℕ) → next_at after j ≡ next_at places j) → ((j : ℕ) → other j ≡ tag j) → PlacesAreLinked other heads after
 relinked tag other heads places after before long same tags = record {
   chains = before.chains;
   paths = λ t l. kept places after (head_at heads t) (before.chains t) long (λ j k. same j) (before.paths t l);
@@ -132,7 +132,7 @@ joins lines buckets used heads places is line node spot seen nodes at grown read
     record {
       table_is = record {
         pool = record {
-          single = subst IsSingle (sym put_is) (Entries.single-changed (contents places) spot.at (entry_of seen) q is.pool.single at.here at.used_place still refl);
+          single = subst PlacesAreSingle (sym put_is) (Entries.single-changed (contents places) spot.at (entry_of seen) q is.pool.single at.here at.used_place still refl);
           counted = ap (λ (m : Map Nodes). length m.entries) same ∙ (length-with_same (map_of (contents places)) seen.line (nodes_of nodes) (nodes_of seen.nodes) before ∙ is.pool.counted);
         };
         linked = relinked (chain_at buckets (contents places)) (chain_at buckets (contents (slice_set places spot.at p))) heads places (slice_set places spot.at p) is.linked (length-set places spot.at p)

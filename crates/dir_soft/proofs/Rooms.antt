@@ -11,7 +11,7 @@ use Rattle.alw_num.proofs.Sets.{count-none}
 use Rattle.dir_soft.specs.declared.places.Place.{Place}
 use Rattle.dir_soft.specs.declared.places.TheConstants.{END}
 use Rattle.dir_soft.specs.Chains.{next_at, head_at, IsPath}
-use Rattle.dir_soft.specs.Pools.{Entry, entry_of, contents, is_free, map_of, first_of, IsSingle, IsTable, chain_at}
+use Rattle.dir_soft.specs.Pools.{Entry, entry_of, contents, is_free, map_of, first_of, PlacesAreSingle, IsTable, chain_at}
 use Rattle.alw_num.proofs.MapLengths.{length-empty}
 use Rattle.dir_soft.proofs.Entries.{length-contents}
 use Rattle.dir_soft.proofs.Links.{head-set}
@@ -52,7 +52,7 @@ unfolding blanks
 first-blanks zero line = refl
 first-blanks (suc k) line = rw blank_free (first-blanks k line)
 
-single-blanks : (k : ℕ) → IsSingle (blanks k)
+single-blanks : (k : ℕ) → PlacesAreSingle (blanks k)
 unfolding blanks
 single-blanks zero = tt
 single-blanks (suc k) = (λ _. first-blanks k blank.line, single-blanks k)

@@ -7,7 +7,7 @@ use Rattle.alw_num.proofs.Weigh.{is_node, weigh_push, digit_other}
 use Rattle.std.proofs.lemmas.Bool.{ne_eqb}
 use Rattle.dir_soft.specs.declared.places.Place.{Place}
 use Rattle.dir_soft.specs.declared.places.TheConstants.{END}
-use Rattle.dir_soft.specs.Chains.{next_at, line_at, head_at, with_next, IsPath, IsChain, IsBefore, IsMissing, IsSpot}
+use Rattle.dir_soft.specs.Chains.{next_at, line_at, head_at, with_next, IsPath, IsChain, IsPlaceBefore, LineIsMissing, IsSpot}
 
 -- ---- what is read at a place
 
@@ -67,8 +67,8 @@ pub record IsWalk (places : List Place) (line : ℕ) (before : Option ℕ) (at :
   pub rest : List ℕ
   pub whole : chain ≡ seen ++ rest
   pub path : IsPath places at rest
-  pub behind : IsBefore before seen
-  pub missing : IsMissing places seen line
+  pub behind : IsPlaceBefore before seen
+  pub missing : LineIsMissing places seen line
 
 pub starts : (places : List Place) (line first : ℕ) (chain : List ℕ) → IsPath places first chain → IsWalk places line None first chain
 starts places line first chain path = record { seen = []; rest = chain; whole = refl; path = path; behind = refl; missing = λ j l. absurd (omega arith) }
@@ -134,8 +134,8 @@ nothing_left : (places : List Place) (rest : List ℕ) → length places ≤ END
 nothing_left places [] ends path = refl
 nothing_left places (j ∷ js) ends path = absurd (omega (arith, path.0, path.1))
 
-pub ends : (places : List Place) (line first : ℕ) (before : Option ℕ) (at : ℕ) (chain : List ℕ) → IsChain places first → IsWalk places line before at chain → at ≡ END → IsMissing places chain line
+pub ends : (places : List Place) (line first : ℕ) (before : Option ℕ) (at : ℕ) (chain : List ℕ) → IsChain places first → IsWalk places line before at chain → at ≡ END → LineIsMissing places chain line
 ends places line first before at chain is w e =
     let none = nothing_left places w.rest is.ends (subst (λ (k : ℕ). IsPath places k w.rest) e w.path) in
     let whole : chain ≡ w.seen = w.whole ∙ (ap (λ (r : List ℕ). w.seen ++ r) none ∙ append-nil w.seen) in
-    subst (λ (js : List ℕ). IsMissing places js line) (sym whole) w.missing
+    subst (λ (js : List ℕ). LineIsMissing places js line) (sym whole) w.missing

@@ -36,15 +36,15 @@ pub record IsChain (places : List Place) (k : ℕ) : Type 0 where
   pub ends : length places ≤ END
 
 -- The places are on chains, and each is on the one that `tag` gives it, once, and on no other.
-pub record IsLinked (tag : ℕ → ℕ) (heads : List ℕ) (places : List Place) : Type 0 where
+pub record PlacesAreLinked (tag : ℕ → ℕ) (heads : List ℕ) (places : List Place) : Type 0 where
   pub chains : ℕ → List ℕ
   pub paths : (t : ℕ) → t < length heads → IsPath places (head_at heads t) (chains t)
   pub each : (t j : ℕ) → t < length heads → times j (chains t) ≡ digit (tag j == t)
 
 -- the place before: none at the front
-abbrev pub IsBefore : Option ℕ → List ℕ → Type 0
-IsBefore None seen = seen ≡ []
-IsBefore (Some place) seen = (front : List ℕ) × (seen ≡ front ++ place ∷ [])
+abbrev pub IsPlaceBefore : Option ℕ → List ℕ → Type 0
+IsPlaceBefore None seen = seen ≡ []
+IsPlaceBefore (Some place) seen = (front : List ℕ) × (seen ≡ front ++ place ∷ [])
 
 -- the place before, if there is one, is in the pool
 abbrev pub IsBeforeWithin : Option ℕ → ℕ → Type 0
@@ -52,15 +52,15 @@ IsBeforeWithin None count = Unit {0}
 IsBeforeWithin (Some place) count = place < count
 
 -- none of these places is the line's
-abbrev pub IsMissing : List Place → List ℕ → ℕ → Type 0
-IsMissing places js line = (j : ℕ) → 1 ≤ times j js → (line_at places j == line) ≡ false
+abbrev pub LineIsMissing : List Place → List ℕ → ℕ → Type 0
+LineIsMissing places js line = (j : ℕ) → 1 ≤ times j js → (line_at places j == line) ≡ false
 
 -- a spot is on a chain, behind the place that it names
 pub record IsSpot (places : List Place) (chain : List ℕ) (spot : Spot) : Type 0 where
   pub seen : List ℕ
   pub rest : List ℕ
   pub whole : chain ≡ seen ++ spot.at ∷ rest
-  pub before : IsBefore spot.before seen
+  pub before : IsPlaceBefore spot.before seen
   pub within : spot.at < length places
 
 -- the pool where a place names another next one

@@ -4,7 +4,7 @@ use Rattle.alw_num.specs.NodeSets.{Nodes, nodes_of, count_nodes}
 use Rattle.alw_num.specs.Maps.{Map, empty_map, with_value}
 use Rattle.dir_soft.specs.declared.places.Place.{Place}
 use Rattle.dir_soft.specs.declared.places.TheConstants.{END}
-use Rattle.dir_soft.specs.Chains.{IsLinked}
+use Rattle.dir_soft.specs.Chains.{PlacesAreLinked}
 
 -- what stands at a place: a line and its set
 pub record Entry : Type 0 where
@@ -33,9 +33,9 @@ first_of [] line = None
 first_of (entry ∷ rest) line = cond (is_free entry) (first_of rest line) (cond (line == entry.line) (Some entry.nodes) (first_of rest line))
 
 -- no line has two places
-abbrev pub IsSingle : List Entry → Type 0
-IsSingle [] = Unit {0}
-IsSingle (entry ∷ rest) = (is_free entry ≡ false → first_of rest entry.line ≡ None) × IsSingle rest
+abbrev pub PlacesAreSingle : List Entry → Type 0
+PlacesAreSingle [] = Unit {0}
+PlacesAreSingle (entry ∷ rest) = (is_free entry ≡ false → first_of rest entry.line ≡ None) × PlacesAreSingle rest
 
 -- the chain that a place belongs on: its line's, or the last one where it is free
 abbrev pub chain_of : ℕ → Entry → ℕ
@@ -49,14 +49,14 @@ chain_at buckets (entry ∷ rest) (suc k) = chain_at buckets rest k
 
 -- the places in use: no line has two, and there are as many as lines with a set
 pub record IsPool (entries : List Entry) (used : ℕ) : Type 0 where
-  pub single : IsSingle entries
+  pub single : PlacesAreSingle entries
   pub counted : length (map_of entries).entries ≡ used
 
 -- A pool with its chains: each place in use is on the chain of its line, the line modulo the number of buckets, each free place on the last
 -- chain, and each on its chain once.
 pub record IsTable (lines buckets used : ℕ) (heads : List ℕ) (places : List Place) : Type 0 where
   pub pool : IsPool (contents places) used
-  pub linked : IsLinked (chain_at buckets (contents places)) heads places
+  pub linked : PlacesAreLinked (chain_at buckets (contents places)) heads places
   pub heads_are : length heads ≡ buckets + 1
   pub places_are : length places ≡ lines
   pub few : lines ≤ END

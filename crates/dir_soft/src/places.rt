@@ -1,5 +1,5 @@
 ghost use Rattle.std.specs.Prelude.{◌≡◌, ◌<◌, ℕ, List, IfSome, IfNone, length, slice_set};
-ghost use Rattle.dir_soft.specs.Chains.{head_at, line_at, next_at, unlinked, IsPath, IsChain, IsSpot, IsMissing, IsBeforeWithin};
+ghost use Rattle.dir_soft.specs.Chains.{head_at, line_at, next_at, unlinked, IsPath, IsChain, IsSpot, LineIsMissing, IsBeforeWithin};
 
 use alw_num::NodeSet;
 
@@ -28,7 +28,7 @@ pub fn find(places: &[Place], first: u32, line: u32) -> Option<Spot>
     ensures found { IfSome result (λ spot. (chain : List ℕ) → IsPath places.now first chain → IsSpot places.now chain spot) }
     ensures line { IfSome result (λ spot. line_at places.now spot.at ≡ line) }
     ensures within { IfSome result (λ spot. spot.at < length places.now) }
-    ensures none { IfNone result ((chain : List ℕ) → IsPath places.now first chain → IsMissing places.now chain line) }
+    ensures none { IfNone result ((chain : List ℕ) → IsPath places.now first chain → LineIsMissing places.now chain line) }
 {
     let mut before = None;
     let mut at = first;

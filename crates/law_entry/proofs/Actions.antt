@@ -16,7 +16,7 @@ use Rattle.alw_model.specs.declared.steps.Keeping.{Keeping}
 use Rattle.alw_model.specs.declared.steps.Keeping.TheVariants.{Joined, Alone, Emptied, Kept}
 use Rattle.alw_model.specs.LimitLess.{Directory, full_map_of, hardware_of, overflows, traps_in, is_trapped, is_in_progress, hardware_act, handle, kept, keeping, keeping_request, keeping_return}
 use Rattle.alw_model.specs.LineInvariant.{software_by, is_shared}
-use Rattle.law_entry.specs.Entries.{IsSound, ActsAlike}
+use Rattle.law_entry.specs.Entries.{EntryIsSound, ActsAlike}
 
 -- an entry whose pointers are joined with S
 abbrev pub widened : Home → Nodes → Home
@@ -75,7 +75,7 @@ no_progress : (mt : Meta) → is_in_progress mt ≡ false → digit (is_in_progr
 no_progress mt e = ap digit e
 
 -- a message that doesn't trap: hardware acts as the full map
-pub hardware_acts : (most : ℕ) (d : Directory) (i : ℕ) (m : ToMemory) → IsSound most d → is_trapped most d i m ≡ false → is_in_progress d.meta ≡ false → ActsAlike d i m (hardware_act d i m)
+pub hardware_acts : (most : ℕ) (d : Directory) (i : ℕ) (m : ToMemory) → EntryIsSound most d → is_trapped most d i m ≡ false → is_in_progress d.meta ≡ false → ActsAlike d i m (hardware_act d i m)
 hardware_acts most d i m sound calm free =
     let fits : IsTrue (software_by d.meta (is_shared d.state) (count_nodes d.software == 0) (digit (is_in_progress d.meta))) = sound.software in
     let P : ℕ → Type 0 = λ n. IsTrue (software_by d.meta (is_shared d.state) (count_nodes d.software == 0) n) in

@@ -12,7 +12,7 @@ use Rattle.alw_model.specs.FullMap.{Home, Sends, home_start, act}
 use Rattle.alw_model.specs.declared.steps.Keeping.{Keeping}
 use Rattle.alw_model.specs.declared.steps.Keeping.TheVariants.{Joined, Alone, Emptied, Kept}
 use Rattle.alw_model.specs.LimitLess.{Directory, or_always, full_map_of, is_trapped, is_in_progress, hardware_act, trapped, handle, kept, keeping}
-use Rattle.law_entry.specs.Entries.{IsSound, ActsAlike}
+use Rattle.law_entry.specs.Entries.{EntryIsSound, ActsAlike}
 use Rattle.law_entry.specs.Courses.{HomeEvent, Comes, Handles, Course, course_start, acted_with, take_in, come, run_handler, happen, happen_all, reactions, ActsAsFullMap, one_by_one}
 use Rattle.law_entry.proofs.Actions.{hardware_acts, handler_acts}
 use Rattle.law_entry.proofs.Soundness.{start_sound, trapped_sound, hardware_sound, handler_sound}
@@ -31,7 +31,7 @@ reactions-push home (first ∷ rest) i m =
 
 -- what holds at every moment of a course
 pub record IsUnderWay (most : ℕ) (body : Line) (c : Course) : Type 0 where
-  pub sound : IsSound most c.entry
+  pub sound : EntryIsSound most c.entry
   pub acts : ActsAsFullMap body c
 
 begins : (most : ℕ) (body : Line) (always : Bool) → IsUnderWay most body (course_start body always)
@@ -82,7 +82,7 @@ always_under_way most body c (event ∷ rest) some before = always_under_way mos
 pub always_acts : (most : ℕ) (body : Line) (always : Bool) (events : List HomeEvent) → 1 ≤ most → ActsAsFullMap body (happen_all most (course_start body always) events)
 always_acts most body always events some = (always_under_way most body (course_start body always) events some (begins most body always)).acts
 
-pub always_sound : (most : ℕ) (body : Line) (always : Bool) (events : List HomeEvent) → 1 ≤ most → IsSound most (happen_all most (course_start body always) events).entry
+pub always_sound : (most : ℕ) (body : Line) (always : Bool) (events : List HomeEvent) → 1 ≤ most → EntryIsSound most (happen_all most (course_start body always) events).entry
 always_sound most body always events some = (always_under_way most body (course_start body always) events some (begins most body always)).sound
 
 -- ---- every message is acted on, where each trap is handled at once

@@ -16,7 +16,7 @@ use Rattle.alw_model.specs.declared.steps.Keeping.{Keeping}
 use Rattle.alw_model.specs.declared.steps.Keeping.TheVariants.{Joined, Alone, Emptied, Kept}
 use Rattle.alw_model.specs.LimitLess.{Directory, directory_start, or_always, full_map_of, hardware_of, overflows, traps_in, is_trapped, is_in_progress, hardware_act, trapped, handle, kept, keeping, keeping_request, keeping_return}
 use Rattle.alw_model.specs.LineInvariant.{software_by, is_shared}
-use Rattle.law_entry.specs.Entries.{IsSound}
+use Rattle.law_entry.specs.Entries.{EntryIsSound}
 use Rattle.law_entry.proofs.Actions.{pointers_by, row-pointers}
 
 -- the clause on S, at the number of packets that the meta state tells
@@ -30,14 +30,14 @@ shared_or_empty TrapWrite shared empty h = grind arith
 shared_or_empty TrapAlways shared empty h = grind arith
 shared_or_empty Progress shared empty h = grind arith
 
-pub start_sound : (most : ℕ) (body : Line) (always : Bool) → IsSound most (directory_start body always)
+pub start_sound : (most : ℕ) (body : Line) (always : Bool) → EntryIsSound most (directory_start body always)
 start_sound most body always = record { software = go always; few = omega (arith, count-none) }
   where
     go : (always : Bool) → IsTrue (fits (or_always always Normal) true (count_nodes no_nodes == 0))
     go true = grind (arith, nat_tests, count-none)
     go false = grind (arith, nat_tests, count-none)
 
-pub trapped_sound : (most : ℕ) (d : Directory) → IsSound most d → IsSound most (trapped d)
+pub trapped_sound : (most : ℕ) (d : Directory) → EntryIsSound most d → EntryIsSound most (trapped d)
 trapped_sound most d sound =
     let s = shared_or_empty d.meta (is_shared d.state) (count_nodes d.software == 0) sound.software in
     record { software = grind arith; few = sound.few }
@@ -100,7 +100,7 @@ stays_shared h i TrapWrite RW m overflow empty free calm at before = absurd (tru
 stays_shared h i TrapWrite RT m overflow empty free calm at before = absurd (true≢false (sym before))
 stays_shared h i TrapWrite WT m overflow empty free calm at before = absurd (true≢false (sym before))
 
-pub hardware_sound : (most : ℕ) (d : Directory) (i : ℕ) (m : ToMemory) → 1 ≤ most → IsSound most d → is_trapped most d i m ≡ false → is_in_progress d.meta ≡ false → IsSound most (hardware_act d i m).0
+pub hardware_sound : (most : ℕ) (d : Directory) (i : ℕ) (m : ToMemory) → 1 ≤ most → EntryIsSound most d → is_trapped most d i m ≡ false → is_in_progress d.meta ≡ false → EntryIsSound most (hardware_act d i m).0
 hardware_sound most d i m some sound calm free = record {
   software = stays_shared (hardware_of d) i d.meta d.state m (overflows most d.hardware i d.state m)
       (count_nodes d.software == 0) free calm refl sound.software;
@@ -167,7 +167,7 @@ still_either : (was now empty : Bool) → (was ≡ true → now ≡ true) → Is
 still_either true now empty keeps h = grind (arith, keeps refl)
 still_either false now empty keeps h = grind arith
 
-pub handler_sound : (most : ℕ) (d : Directory) (i : ℕ) (m : ToMemory) → 1 ≤ most → IsSound most d → IsSound most (handle d i m).0
+pub handler_sound : (most : ℕ) (d : Directory) (i : ℕ) (m : ToMemory) → 1 ≤ most → EntryIsSound most d → EntryIsSound most (handle d i m).0
 handler_sound most d i m some sound =
     let h = full_map_of d in
     let k = keeping h i h.state m in

@@ -8,7 +8,7 @@ use Rattle.alw_model.specs.LimitLess.{Directory, full_map_of, is_in_progress}
 use Rattle.alw_model.specs.LineInvariant.{software_fits}
 
 -- an entry with `most` hardware pointers is sound: S is as the line invariant has it, where the line has a pending packet exactly in Trans-In-Progress, and H has at most `most` members
-pub record IsSound (most : ℕ) (d : Directory) : Type 0 where
+pub record EntryIsSound (most : ℕ) (d : Directory) : Type 0 where
   pub software : IsTrue (software_fits d (digit (is_in_progress d.meta)))
   pub few : count_nodes d.hardware ≤ most
 

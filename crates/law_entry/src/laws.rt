@@ -2,7 +2,7 @@ ghost use Rattle.std.specs.Prelude.{◌≡◌, ◌≤◌, ℕ, Bool, false, List
 ghost use Rattle.alw_num.specs.declared.addresses.Line.{Line};
 ghost use Rattle.alw_msg.specs.Contents.{ToMemory};
 ghost use Rattle.alw_model.specs.LimitLess.{Directory, is_trapped, is_in_progress, hardware_act, trapped, handle};
-ghost use Rattle.law_entry.specs.Entries.{IsSound, ActsAlike};
+ghost use Rattle.law_entry.specs.Entries.{EntryIsSound, ActsAlike};
 ghost use Rattle.law_entry.specs.Courses.{HomeEvent, course_start, happen_all, ActsAsFullMap, one_by_one};
 
 /// For one line, any number of hardware pointers from 1 on and any messages to memory, whoever sent
@@ -13,7 +13,7 @@ pub fn acts_as_full_map()
     ensures acts { (most : ℕ) → (body : Line) → (always : Bool) → (events : List HomeEvent) → 1 ≤ most →
         ActsAsFullMap body (happen_all most (course_start body always) events) }
     ensures sound { (most : ℕ) → (body : Line) → (always : Bool) → (events : List HomeEvent) → 1 ≤ most →
-        IsSound most (happen_all most (course_start body always) events).entry }
+        EntryIsSound most (happen_all most (course_start body always) events).entry }
     ensures complete { (most : ℕ) → (body : Line) → (always : Bool) → (messages : List (ℕ × ToMemory)) →
         (happen_all most (course_start body always) (one_by_one messages)).acted ≡ messages }
 {}
@@ -22,15 +22,15 @@ pub fn acts_as_full_map()
 /// sound.
 pub fn hardware_acts_as_full_map()
     ensures acts { (most : ℕ) → (d : Directory) → (i : ℕ) → (message : ToMemory) →
-        IsSound most d → is_trapped most d i message ≡ false → is_in_progress d.meta ≡ false → ActsAlike d i message (hardware_act d i message) }
+        EntryIsSound most d → is_trapped most d i message ≡ false → is_in_progress d.meta ≡ false → ActsAlike d i message (hardware_act d i message) }
     ensures sound { (most : ℕ) → (d : Directory) → (i : ℕ) → (message : ToMemory) →
-        1 ≤ most → IsSound most d → is_trapped most d i message ≡ false → is_in_progress d.meta ≡ false → IsSound most (hardware_act d i message).0 }
+        1 ≤ most → EntryIsSound most d → is_trapped most d i message ≡ false → is_in_progress d.meta ≡ false → EntryIsSound most (hardware_act d i message).0 }
 {}
 
 /// What the handler does to a message is what a full map does, whatever the entry; it keeps a sound
 /// entry sound, as a trap does.
 pub fn handler_acts_as_full_map()
     ensures acts { (d : Directory) → (i : ℕ) → (message : ToMemory) → ActsAlike d i message (handle d i message) }
-    ensures sound { (most : ℕ) → (d : Directory) → (i : ℕ) → (message : ToMemory) → 1 ≤ most → IsSound most d → IsSound most (handle d i message).0 }
-    ensures trapped { (most : ℕ) → (d : Directory) → IsSound most d → IsSound most (trapped d) }
+    ensures sound { (most : ℕ) → (d : Directory) → (i : ℕ) → (message : ToMemory) → 1 ≤ most → EntryIsSound most d → EntryIsSound most (handle d i message).0 }
+    ensures trapped { (most : ℕ) → (d : Directory) → EntryIsSound most d → EntryIsSound most (trapped d) }
 {}

@@ -20,7 +20,7 @@ use Rattle.alw_model.specs.Machine.{MachineState, node_at, link_at}
 use Rattle.alw_model.specs.Lines.{LineNode, LineState, ups, downs, sent_by, entry_of, packets_at, line_of}
 use Rattle.law_line.specs.Protocol.{Acts, sent_to, acted, acts, step}
 use Rattle.law_line.proofs.Homes.{DestsBelow}
-use Rattle.law_entry.specs.Entries.{IsSound, ActsAlike}
+use Rattle.law_entry.specs.Entries.{EntryIsSound, ActsAlike}
 use Rattle.law_entry.proofs.Actions.{hardware_acts, handler_acts}
 use Rattle.law_lines.specs.LineEvents.{Follows, about}
 use Rattle.law_lines.specs.Standing.{IsPacket, IsStanding}
@@ -182,7 +182,7 @@ module _ (parts : Parts) (parameters : Parameters) (s : MachineState) (standing 
     hardware_node = (clocked stamp (at_home parts parameters n stamp node msg said false)).node
 
     alike : ActsAlike entry msg.src.0 said hardware
-    alike = hardware_acts parameters.pointers entry msg.src.0 said (subst (λ (d : Directory). IsSound parameters.pointers d) entry_is_of ((standing.each (home_node parts l) (home_below parts l lines)).entries l lines refl)) calm free
+    alike = hardware_acts parameters.pointers entry msg.src.0 said (subst (λ (d : Directory). EntryIsSound parameters.pointers d) entry_is_of ((standing.each (home_node parts l) (home_below parts l lines)).entries l lines refl)) calm free
 
     dests : DestsBelow (node_count parts) hardware.1
     dests = rw alike.sent (act_below (node_count parts) (full_map_of entry) msg.src.0 (rw source f) points said)

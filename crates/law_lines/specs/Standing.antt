@@ -14,7 +14,7 @@ use Rattle.alw_model.specs.Messages.{home_node}
 use Rattle.alw_model.specs.NodeStates.{NodeState, home_at}
 use Rattle.alw_model.specs.Machine.{MachineState, node_at}
 use Rattle.alw_model.specs.Lines.{ups}
-use Rattle.law_entry.specs.Entries.{IsSound}
+use Rattle.law_entry.specs.Entries.{EntryIsSound}
 
 -- each copy in a cache is of a line that exists, and stands in its line's set
 abbrev pub IsCache : Parts → Parameters → Cache → Type 0
@@ -32,7 +32,7 @@ pub record NodeStands (parts : Parts) (parameters : Parameters) (number : ℕ) (
   pub homes : length node.homes ≡ parts.per_node
   pub caches : IsCache parts parameters node.cache
   pub packets : AllByRecursion (IsPacket parts number) node.packets
-  pub entries : (line : ℕ) → line < line_count parts → home_node parts line ≡ number → IsSound parameters.pointers (home_at parts node line)
+  pub entries : (line : ℕ) → line < line_count parts → home_node parts line ≡ number → EntryIsSound parameters.pointers (home_at parts node line)
   pub pending : (line : ℕ) → line < line_count parts → home_node parts line ≡ number → length (ups line node.packets) ≡ digit (is_in_progress (home_at parts node line).meta)
 
 -- a machine has the image's nodes and links, and each node stands

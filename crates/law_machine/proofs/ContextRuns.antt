@@ -39,7 +39,7 @@ use Rattle.law_lines.proofs.CacheSide.{old_part}
 use Rattle.law_lines.proofs.Taken.{split_front}
 use Rattle.law_lines.proofs.Views.{seen_copy, seen_transaction}
 use Rattle.law_lines.proofs.Steps.{Fit, fit_is, enabled_is}
-use Rattle.law_machine.specs.Values.{IsSoundWith}
+use Rattle.law_machine.specs.Values.{MachineIsSoundWith}
 use Rattle.law_machine.proofs.Runs.{node_at_start, step_sound, start_sound_with}
 use Rattle.law_machine.proofs.ContextFacts.{SlotStands, NodeContexts}
 use Rattle.law_machine.proofs.ContextEvents.{Awaited, AwaitedIn, AwaitedHead, event_contexts}
@@ -64,7 +64,7 @@ no_copy (Some copy) e = absurd (go copy.mode e)
     go Read e = omega arith
     go Write e = omega arith
 
-module _ (parts : Parts) (parameters : Parameters) (s : MachineState) (values : ℕ → Line) (sound : IsSoundWith parts parameters values s) where
+module _ (parts : Parts) (parameters : Parameters) (s : MachineState) (values : ℕ → Line) (sound : MachineIsSoundWith parts parameters values s) where
   -- a node's numbers of a line
   pub fits_at : (l n : ℕ) → l < line_count parts → n < node_count parts → Fits (role (line_of parts parameters s l).home n) (census (values l) (line_node parts parameters s l n))
   fits_at l n lines here = subst (λ (v : LineNode). Fits (role (line_of parts parameters s l).home n) (census (values l) v)) (old_part parts parameters s n l here) ((sound.lines l lines).each n)
@@ -155,7 +155,7 @@ module _ (parts : Parts) (parameters : Parameters) where
 -- a machine whose lines are sound, and whose contexts stand
 pub record HasContexts (parts : Parts) (parameters : Parameters) (s : MachineState) : Type 0 where
   pub values : ℕ → Line
-  pub sound : IsSoundWith parts parameters values s
+  pub sound : MachineIsSoundWith parts parameters values s
   pub contexts : (n : ℕ) → n < node_count parts → NodeContexts parts parameters (node_at s n)
 
 module _ (parts : Parts) (parameters : Parameters) (some : 1 ≤ parameters.pointers) where

@@ -31,7 +31,7 @@ use Rattle.law_lines.specs.LineEvents.{about, in_leaving, in_miss, in_access, in
 use Rattle.law_lines.proofs.Views.{seen_copy}
 use Rattle.law_lines.proofs.CacheSide.{old_part}
 use Rattle.law_lines.proofs.Instructions.{granted_is}
-use Rattle.law_machine.specs.Values.{IsSoundWith}
+use Rattle.law_machine.specs.Values.{MachineIsSoundWith}
 use Rattle.law_machine.proofs.FlatViews.{HaveSlots, values_same, value_set}
 use Rattle.law_machine.proofs.FlatSlots.{Chosen, runs_ready, after_same}
 use Rattle.law_machine.proofs.FlatSteps.{Seen, calm, turns, turn_with, turn_without, miss_same}
@@ -74,7 +74,7 @@ stored_about x y k l n = go (k == l)
     go true = refl
     go false = refl
 
-module _ (parts : Parts) (parameters : Parameters) (s : MachineState) (values : ℕ → Line) (sound : IsSoundWith parts parameters values s) (have : HaveSlots parts.contexts s.nodes) (n : ℕ) (fits : n < length s.nodes) (here : n < node_count parts) (stamp : ℕ) where
+module _ (parts : Parts) (parameters : Parameters) (s : MachineState) (values : ℕ → Line) (sound : MachineIsSoundWith parts parameters values s) (have : HaveSlots parts.contexts s.nodes) (n : ℕ) (fits : n < length s.nodes) (here : n < node_count parts) (stamp : ℕ) where
   abbrev node : NodeState
   node = node_at s n
 

@@ -19,7 +19,7 @@ use Rattle.law_line.specs.Protocol.{last_stored}
 use Rattle.law_lines.specs.LineEvents.{line_events}
 use Rattle.law_lines.proofs.Links.{read_set}
 use Rattle.law_lines.proofs.Steps.{enabled_is}
-use Rattle.law_machine.specs.Values.{IsSoundWith, stored_from}
+use Rattle.law_machine.specs.Values.{MachineIsSoundWith, stored_from}
 use Rattle.law_machine.specs.FlatRuns.{flat_of, RunsFlat}
 use Rattle.law_machine.proofs.Runs.{step_sound}
 use Rattle.law_machine.proofs.FlatViews.{HaveSlots}
@@ -70,7 +70,7 @@ module _ (parts : Parts) where
     abbrev turns_from : MachineState → List Entry → List (ℕ × Outcome)
     turns_from s journal = flat_map (λ (moment : Moment). turn_in parts (number_of moment) moment.stepped.did) (moments_from parts parameters s journal)
 
-    pub runs_flat : (s : MachineState) (values : ℕ → Line) (journal : List Entry) → AreLegal parts parameters s journal → IsSoundWith parts parameters values s → HaveSlots parts.contexts s.nodes
+    pub runs_flat : (s : MachineState) (values : ℕ → Line) (journal : List Entry) → AreLegal parts parameters s journal → MachineIsSoundWith parts parameters values s → HaveSlots parts.contexts s.nodes
         → RunsFlat parts (flat_of parts values s.nodes) (turns_from s journal) (flat_of parts (λ l. stored_from parts parameters s journal l (values l)) (after parts parameters s journal).nodes)
     runs_flat s values [] legal sound have = record { ready = refl; state = refl; prints = refl }
     runs_flat s values (entry ∷ rest) (next, legal) sound have =

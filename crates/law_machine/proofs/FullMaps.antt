@@ -27,7 +27,7 @@ use Rattle.law_lines.proofs.CacheSide.{old_part}
 use Rattle.law_lines.proofs.Steps.{line_follows, enabled_is}
 use Rattle.law_lines.proofs.Acted.{event_acts, event_comes}
 use Rattle.law_machine.specs.Replies.{MeetsTransaction}
-use Rattle.law_machine.specs.Values.{IsSoundWith, AfterEveryJournal}
+use Rattle.law_machine.specs.Values.{MachineIsSoundWith, AfterEveryJournal}
 use Rattle.law_machine.proofs.Runs.{step_sound, start_sound_with, line_at_start}
 
 -- ---- what a home acts on
@@ -41,7 +41,7 @@ module _ (parts : Parts) (parameters : Parameters) (some : 1 ≤ parameters.poin
 
   -- as its line does
   entry_acts : (s : MachineState) (values : ℕ → Line) (entry : Entry) → IsTrue (is_enabled parts parameters s entry.event) →
-      IsSoundWith parts parameters values s →
+      MachineIsSoundWith parts parameters values s →
       ActsOn (home_of s) (acted (moment_of parts parameters s entry)) (home_of (step parts parameters s entry.event))
   entry_acts s values entry enabled sound =
       let events = line_events parts parameters s entry.event k in
@@ -55,7 +55,7 @@ module _ (parts : Parts) (parameters : Parameters) (some : 1 ≤ parameters.poin
       }
 
   entries_act : (s : MachineState) (values : ℕ → Line) (journal : List Entry) → AreLegal parts parameters s journal →
-      IsSoundWith parts parameters values s →
+      MachineIsSoundWith parts parameters values s →
       ActsOn (home_of s) (flat_map acted (moments_from parts parameters s journal)) (home_of (after parts parameters s journal))
   entries_act s values [] legal sound = record { listed = tt; home = refl }
   entries_act s values (entry ∷ rest) (next, legal) sound =
@@ -100,7 +100,7 @@ module _ (parts : Parts) (parameters : Parameters) (some : 1 ≤ parameters.poin
   has_one (Some transaction) is = refl
 
   entry_meets : (s : MachineState) (values : ℕ → Line) (entry : Entry) → IsTrue (is_enabled parts parameters s entry.event) →
-      IsSoundWith parts parameters values s → MeetsTransaction (moment_of parts parameters s entry)
+      MachineIsSoundWith parts parameters values s → MeetsTransaction (moment_of parts parameters s entry)
   entry_meets s values entry enabled sound msg taken said is reply =
       let n = node_of entry.event in
       let l = msg.line.0 in
@@ -110,7 +110,7 @@ module _ (parts : Parts) (parameters : Parameters) (some : 1 ≤ parameters.poin
       (reply_meets (node_count parts) (values l) (line_of parts parameters s l) (sound.lines l first.0) n said first.1.0 first.1.1 reply))
 
   entries_meet : (s : MachineState) (values : ℕ → Line) (journal : List Entry) → AreLegal parts parameters s journal →
-      IsSoundWith parts parameters values s → AllByRecursion MeetsTransaction (moments_from parts parameters s journal)
+      MachineIsSoundWith parts parameters values s → AllByRecursion MeetsTransaction (moments_from parts parameters s journal)
   entries_meet s values [] legal sound = tt
   entries_meet s values (entry ∷ rest) (next, legal) sound = (
     entry_meets s values entry next.enabled sound,

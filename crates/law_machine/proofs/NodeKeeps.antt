@@ -18,7 +18,7 @@ use Rattle.alw_model.specs.Messages.{home_node}
 use Rattle.alw_model.specs.NodeStates.{NodeState, home_at, with_home, place_of}
 use Rattle.alw_model.specs.Lines.{ups}
 use Rattle.alw_num.proofs.MapLaws.{value-with, value-without}
-use Rattle.law_entry.specs.Entries.{IsSound}
+use Rattle.law_entry.specs.Entries.{EntryIsSound}
 use Rattle.law_entry.proofs.Soundness.{hardware_sound, handler_sound, trapped_sound}
 use Rattle.law_entry.proofs.Courses.{handled_free}
 use Rattle.law_lines.specs.Standing.{IsCache, IsPacket, NodeStands}
@@ -72,18 +72,18 @@ module _ (parts : Parts) (parameters : Parameters) where
       homes = ap length homes ∙ stands.homes;
       caches = caches;
       packets = subst (AllByRecursion (IsPacket parts n)) (sym packets) stands.packets;
-      entries = λ l lines is. subst (λ (d : Directory). IsSound parameters.pointers d) (sym (same_entry v homes l)) (stands.entries l lines is);
+      entries = λ l lines is. subst (λ (d : Directory). EntryIsSound parameters.pointers d) (sym (same_entry v homes l)) (stands.entries l lines is);
       pending = λ l lines is. ap (λ (q : List Msg). length (ups l q)) packets ∙ (stands.pending l lines is ∙ ap (λ (d : Directory). digit (is_in_progress d.meta)) (sym (same_entry v homes l)));
     }
 
     -- a node with another entry of a home line, and other packets
-    pub entry_changes : (l : ℕ) (d : Directory) (v : NodeState) → l < line_count parts → home_node parts l ≡ n → v.homes ≡ (with_home parts node l d).homes → IsCache parts parameters v.cache → IsSound parameters.pointers d
+    pub entry_changes : (l : ℕ) (d : Directory) (v : NodeState) → l < line_count parts → home_node parts l ≡ n → v.homes ≡ (with_home parts node l d).homes → IsCache parts parameters v.cache → EntryIsSound parameters.pointers d
         → AllByRecursion (IsPacket parts n) v.packets → length (ups l v.packets) ≡ digit (is_in_progress d.meta) → ((k : ℕ) → k ≢ l → ups k v.packets ≡ ups k node.packets) → NodeStands parts parameters n v
     entry_changes l d v lines home homes caches sound packets pending others = record {
       homes = ap length homes ∙ (length-set node.homes _ d ∙ stands.homes);
       caches = caches;
       packets = packets;
-      entries = λ k exists is. subst (λ (e : Directory). IsSound parameters.pointers e) (sym (other_entry l d v lines home homes k is)) (is_node _ k l
+      entries = λ k exists is. subst (λ (e : Directory). EntryIsSound parameters.pointers e) (sym (other_entry l d v lines home homes k is)) (is_node _ k l
           (λ same. rw (eq-eqb k l same) sound)
           (λ other. rw (ne_eqb k l other) (stands.entries k exists is)));
       pending = λ k exists is. is_node _ k l

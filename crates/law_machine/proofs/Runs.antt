@@ -32,7 +32,7 @@ use Rattle.law_line.specs.Protocol.{start, last_stored}
 use Rattle.law_line.specs.Sound.{Sound}
 use Rattle.law_line.proofs.Steps.{run_keeps}
 use Rattle.law_line.proofs.Steps as line
-use Rattle.law_entry.specs.Entries.{IsSound}
+use Rattle.law_entry.specs.Entries.{EntryIsSound}
 use Rattle.law_entry.proofs.Soundness as limitless
 use Rattle.law_lines.specs.LineEvents.{line_events}
 use Rattle.law_lines.specs.Standing.{NodeStands, IsStanding}
@@ -41,7 +41,7 @@ use Rattle.law_lines.proofs.Following.{home_below}
 use Rattle.law_lines.proofs.Places.{place_fits}
 use Rattle.law_lines.proofs.Views.{below_same, seen_copy, seen_transaction}
 use Rattle.law_lines.proofs.Steps.{line_follows, Enabled, enabled_is}
-use Rattle.law_machine.specs.Values.{stored_from, stored_after, IsSoundWith}
+use Rattle.law_machine.specs.Values.{stored_from, stored_after, MachineIsSoundWith}
 use Rattle.law_machine.proofs.NodeSteps.{event_stands}
 
 module _ (parts : Parts) where
@@ -64,7 +64,7 @@ module _ (parts : Parts) where
       homes = length-map (range_with_len (n * parts.per_node) parts.per_node) _ ∙ length-range_with_len (n * parts.per_node) parts.per_node;
       caches = λ set copy e. absurd (let none : None ≡ Some copy = sym (value-empty set) ∙ e in cc);
       packets = tt;
-      entries = λ l lines is. subst (λ a. IsSound parameters.pointers (home_at parts (node_start parts a) l)) is (subst (λ (d : Directory). IsSound parameters.pointers d) (sym (entry_at_start l lines)) (limitless.start_sound parameters.pointers (body_of parts l) (is_always parts l)));
+      entries = λ l lines is. subst (λ a. EntryIsSound parameters.pointers (home_at parts (node_start parts a) l)) is (subst (λ (d : Directory). EntryIsSound parameters.pointers d) (sym (entry_at_start l lines)) (limitless.start_sound parameters.pointers (body_of parts l) (is_always parts l)));
       pending = λ l lines is. sym (ap (λ a. digit (is_in_progress (home_at parts (node_start parts a) l).meta)) (sym is) ∙ (ap (λ (d : Directory). digit (is_in_progress d.meta)) (entry_at_start l lines) ∙ free (is_always parts l)));
     }
       where
@@ -131,7 +131,7 @@ module _ (parts : Parts) where
         taken (Evict at set) = refl
         taken (Deliver from to) = length-set s.links (link_place parts from.0 to.0) _
 
-    pub step_sound : (values : ℕ → Line) → IsSoundWith parts parameters values s → IsSoundWith parts parameters (λ l. last_stored (values l) (line_events parts parameters s event l)) (step parts parameters s event)
+    pub step_sound : (values : ℕ → Line) → MachineIsSoundWith parts parameters values s → MachineIsSoundWith parts parameters (λ l. last_stored (values l) (line_events parts parameters s event l)) (step parts parameters s event)
     step_sound values sound = record {
       standing = step_stands sound.standing;
       lines = λ l lines.
@@ -143,17 +143,17 @@ module _ (parts : Parts) where
   -- ---- a journal
 
   module _ (parameters : Parameters) (some : 1 ≤ parameters.pointers) where
-    after_sound : (s : MachineState) (values : ℕ → Line) (journal : List Entry) → AreLegal parts parameters s journal → IsSoundWith parts parameters values s → IsSoundWith parts parameters (λ l. stored_from parts parameters s journal l (values l)) (after parts parameters s journal)
+    after_sound : (s : MachineState) (values : ℕ → Line) (journal : List Entry) → AreLegal parts parameters s journal → MachineIsSoundWith parts parameters values s → MachineIsSoundWith parts parameters (λ l. stored_from parts parameters s journal l (values l)) (after parts parameters s journal)
     after_sound s values [] legal sound = sound
     after_sound s values (entry ∷ rest) (next, legal) sound = after_sound (step parts parameters s entry.event) (λ l. last_stored (values l) (line_events parts parameters s entry.event l)) rest legal (step_sound parameters some s entry.event next.enabled values sound)
 
-    pub start_sound_with : IsSoundWith parts parameters (body_of parts) (machine_start parts)
+    pub start_sound_with : MachineIsSoundWith parts parameters (body_of parts) (machine_start parts)
     start_sound_with = record {
       standing = stands_at_start parameters;
       lines = λ l lines. subst (λ (t : LineState). Sound (node_count parts) (body_of parts l) t) (sym (line_at_start parameters l lines)) (line.start_sound (node_count parts) (body_of parts l));
     }
 
     -- after a legal journal the machine stands, and each line is sound with the value stored last
-    pub always_sound_with : (journal : List Entry) → IsLegal parts parameters journal → IsSoundWith parts parameters (stored_after parts parameters journal) (state parts parameters journal)
+    pub always_sound_with : (journal : List Entry) → IsLegal parts parameters journal → MachineIsSoundWith parts parameters (stored_after parts parameters journal) (state parts parameters journal)
     unfolding state stored_after
     always_sound_with journal legal = after_sound (machine_start parts) (body_of parts) journal legal start_sound_with

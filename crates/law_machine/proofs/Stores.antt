@@ -19,7 +19,7 @@ use Rattle.alw_model.specs.MachineInvariant.{points_rightly, caches_rightly}
 use Rattle.alw_model.proofs.Journals.{and_is}
 use Rattle.law_lines.specs.Standing.{IsCache}
 use Rattle.law_lines.proofs.Following.{home_below}
-use Rattle.law_machine.specs.Values.{IsSoundWith}
+use Rattle.law_machine.specs.Values.{MachineIsSoundWith}
 
 pub all_of : {X : Type 0} (test : X → Bool) (xs : List X) → AllByRecursion (λ x. IsTrue (test x)) xs → IsTrue (list_all test xs)
 all_of test [] all = refl
@@ -55,7 +55,7 @@ module _ (parts : Parts) (parameters : Parameters) where
       let at = each set copy e in
       and_is (nat_lt copy.line (line_count parts)) (set_of parameters.sets copy.line == set) (lt-ltb copy.line (line_count parts) at.0) (eq-eqb (set_of parameters.sets copy.line) set at.1)))
 
-  module _ (s : MachineState) (values : ℕ → Line) (sound : IsSoundWith parts parameters values s) where
+  module _ (s : MachineState) (values : ℕ → Line) (sound : MachineIsSoundWith parts parameters values s) where
     pub entry_points : (line : ℕ) → line < line_count parts → IsTrue (points_rightly parts parameters (entry_of parts s line))
     entry_points line exists =
         let d = entry_of parts s line in

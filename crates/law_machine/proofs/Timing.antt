@@ -28,7 +28,7 @@ use Rattle.alw_num.specs.declared.states.Mode.{Mode}
 use Rattle.law_lines.specs.Links.{msgs_to}
 use Rattle.law_lines.proofs.Links.{read_set, link_sent}
 use Rattle.law_lines.proofs.Steps.{Enabled, enabled_is}
-use Rattle.law_machine.specs.Values.{IsSoundWith}
+use Rattle.law_machine.specs.Values.{MachineIsSoundWith}
 use Rattle.law_machine.proofs.Runs.{node_at_start, link_at_start}
 use Rattle.law_machine.proofs.Sends.{MsgStands, AllSent, all_go, all_to, event_sent}
 use Rattle.law_machine.proofs.Ended.{halted_stays}
@@ -124,7 +124,7 @@ pub record HasTimes (parts : Parts) (parameters : Parameters) (s : MachineState)
   pub packets : (n : ℕ) → n < node_count parts → Stamped (node_at s n).clock (node_at s n).packets
   pub clocks : has_halted s ≡ false → (n : ℕ) → n < node_count parts → (node_at s n).clock ≤ parameters.limit
 
-module _ (parts : Parts) (parameters : Parameters) (s : MachineState) (values : ℕ → Line) (sound : IsSoundWith parts parameters values s) (times : HasTimes parts parameters s) (event : Event) (enabled : IsTrue (is_enabled parts parameters s event)) where
+module _ (parts : Parts) (parameters : Parameters) (s : MachineState) (values : ℕ → Line) (sound : MachineIsSoundWith parts parameters values s) (times : HasTimes parts parameters s) (event : Event) (enabled : IsTrue (is_enabled parts parameters s event)) where
   abbrev n : ℕ
   n = node_of event
 

@@ -22,7 +22,7 @@ unfoldable pub stored_after : Parts → Parameters → List Entry → ℕ → Li
 stored_after parts parameters journal line = stored_from parts parameters (machine_start parts) journal line (body_of parts line)
 
 -- a machine stands, and each of its lines is sound with a value
-pub record IsSoundWith (parts : Parts) (parameters : Parameters) (values : ℕ → Line) (machine : MachineState) : Type 0 where
+pub record MachineIsSoundWith (parts : Parts) (parameters : Parameters) (values : ℕ → Line) (machine : MachineState) : Type 0 where
   pub standing : IsStanding parts parameters machine
   pub lines : (line : ℕ) → line < line_count parts → Sound (node_count parts) (values line) (line_of parts parameters machine line)
 

@@ -8,7 +8,7 @@ ghost use Rattle.alw_model.specs.Machine.{IsLegal, node_at, state};
 ghost use Rattle.alw_model.specs.Lines.{ups, packets_at, entry_of, line_of, current_value};
 ghost use Rattle.alw_model.specs.LineInvariant.{LineInvariant};
 ghost use Rattle.alw_model.specs.MachineInvariant.{points_rightly, caches_rightly};
-ghost use Rattle.law_machine.specs.Values.{AfterEveryJournal, stored_after, IsSoundWith};
+ghost use Rattle.law_machine.specs.Values.{AfterEveryJournal, stored_after, MachineIsSoundWith};
 
 /// After every legal journal each line meets the line invariant, whatever the image, with at least
 /// one hardware pointer; and its current value is the one that was stored last.
@@ -17,7 +17,7 @@ pub fn lines_are_sound()
         LineInvariant (node_count parts) (line_of parts parameters machine line) (entry_of parts machine line) (length (ups line (packets_at parts machine line)))) }
     ensures value { AfterEveryJournal (λ parts parameters journal machine. (line : ℕ) → line < line_count parts →
         current_value parts parameters machine line ≡ stored_after parts parameters journal line) }
-    ensures kept { AfterEveryJournal (λ parts parameters journal machine. IsSoundWith parts parameters (stored_after parts parameters journal) machine) }
+    ensures kept { AfterEveryJournal (λ parts parameters journal machine. MachineIsSoundWith parts parameters (stored_after parts parameters journal) machine) }
 {}
 
 /// After every legal journal pointers are nodes that exist, and those of hardware at most so many;

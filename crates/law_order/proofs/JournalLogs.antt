@@ -17,7 +17,7 @@ use Rattle.alw_model.specs.Machine.{MachineState, machine_start, node_at, link_a
 use Rattle.alw_model.specs.Runs.{Moment, number_of, moment_of, moments_from, moments}
 use Rattle.alw_model.specs.Rows.{log_in, logs_of}
 use Rattle.alw_model.specs.Threads.{Logged, IsNextLogged, IsRunFrom, takes_rightly, took_from, sent_to, log_at}
-use Rattle.law_order.specs.Merges.{AreLocalRuns, IsWithin}
+use Rattle.law_order.specs.Merges.{AreLocalRuns, JournalIsWithin}
 use Rattle.law_order.proofs.Local.{node_kept, has_front}
 use Rattle.law_order.proofs.Aimed.{IsAimed, start_aimed, step_aimed, node_at_start}
 use Rattle.law_order.proofs.Clocks.{node_stepped}
@@ -61,7 +61,7 @@ module _ (parts : Parts) (parameters : Parameters) where
     abbrev m : ℕ
     m = node_of entry.event
 
-    next_logged : IsWithin parameters (entry ∷ rest) → IsNextLogged parts parameters m (node_at s m) logged
+    next_logged : JournalIsWithin parameters (entry ∷ rest) → IsNextLogged parts parameters m (node_at s m) logged
     next_logged within = record {
       taken = takes_right s entry.event next.enabled;
       enabled = next.enabled;
@@ -71,7 +71,7 @@ module _ (parts : Parts) (parameters : Parameters) where
       sent = refl;
     }
 
-    runs_before : IsWithin parameters (entry ∷ rest) → ((n : ℕ) → IsRunFrom parts parameters n (node_at (step parts parameters s entry.event) n) (mine n (logged_run (step parts parameters s entry.event) rest)))
+    runs_before : JournalIsWithin parameters (entry ∷ rest) → ((n : ℕ) → IsRunFrom parts parameters n (node_at (step parts parameters s entry.event) n) (mine n (logged_run (step parts parameters s entry.event) rest)))
         → (n : ℕ) → IsRunFrom parts parameters n (node_at s n) (mine n (logged_run s (entry ∷ rest)))
     runs_before within deeper n = is_node _ n m
         (λ same. subst (λ (a : ℕ). IsRunFrom parts parameters a (node_at s a) (mine a (logged_run s (entry ∷ rest)))) (sym same) own)
@@ -85,10 +85,10 @@ module _ (parts : Parts) (parameters : Parameters) where
         own = subst (IsRunFrom parts parameters m (node_at s m)) (ap (λ b. cond b (logged ∷ mine m (logged_run (step parts parameters s entry.event) rest)) (mine m (logged_run (step parts parameters s entry.event) rest))) (sym (eq-eqb m m refl)))
             (next_logged within, subst (λ (node : NodeState). IsRunFrom parts parameters m node (mine m (logged_run (step parts parameters s entry.event) rest))) (node_stepped parts parameters s entry.event aimed next.enabled) (deeper m))
 
-  within_rest : (entry : Entry) (rest : List Entry) → IsWithin parameters (entry ∷ rest) → IsWithin parameters rest
+  within_rest : (entry : Entry) (rest : List Entry) → JournalIsWithin parameters (entry ∷ rest) → JournalIsWithin parameters rest
   within_rest entry rest within = record { stamps = within.stamps.1; evicts = λ none. (within.evicts none).1 }
 
-  journal_runs : (s : MachineState) (journal : List Entry) → IsAimed parts s → AreLegal parts parameters s journal → IsWithin parameters journal → (n : ℕ) → IsRunFrom parts parameters n (node_at s n) (mine n (logged_run s journal))
+  journal_runs : (s : MachineState) (journal : List Entry) → IsAimed parts s → AreLegal parts parameters s journal → JournalIsWithin parameters journal → (n : ℕ) → IsRunFrom parts parameters n (node_at s n) (mine n (logged_run s journal))
   journal_runs s [] aimed legal within n = tt
   journal_runs s (entry ∷ rest) aimed (next, legal) within n =
       runs_before s entry rest aimed next within (journal_runs (step parts parameters s entry.event) rest (step_aimed parts parameters s entry.event next.enabled aimed) legal (within_rest entry rest within)) n
@@ -116,7 +116,7 @@ module _ (parts : Parts) (parameters : Parameters) where
     log_of_journal n l = get_or-map-range_with_len (λ number. log_in number (moments parts parameters journal)) 0 (node_count parts) n n [] l (omega arith) ∙ log_is_mine n (moments parts parameters journal)
 
     -- the logs of a legal journal within the limit
-    pub journal_logs : IsWithin parameters journal → AreLocalRuns parts parameters (logs_of parts parameters journal)
+    pub journal_logs : JournalIsWithin parameters journal → AreLocalRuns parts parameters (logs_of parts parameters journal)
     journal_logs within = record {
       count = count;
       runs = λ n l. subst (IsRunFrom parts parameters n (node_start parts n)) (sym (log_of_journal n l))

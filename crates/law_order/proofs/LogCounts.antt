@@ -16,7 +16,7 @@ use Rattle.alw_model.specs.Runs.{moments}
 use Rattle.alw_model.specs.Rows.{log_in, logs_of}
 use Rattle.alw_model.specs.Threads.{Logged, Logs, in_order, merged}
 use Rattle.law_lines.proofs.Steps.{enabled_is}
-use Rattle.law_order.specs.Merges.{IsWithin, entries_of}
+use Rattle.law_order.specs.Merges.{JournalIsWithin, entries_of}
 use Rattle.law_order.proofs.Orders.{sorted_same}
 use Rattle.law_order.proofs.Reached.{in_order_ascends}
 use Rattle.law_order.proofs.Unique.{count_alike, one_list}
@@ -76,7 +76,7 @@ module _ (parts : Parts) (parameters : Parameters) where
         ∙ (sym (weigh_entries value (whole_run parts parameters journal legal)) ∙ ap (weigh value) (run_entries parts parameters (machine_start parts) journal))))))
 
     -- the logs of a legal journal within the limit merge to it sorted
-    pub logs_merge : IsWithin parameters journal → merged (logs_of parts parameters journal) ≡ in_order journal
+    pub logs_merge : JournalIsWithin parameters journal → merged (logs_of parts parameters journal) ≡ in_order journal
     logs_merge within =
         let logs = logs_of parts parameters journal in
         let are = journal_logs parts parameters journal legal within in

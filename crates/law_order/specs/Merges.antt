@@ -15,7 +15,7 @@ pub record AreLocalRuns (parts : Parts) (parameters : Parameters) (logs : Logs) 
   pub agree : LinksAgree logs
 
 -- a journal's stamps are within the limit, so that the limit's exception isn't used, and where no evictions are wanted it has none
-pub record IsWithin (parameters : Parameters) (journal : List Entry) : Type 0 where
+pub record JournalIsWithin (parameters : Parameters) (journal : List Entry) : Type 0 where
   pub stamps : AllByRecursion (λ entry. entry.stamp ≤ parameters.limit) journal
   pub evicts : parameters.evict ≡ 0 → AllByRecursion (λ entry. is_evict entry.event ≡ false) journal
 

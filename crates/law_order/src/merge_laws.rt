@@ -8,7 +8,7 @@ ghost use Rattle.alw_model.specs.Machine.{node_at, link_at, state, IsLegal};
 ghost use Rattle.alw_model.specs.Threads.{Logs, log_at, node_after, took_from, sent_to, in_order, merged};
 ghost use Rattle.alw_model.specs.Rows.{logs_of};
 ghost use Rattle.law_order.specs.Orders.{EveryJournal, Ascends};
-ghost use Rattle.law_order.specs.Merges.{AreLocalRuns, IsWithin, EveryLogs, entries_of};
+ghost use Rattle.law_order.specs.Merges.{AreLocalRuns, JournalIsWithin, EveryLogs, entries_of};
 
 /// The logs of all nodes, each a run of its node alone, merge to a legal journal where their links
 /// agree: its entries are those of the logs, each as often, by stamp and then by node number. Each
@@ -28,6 +28,6 @@ pub fn agreeing_logs_merge()
 /// The other way round: the logs of a legal journal, whose stamps are within the limit, are local runs
 /// whose links agree, and they merge to the journal sorted by stamp and node number.
 pub fn logs_of_a_journal_merge()
-    ensures runs { EveryJournal (λ parts parameters journal. IsWithin parameters journal → AreLocalRuns parts parameters (logs_of parts parameters journal)) }
-    ensures sorted { EveryJournal (λ parts parameters journal. IsWithin parameters journal → merged (logs_of parts parameters journal) ≡ in_order journal) }
+    ensures runs { EveryJournal (λ parts parameters journal. JournalIsWithin parameters journal → AreLocalRuns parts parameters (logs_of parts parameters journal)) }
+    ensures sorted { EveryJournal (λ parts parameters journal. JournalIsWithin parameters journal → merged (logs_of parts parameters journal) ≡ in_order journal) }
 {}

@@ -12,12 +12,12 @@ use Rattle.mesh_route.specs.declared.queues.Packet.{Packet}
 use Rattle.mesh_route.specs.Routes.{route, has_step, stops}
 use Rattle.mesh_route.specs.Meshes.{Mesh, count_of, queue_place, pair_place, queue_of, arrivals_of, with_queue, moved}
 use Rattle.mesh_route.specs.Deliveries.{messages_of, waiting}
-use Rattle.mesh_route.specs.Keeping.{IsStop, IsPlaced, queue_load, load_left, IsCarried}
+use Rattle.mesh_route.specs.Keeping.{IsStop, MessageIsPlaced, queue_load, load_left, MessagesAreCarried}
 use Rattle.mesh_route.proofs.Stops.{stops_from, stops-from, messages-append, waiting-others, arrives}
 use Rattle.mesh_route.proofs.Loads.{steps_end}
 use Rattle.mesh_route.proofs.QueuePlaces.{place_is, place_below, place_node, IsOfPair, IsOfAnother, its_message, pair_of}
 
-module _ (sent : List Packet) (mesh : Mesh) (node : ℕ) (port : Port) (packet : Packet) (rest : List Packet) (is : IsCarried sent mesh)
+module _ (sent : List Packet) (mesh : Mesh) (node : ℕ) (port : Port) (packet : Packet) (rest : List Packet) (is : MessagesAreCarried sent mesh)
     (below : node < count_of mesh)
     (was : queue_of mesh node port ≡ packet ∷ rest) (last : node ≡ packet.to.0) where
   unfoldable pub later : Mesh
@@ -26,7 +26,7 @@ module _ (sent : List Packet) (mesh : Mesh) (node : ℕ) (port : Port) (packet :
   place : ℕ
   place = queue_place node port
 
-  stood : AllByRecursion (IsPlaced mesh.width (count_of mesh) node port) (packet ∷ rest)
+  stood : AllByRecursion (MessageIsPlaced mesh.width (count_of mesh) node port) (packet ∷ rest)
   stood = rw was at (is.placed node port below)
 
   left : queue_of later node port ≡ rest
@@ -37,10 +37,10 @@ module _ (sent : List Packet) (mesh : Mesh) (node : ℕ) (port : Port) (packet :
   unfolding later place
   other at in_port apart = get_or-set_other mesh.queues place (queue_place at in_port) rest [] apart
 
-  placed_later : (at : ℕ) (in_port : Port) → at < count_of mesh → AllByRecursion (IsPlaced mesh.width (count_of mesh) at in_port) (queue_of later at in_port)
+  placed_later : (at : ℕ) (in_port : Port) → at < count_of mesh → AllByRecursion (MessageIsPlaced mesh.width (count_of mesh) at in_port) (queue_of later at in_port)
   unfolding place
   placed_later at in_port l = is_node _ (queue_place at in_port) place
-      (λ same. let here = place_is at node in_port port same in subst (λ (k : ℕ × Port). AllByRecursion (IsPlaced mesh.width (count_of mesh) k.0 k.1)
+      (λ same. let here = place_is at node in_port port same in subst (λ (k : ℕ × Port). AllByRecursion (MessageIsPlaced mesh.width (count_of mesh) k.0 k.1)
       (queue_of later k.0 k.1)) (λ i. (sym here.0 i, sym here.1 i)) (rw left stood.1))
       (λ apart. rw (other at in_port apart) (is.placed at in_port l))
 
@@ -106,7 +106,7 @@ module _ (sent : List Packet) (mesh : Mesh) (node : ℕ) (port : Port) (packet :
       ≡ queue_load mesh.width a b (place / 5) rest = ap (queue_load mesh.width a b (place / 5)) left in
       omega arith
 
-  pub arrives_at_last : IsCarried sent later
+  pub arrives_at_last : MessagesAreCarried sent later
   unfolding later
   arrives_at_last = record {
     wide = is.wide;

@@ -11,12 +11,12 @@ use Rattle.mesh_route.specs.declared.queues.Packet.{Packet}
 use Rattle.mesh_route.specs.Routes.{route, has_step, stops}
 use Rattle.mesh_route.specs.Meshes.{Mesh, count_of, queue_place, queue_of, arrivals_of, after_injection}
 use Rattle.mesh_route.specs.Deliveries.{messages_of, waiting}
-use Rattle.mesh_route.specs.Keeping.{IsPlaced, queue_load, load_left, IsCarried}
+use Rattle.mesh_route.specs.Keeping.{MessageIsPlaced, queue_load, load_left, MessagesAreCarried}
 use Rattle.mesh_route.proofs.Steps.{distance}
 use Rattle.mesh_route.proofs.Stops.{stops-from, stop_first, messages-append, waiting-others, puts}
 use Rattle.mesh_route.proofs.QueuePlaces.{place_is, place_below, place_node, IsOfPair, IsOfAnother, its_message, pair_of, each_push}
 
-module _ (sent : List Packet) (mesh : Mesh) (packet : Packet) (is : IsCarried sent mesh) (from_within : packet.from.0 < count_of mesh)
+module _ (sent : List Packet) (mesh : Mesh) (packet : Packet) (is : MessagesAreCarried sent mesh) (from_within : packet.from.0 < count_of mesh)
     (to_within : packet.to.0 < count_of mesh) where
   unfoldable pub later : Mesh
   later = after_injection mesh packet
@@ -32,15 +32,15 @@ module _ (sent : List Packet) (mesh : Mesh) (packet : Packet) (is : IsCarried se
   unfolding later place
   other node port apart = get_or-set_other mesh.queues place (queue_place node port) _ [] apart
 
-  placed_later : (node : ℕ) (port : Port) → node < count_of mesh → AllByRecursion (IsPlaced mesh.width (count_of mesh) node port) (queue_of later node port)
+  placed_later : (node : ℕ) (port : Port) → node < count_of mesh → AllByRecursion (MessageIsPlaced mesh.width (count_of mesh) node port) (queue_of later node port)
   unfolding place
   placed_later node port l = is_node _ (queue_place node port) place
       (λ same. let at = place_is node packet.from.0 port Local same in subst
-      (λ (k : ℕ × Port). AllByRecursion (IsPlaced mesh.width (count_of mesh) k.0 k.1) (queue_of later k.0 k.1)) (λ i. (sym at.0 i, sym at.1 i)) first)
+      (λ (k : ℕ × Port). AllByRecursion (MessageIsPlaced mesh.width (count_of mesh) k.0 k.1) (queue_of later k.0 k.1)) (λ i. (sym at.0 i, sym at.1 i)) first)
       (λ apart. rw (other node port apart) (is.placed node port l))
     where
-      first : AllByRecursion (IsPlaced mesh.width (count_of mesh) packet.from.0 Local) (queue_of later packet.from.0 Local)
-      first = rw put (each_push (IsPlaced mesh.width (count_of mesh) packet.from.0 Local) (queue_of mesh packet.from.0 Local) packet
+      first : AllByRecursion (MessageIsPlaced mesh.width (count_of mesh) packet.from.0 Local) (queue_of later packet.from.0 Local)
+      first = rw put (each_push (MessageIsPlaced mesh.width (count_of mesh) packet.from.0 Local) (queue_of mesh packet.from.0 Local) packet
           (is.placed packet.from.0 Local from_within)
           (record {
             from_within = from_within;
@@ -98,7 +98,7 @@ module _ (sent : List Packet) (mesh : Mesh) (packet : Packet) (is : IsCarried se
       (place_node packet.from.0 Local)) in
       omega arith
 
-  pub injects : IsCarried (sent ++ packet ∷ []) later
+  pub injects : MessagesAreCarried (sent ++ packet ∷ []) later
   unfolding later
   injects = record {
     wide = is.wide;

@@ -15,7 +15,7 @@ use Rattle.mesh_route.specs.Routes.{route, has_step, stops, next_on}
 use Rattle.mesh_route.specs.Meshes.{Mesh, count_of, queue_place, pair_place, queue_of, arrivals_of, crossings_of}
 use Rattle.mesh_route.specs.Meshes.{mesh_start, after_injection, after_arrival, after_crossing}
 use Rattle.mesh_route.specs.Deliveries.{messages_of, waiting, load_of}
-use Rattle.mesh_route.specs.Keeping.{IsPlaced, IsHead, without_head, queue_load, IsHops}
+use Rattle.mesh_route.specs.Keeping.{MessageIsPlaced, IsHead, without_head, queue_load, IsHops}
 use Rattle.mesh_route.proofs.Steps.{IsStep, distance, steps, next_is, next_none}
 use Rattle.mesh_route.proofs.Loads.{load_on}
 use Rattle.mesh_route.proofs.QueuePlaces.{place_is, place_below, place_node}
@@ -71,7 +71,7 @@ module _ (mesh : Mesh) (is : IsHops mesh) (view : Mesh) (same : mesh ≡ view) (
   unfolding rest
   was = head.was
 
-  stood : IsPlaced mesh.width (count_of mesh) node port packet
+  stood : MessageIsPlaced mesh.width (count_of mesh) node port packet
   stood = (rw was at (is.carried.placed node port head.below)).0
 
   pub queue_fits : (place : ℕ) → place ≡ queue_place node port → place < length mesh.queues

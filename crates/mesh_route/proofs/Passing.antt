@@ -13,13 +13,13 @@ use Rattle.mesh_route.specs.declared.queues.Packet.{Packet}
 use Rattle.mesh_route.specs.Routes.{route, has_step, stops, port_from}
 use Rattle.mesh_route.specs.Meshes.{Mesh, count_of, queue_place, pair_place, queue_of, arrivals_of, crossings_of, with_queue, moved}
 use Rattle.mesh_route.specs.Deliveries.{messages_of, waiting}
-use Rattle.mesh_route.specs.Keeping.{IsPlaced, queue_load, load_left, IsCarried}
+use Rattle.mesh_route.specs.Keeping.{MessageIsPlaced, queue_load, load_left, MessagesAreCarried}
 use Rattle.mesh_route.proofs.Steps.{IsStep, distance}
 use Rattle.mesh_route.proofs.Stops.{stops-from, messages-append, waiting-others, stop_next, passes}
 use Rattle.mesh_route.proofs.Loads.{load_on}
 use Rattle.mesh_route.proofs.QueuePlaces.{place_is, place_below, place_node, IsOfPair, IsOfAnother, its_message, pair_of, each_push}
 
-module _ (sent : List Packet) (mesh : Mesh) (node next : ℕ) (port : Port) (packet : Packet) (rest : List Packet) (is : IsCarried sent mesh)
+module _ (sent : List Packet) (mesh : Mesh) (node next : ℕ) (port : Port) (packet : Packet) (rest : List Packet) (is : MessagesAreCarried sent mesh)
     (below : node < count_of mesh)
     (was : queue_of mesh node port ≡ packet ∷ rest) (step : IsStep mesh.width node packet.to.0 next) where
   unfoldable pub later : Mesh
@@ -38,7 +38,7 @@ module _ (sent : List Packet) (mesh : Mesh) (node next : ℕ) (port : Port) (pac
   unfolding place
   fits = rw is.queues_are (place_below node (count_of mesh) port below)
 
-  stood : AllByRecursion (IsPlaced mesh.width (count_of mesh) node port) (packet ∷ rest)
+  stood : AllByRecursion (MessageIsPlaced mesh.width (count_of mesh) node port) (packet ∷ rest)
   stood = rw was at (is.placed node port below)
 
   next_below : next < count_of mesh
@@ -67,7 +67,7 @@ module _ (sent : List Packet) (mesh : Mesh) (node next : ℕ) (port : Port) (pac
   other k apart also = get_or-set_other (set mesh.queues place rest) next_place k _ [] also ∙ get_or-set_other mesh.queues place k rest [] apart
 
   -- the message stands on its route at the next node too
-  stood_next : IsPlaced mesh.width (count_of mesh) next in_port packet
+  stood_next : MessageIsPlaced mesh.width (count_of mesh) next in_port packet
   unfolding in_port
   stood_next = record {
     from_within = stood.0.from_within;
@@ -77,15 +77,15 @@ module _ (sent : List Packet) (mesh : Mesh) (node next : ℕ) (port : Port) (pac
   }
 
   ArePlaced : ℕ × Port → Type 0
-  ArePlaced stop = AllByRecursion (IsPlaced mesh.width (count_of mesh) stop.0 stop.1) (queue_of later stop.0 stop.1)
+  ArePlaced stop = AllByRecursion (MessageIsPlaced mesh.width (count_of mesh) stop.0 stop.1) (queue_of later stop.0 stop.1)
 
-  placed_later : (at : ℕ) (by : Port) → at < count_of mesh → AllByRecursion (IsPlaced mesh.width (count_of mesh) at by) (queue_of later at by)
+  placed_later : (at : ℕ) (by : Port) → at < count_of mesh → AllByRecursion (MessageIsPlaced mesh.width (count_of mesh) at by) (queue_of later at by)
   unfolding place next_place ArePlaced
   placed_later at by l = is_node _ (queue_place at by) place
       (λ same. let here = place_is at node by port same in subst ArePlaced (λ i. (sym here.0 i, sym here.1 i)) (rw left stood.1))
       (λ apart. is_node _ (queue_place at by) next_place
       (λ same. let here = place_is at next by in_port same in subst ArePlaced (λ i. (sym here.0 i, sym here.1 i))
-      (rw put (each_push (IsPlaced mesh.width (count_of mesh) next in_port) (queue_of mesh next in_port) packet
+      (rw put (each_push (MessageIsPlaced mesh.width (count_of mesh) next in_port) (queue_of mesh next in_port) packet
       (is.placed next in_port next_below) stood_next)))
       (λ also. rw (other (queue_place at by) apart also) (is.placed at by l)))
 
@@ -166,7 +166,7 @@ module _ (sent : List Packet) (mesh : Mesh) (node next : ℕ) (port : Port) (pac
       ∙ ap (λ n. load (next_place / 5) (queue_of mesh next in_port) + digit (has_step a b (route mesh.width n packet.to.0))) (place_node next in_port)) in
       omega (arith, load_on mesh.width packet.to.0 is.wide node next a b step)
 
-  pub passes_on : IsCarried sent later
+  pub passes_on : MessagesAreCarried sent later
   unfolding later
   passes_on = record {
     wide = is.wide;

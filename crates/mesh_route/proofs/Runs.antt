@@ -10,9 +10,9 @@ use Rattle.mesh_route.specs.declared.ports.Port.{Port}
 use Rattle.mesh_route.specs.declared.queues.Packet.{Packet}
 use Rattle.mesh_route.specs.Routes.{next_on, stops}
 use Rattle.mesh_route.specs.Meshes.{Mesh, Act, Injects, HopsFrom, count_of, queue_place, queue_of, arrivals_of, with_queue, mesh_start, moved}
-use Rattle.mesh_route.specs.Meshes.{hop_of, hop_from, mesh_or, after_act, after_acts, hop_run, injections, IsWithin}
-use Rattle.mesh_route.specs.Deliveries.{messages_of, waiting, is_idle, IsAfter, IsInOrder, IsDelivered}
-use Rattle.mesh_route.specs.Keeping.{queue_load, load_left, IsCarried}
+use Rattle.mesh_route.specs.Meshes.{hop_of, hop_from, mesh_or, after_act, after_acts, hop_run, injections, ActIsWithin}
+use Rattle.mesh_route.specs.Deliveries.{messages_of, waiting, is_idle, MeshIsAfter, ArrivalsAreInOrder, AllAreDelivered}
+use Rattle.mesh_route.specs.Keeping.{queue_load, load_left, MessagesAreCarried}
 use Rattle.mesh_route.proofs.Steps.{steps, next_is, next_none}
 use Rattle.mesh_route.proofs.Carrying.{later as injected_later, injects}
 use Rattle.mesh_route.proofs.Arriving.{later as arrived_later, arrives_at_last}
@@ -35,7 +35,7 @@ load-none : (mesh : Mesh) → ((k : ℕ) → get_or mesh.queues k [] ≡ []) →
 load-none mesh none a b = sum_none (count_of mesh * 5) (λ k. queue_load mesh.width a b (k / 5) (get_or mesh.queues k []))
     (λ k l. ap (queue_load mesh.width a b (k / 5)) (none k))
 
-pub start_carries : (width height : ℕ) → 0 < width → IsCarried [] (mesh_start width height)
+pub start_carries : (width height : ℕ) → 0 < width → MessagesAreCarried [] (mesh_start width height)
 start_carries width height wide = record {
   wide = wide;
   counted = refl;
@@ -58,26 +58,26 @@ start_carries width height wide = record {
 
 -- ---- a hop
 
-pub hop_carries : (sent : List Packet) (mesh : Mesh) (node : ℕ) (port : Port) → IsCarried sent mesh → node < count_of mesh
-    → IsCarried sent (mesh_or mesh (hop_from mesh node port))
+pub hop_carries : (sent : List Packet) (mesh : Mesh) (node : ℕ) (port : Port) → MessagesAreCarried sent mesh → node < count_of mesh
+    → MessagesAreCarried sent (mesh_or mesh (hop_from mesh node port))
 unfolding arrived_later passed_later
 hop_carries sent mesh node port is below = go (queue_of mesh node port) refl
   where
     moves : (packet : Packet) (rest : List Packet) → queue_of mesh node port ≡ packet ∷ rest → (node ≡ packet.to.0) ⊎ (node ≢ packet.to.0)
-        → IsCarried sent (moved (with_queue mesh node port rest) node packet (next_on mesh.width node packet.to.0)).1
+        → MessagesAreCarried sent (moved (with_queue mesh node port rest) node packet (next_on mesh.width node packet.to.0)).1
     moves packet rest was (inl last) =
-        let done : IsCarried sent (moved (with_queue mesh node port rest) node packet None).1 = arrives_at_last sent mesh node port packet rest is below was
+        let done : MessagesAreCarried sent (moved (with_queue mesh node port rest) node packet None).1 = arrives_at_last sent mesh node port packet rest is below was
         last in
-        subst (λ next. IsCarried sent (moved (with_queue mesh node port rest) node packet next).1)
+        subst (λ next. MessagesAreCarried sent (moved (with_queue mesh node port rest) node packet next).1)
         (sym (next_none mesh.width node packet.to.0 is.wide last)) done
     moves packet rest was (inr apart) =
         let step = steps mesh.width node packet.to.0 is.wide apart in
-        let done : IsCarried sent (moved (with_queue mesh node port rest) node packet (Some step.0)).1 = passes_on sent mesh node step.0 port packet rest is
+        let done : MessagesAreCarried sent (moved (with_queue mesh node port rest) node packet (Some step.0)).1 = passes_on sent mesh node step.0 port packet rest is
         below was step.1 in
-        subst (λ next. IsCarried sent (moved (with_queue mesh node port rest) node packet next).1)
+        subst (λ next. MessagesAreCarried sent (moved (with_queue mesh node port rest) node packet next).1)
         (sym (next_is mesh.width node packet.to.0 step.0 is.wide step.1)) done
 
-    go : (queue : List Packet) → queue_of mesh node port ≡ queue → IsCarried sent (mesh_or mesh (hop_of mesh node port queue))
+    go : (queue : List Packet) → queue_of mesh node port ≡ queue → MessagesAreCarried sent (mesh_or mesh (hop_of mesh node port queue))
     go [] was = is
     go (packet ∷ rest) was = moves packet rest was (cases_eq node packet.to.0)
 
@@ -96,31 +96,31 @@ nodes_stay mesh (HopsFrom node port) = go (queue_of mesh node.0 port)
     go [] = refl
     go (packet ∷ rest) = by_next packet rest (next_on mesh.width node.0 packet.to.0)
 
-act_carries : (sent : List Packet) (mesh : Mesh) (act : Act) → IsCarried sent mesh → IsWithin (count_of mesh) act
-    → IsCarried (sent ++ injections (act ∷ [])) (after_act mesh act)
+act_carries : (sent : List Packet) (mesh : Mesh) (act : Act) → MessagesAreCarried sent mesh → ActIsWithin (count_of mesh) act
+    → MessagesAreCarried (sent ++ injections (act ∷ [])) (after_act mesh act)
 unfolding injected_later
 act_carries sent mesh (Injects packet) is within = injects sent mesh packet is within.0 within.1
-act_carries sent mesh (HopsFrom node port) is below = subst (λ xs. IsCarried xs (mesh_or mesh (hop_from mesh node.0 port))) (sym (append-nil sent))
+act_carries sent mesh (HopsFrom node port) is below = subst (λ xs. MessagesAreCarried xs (mesh_or mesh (hop_from mesh node.0 port))) (sym (append-nil sent))
     (hop_carries sent mesh node.0 port is below)
 
 injections-cons : (act : Act) (rest : List Act) → injections (act ∷ rest) ≡ injections (act ∷ []) ++ injections rest
 injections-cons (Injects packet) rest = refl
 injections-cons (HopsFrom node port) rest = refl
 
-pub acts_carry : (sent : List Packet) (mesh : Mesh) (acts : List Act) → IsCarried sent mesh → AllByRecursion (IsWithin (count_of mesh)) acts
-    → IsCarried (sent ++ injections acts) (after_acts mesh acts)
-acts_carry sent mesh [] is within = subst (λ xs. IsCarried xs mesh) (sym (append-nil sent)) is
+pub acts_carry : (sent : List Packet) (mesh : Mesh) (acts : List Act) → MessagesAreCarried sent mesh → AllByRecursion (ActIsWithin (count_of mesh)) acts
+    → MessagesAreCarried (sent ++ injections acts) (after_acts mesh acts)
+acts_carry sent mesh [] is within = subst (λ xs. MessagesAreCarried xs mesh) (sym (append-nil sent)) is
 acts_carry sent mesh (act ∷ rest) is within =
-    let more : IsCarried (sent ++ injections (act ∷ [])) (after_act mesh act) = act_carries sent mesh act is within.0 in
+    let more : MessagesAreCarried (sent ++ injections (act ∷ [])) (after_act mesh act) = act_carries sent mesh act is within.0 in
     let later = acts_carry (sent ++ injections (act ∷ [])) (after_act mesh act) rest more
-    (subst (λ n. AllByRecursion (IsWithin n) rest) (sym (nodes_stay mesh act)) within.1) in
-    subst (λ xs. IsCarried xs (after_acts mesh (act ∷ rest))) (append_assoc sent (injections (act ∷ [])) (injections rest)
+    (subst (λ n. AllByRecursion (ActIsWithin n) rest) (sym (nodes_stay mesh act)) within.1) in
+    subst (λ xs. MessagesAreCarried xs (after_acts mesh (act ∷ rest))) (append_assoc sent (injections (act ∷ [])) (injections rest)
     ∙ ap (λ xs. sent ++ xs) (sym (injections-cons act rest))) later
 
-pub run_carries : (acts : List Act) (mesh : Mesh) → 0 < mesh.width → IsAfter acts mesh → IsCarried (injections acts) mesh
+pub run_carries : (acts : List Act) (mesh : Mesh) → 0 < mesh.width → MeshIsAfter acts mesh → MessagesAreCarried (injections acts) mesh
 unfolding hop_run
 run_carries acts mesh wide is =
-    subst (IsCarried (injections acts)) (sym is.run) (acts_carry [] (mesh_start mesh.width mesh.height) acts
+    subst (MessagesAreCarried (injections acts)) (sym is.run) (acts_carry [] (mesh_start mesh.width mesh.height) acts
     (start_carries mesh.width mesh.height wide) is.within)
 
 -- ---- the two laws
@@ -129,7 +129,7 @@ wide_of : (width height node : ℕ) → node < width * height → 0 < width
 wide_of zero height node l = absurd (omega arith)
 wide_of (suc width) height node l = omega arith
 
-pub keeps_order : (mesh : Mesh) (from to : ℕ) → from < count_of mesh → to < count_of mesh → IsInOrder mesh from to
+pub keeps_order : (mesh : Mesh) (from to : ℕ) → from < count_of mesh → to < count_of mesh → ArrivalsAreInOrder mesh from to
 keeps_order mesh from to f t acts is = (run_carries acts mesh (wide_of mesh.width mesh.height from f) is).in_order from to f t
 
 idle_queues : (queues : List (List Packet)) → list_any is_nonempty queues ≡ false → (k : ℕ) → get_or queues k [] ≡ []
@@ -138,7 +138,7 @@ idle_queues ([] ∷ rest) e zero = refl
 idle_queues ([] ∷ rest) e (suc k) = idle_queues rest e k
 idle_queues ((packet ∷ more) ∷ rest) e k = cc
 
-pub delivers : (acts : List Act) (mesh : Mesh) → IsAfter acts mesh → is_idle mesh ≡ true → IsDelivered acts mesh
+pub delivers : (acts : List Act) (mesh : Mesh) → MeshIsAfter acts mesh → is_idle mesh ≡ true → AllAreDelivered acts mesh
 delivers acts mesh is idle = record {
   arrived = λ from to f t.
       sym (append-nil (arrivals_of mesh from to)) ∙ (ap (λ xs. arrivals_of mesh from to ++ xs)

@@ -8,7 +8,7 @@ use Rattle.alw_msg.specs.Lists.{is_nonempty}
 use Rattle.mesh_route.specs.declared.ports.Port.{Port}
 use Rattle.mesh_route.specs.declared.queues.Packet.{Packet}
 use Rattle.mesh_route.specs.Routes.{route, has_step, stops}
-use Rattle.mesh_route.specs.Meshes.{Mesh, Act, count_of, queue_of, arrivals_of, crossings_of, hop_run, injections, IsWithin}
+use Rattle.mesh_route.specs.Meshes.{Mesh, Act, count_of, queue_of, arrivals_of, crossings_of, hop_run, injections, ActIsWithin}
 
 -- the messages of a pair among some, in order
 abbrev pub messages_of : ℕ → ℕ → List Packet → List Msg
@@ -29,16 +29,16 @@ abbrev pub is_idle : Mesh → Bool
 is_idle mesh = not (list_any is_nonempty mesh.queues)
 
 -- a mesh is what a list of acts on its nodes leads to
-pub record IsAfter (acts : List Act) (mesh : Mesh) : Type 0 where
-  pub within : AllByRecursion (IsWithin (count_of mesh)) acts
+pub record MeshIsAfter (acts : List Act) (mesh : Mesh) : Type 0 where
+  pub within : AllByRecursion (ActIsWithin (count_of mesh)) acts
   pub run : mesh ≡ hop_run mesh.width mesh.height acts
 
 -- a pair's arrivals are the first of its injected messages, and the others stand in the queues on its route, in order
-abbrev pub IsInOrder : Mesh → ℕ → ℕ → Type 0
-IsInOrder mesh from to = (acts : List Act) → IsAfter acts mesh
+abbrev pub ArrivalsAreInOrder : Mesh → ℕ → ℕ → Type 0
+ArrivalsAreInOrder mesh from to = (acts : List Act) → MeshIsAfter acts mesh
     → arrivals_of mesh from to ++ waiting (queue_of mesh) from to (stops mesh.width from to) ≡ messages_of from to (injections acts)
 
 -- once all queues are empty each pair's arrivals are its injected messages, and each wire was crossed by the messages whose route goes over it
-pub record IsDelivered (acts : List Act) (mesh : Mesh) : Type 0 where
+pub record AllAreDelivered (acts : List Act) (mesh : Mesh) : Type 0 where
   pub arrived : (from to : ℕ) → from < count_of mesh → to < count_of mesh → arrivals_of mesh from to ≡ messages_of from to (injections acts)
   pub crossed : (a b : ℕ) → a < count_of mesh → b < count_of mesh → crossings_of mesh a b ≡ load_of mesh.width a b (injections acts)

@@ -15,7 +15,7 @@ IsStop node port [] = ⊥
 IsStop node port (stop ∷ rest) = ((node ≡ stop.0) × (port ≡ stop.1)) ⊎ IsStop node port rest
 
 -- a message stands in a queue on its route
-pub record IsPlaced (width count node : ℕ) (port : Port) (packet : Packet) : Type 0 where
+pub record MessageIsPlaced (width count node : ℕ) (port : Port) (packet : Packet) : Type 0 where
   pub from_within : packet.from.0 < count
   pub to_within : packet.to.0 < count
   pub stop : IsStop node port (stops width packet.from.0 packet.to.0)
@@ -28,13 +28,13 @@ queue_load width a b node packets = weigh (λ (packet : Packet). digit (has_step
 abbrev pub load_left : Mesh → ℕ → ℕ → ℕ
 load_left mesh a b = sum_below (count_of mesh * 5) (λ place. queue_load mesh.width a b (place / 5) (slice_index_or mesh.queues place []))
 
-pub record IsCarried (sent : List Packet) (mesh : Mesh) : Type 0 where
+pub record MessagesAreCarried (sent : List Packet) (mesh : Mesh) : Type 0 where
   pub wide : 0 < mesh.width
   pub counted : mesh.injected ≡ length sent
   pub queues_are : length mesh.queues ≡ count_of mesh * 5
   pub arrivals_are : length mesh.arrivals ≡ count_of mesh * count_of mesh
   pub crossings_are : length mesh.crossings ≡ count_of mesh * count_of mesh
-  pub placed : (node : ℕ) (port : Port) → node < count_of mesh → AllByRecursion (IsPlaced mesh.width (count_of mesh) node port) (queue_of mesh node port)
+  pub placed : (node : ℕ) (port : Port) → node < count_of mesh → AllByRecursion (MessageIsPlaced mesh.width (count_of mesh) node port) (queue_of mesh node port)
   pub in_order : (from to : ℕ) → from < count_of mesh → to < count_of mesh
       → arrivals_of mesh from to ++ waiting (queue_of mesh) from to (stops mesh.width from to) ≡ messages_of from to sent
   pub crossed : (a b : ℕ) → a < count_of mesh → b < count_of mesh → crossings_of mesh a b + load_left mesh a b ≡ load_of mesh.width a b sent
@@ -55,4 +55,4 @@ pub record IsHops (mesh : Mesh) : Type 0 where
   pub low : mesh.height ≤ 16
   pub few : mesh.injected < 2 ^ 32
   pub sent : List Packet
-  pub carried : IsCarried sent mesh
+  pub carried : MessagesAreCarried sent mesh

@@ -113,6 +113,6 @@ injections (Injects packet ∷ rest) = packet ∷ injections rest
 injections (HopsFrom at port ∷ rest) = injections rest
 
 -- the nodes that an act names are below a number
-abbrev pub IsWithin : ℕ → Act → Type 0
-IsWithin count (Injects packet) = (packet.from.0 < count) × (packet.to.0 < count)
-IsWithin count (HopsFrom at port) = at.0 < count
+abbrev pub ActIsWithin : ℕ → Act → Type 0
+ActIsWithin count (Injects packet) = (packet.from.0 < count) × (packet.to.0 < count)
+ActIsWithin count (HopsFrom at port) = at.0 < count

@@ -4,7 +4,7 @@ ghost use Rattle.mesh_route.specs.Routes.{port_number, next_on};
 ghost use Rattle.mesh_route.specs.Meshes.{Mesh, Act, count_of, queue_place, queue_of, arrivals_of, crossings_of};
 ghost use Rattle.mesh_route.specs.Meshes.{mesh_start, after_injection, after_arrival, after_crossing, hop_from};
 ghost use Rattle.mesh_route.specs.Keeping.{IsHead, without_head};
-ghost use Rattle.mesh_route.specs.Deliveries.{is_idle, IsAfter, IsInOrder, IsDelivered};
+ghost use Rattle.mesh_route.specs.Deliveries.{is_idle, MeshIsAfter, ArrivalsAreInOrder, AllAreDelivered};
 
 use crate::ports::{Hop, Port};
 use crate::queues::{Packet, Queue, arrive, pass};
@@ -173,7 +173,7 @@ impl Hops {
     /// crossed by the messages whose route goes over it.
     pub fn empty(&self) -> bool
         ensures idle { result ≡ is_idle self.now }
-        ensures delivered { IsTrue result → (acts : List Act) → IsAfter acts self.now → IsDelivered acts self.now }
+        ensures delivered { IsTrue result → (acts : List Act) → MeshIsAfter acts self.now → AllAreDelivered acts self.now }
     {
         for queue in &self.queues {
             if !queue.is_empty() {
@@ -206,7 +206,7 @@ impl Hops {
         requires from { from.0 < count_of self.now }
         requires to { to.0 < count_of self.now }
         ensures list { result.now ≡ arrivals_of self.now from.0 to.0 }
-        ensures in_order { IsInOrder self.now from.0 to.0 }
+        ensures in_order { ArrivalsAreInOrder self.now from.0 to.0 }
     {
         let count = u16::from(self.width) * u16::from(self.height);
         &self.arrivals[pair_place(count, from, to)]

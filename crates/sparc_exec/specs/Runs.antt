@@ -48,8 +48,8 @@ IsRun (needs.Copy line mode) effect before after outcome = IsRunOn (granted mode
 IsRun _ effect before after outcome = ((line : Line) → effect line ≡ (after.regs, line, outcome)) × Same before.copies after.copies × (after.calls ≡ before.calls)
 
 -- the copy that an instruction needs isn't there
-abbrev pub IsMissing : Need → Copies → LineNo → Mode → Type 0
-IsMissing need copies line mode = (need ≡ needs.Copy line mode) × (granted mode (copies line.0) ≡ None)
+abbrev pub CopyIsMissing : Need → Copies → LineNo → Mode → Type 0
+CopyIsMissing need copies line mode = (need ≡ needs.Copy line mode) × (granted mode (copies line.0) ≡ None)
 
 -- the need of an access whose line, or trap, is known
 abbrev pub need_with : Mode → Result LineNo ℕ → Need

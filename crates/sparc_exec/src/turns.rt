@@ -7,10 +7,10 @@ ghost use Rattle.sparc_table.specs.Registers.{register, with_register};
 ghost use Rattle.sparc_table.specs.Operands.{operand_of};
 ghost use Rattle.sparc_table.specs.Access.{width_of, is_load};
 ghost use Rattle.sparc_table.specs.Control.{next};
-ghost use Rattle.sparc_table.specs.Meaning.{need, accessed, IsStill};
+ghost use Rattle.sparc_table.specs.Meaning.{need, accessed, OutcomeIsStill};
 ghost use Rattle.sparc_table.specs.Turns.{fetched, run_of, need_of, turn_of};
 ghost use Rattle.sparc_exec.specs.Ports.{granted};
-ghost use Rattle.sparc_exec.specs.Runs.{Same, seen, IsRunOn, IsRun, IsMissing};
+ghost use Rattle.sparc_exec.specs.Runs.{Same, seen, IsRunOn, IsRun, CopyIsMissing};
 
 use crate::accesses::{is_load, line_at, load, store};
 use crate::arithmetic::{address, calculate, operand_value, shift};
@@ -26,8 +26,8 @@ use sparc_table::{Instr, Operand, Outcome, Regs, decode};
 #[tactic(auto, unfolding(sparc_table::specs::Turns::need_of, sparc_table::specs::Turns::turn_of))]
 pub fn turn<P: Port>(code: &[u32], regs: &mut Regs, port: &mut P) -> Outcome
     ensures run { IsRun (need_of code.now regs.old (P.lines port.old)) (turn_of code.now regs.old (P.lines port.old)) (seen regs.old (P.copy port.old) (P.calls port.old)) (seen regs.new (P.copy port.new) (P.calls port.new)) result }
-    ensures missed { (line : LineNo) → (mode : Mode) → (result ≡ Outcome.Miss line mode) ↔ IsMissing (need_of code.now regs.old (P.lines port.old)) (P.copy port.old) line mode }
-    ensures still { IsStill result → (regs.new ≡ regs.old) × Same (P.copy port.old) (P.copy port.new) }
+    ensures missed { (line : LineNo) → (mode : Mode) → (result ≡ Outcome.Miss line mode) ↔ CopyIsMissing (need_of code.now regs.old (P.lines port.old)) (P.copy port.old) line mode }
+    ensures still { OutcomeIsStill result → (regs.new ≡ regs.old) × Same (P.copy port.old) (P.copy port.new) }
     ensures sizes { (P.lines port.new ≡ P.lines port.old) × (P.places port.new ≡ P.places port.old) }
 {
     match fetch(code, regs.pc) {
@@ -55,8 +55,8 @@ fn fetch(code: &[u32], pc: u32) -> Result<Instr, u8>
 pub fn run_one<P: Port>(instr: &Instr, regs: &mut Regs, port: &mut P) -> Outcome
     requires { Fits instr.now }
     ensures run { IsRun (need instr.now regs.old (P.lines port.old)) (run_of instr.now regs.old (P.lines port.old)) (seen regs.old (P.copy port.old) (P.calls port.old)) (seen regs.new (P.copy port.new) (P.calls port.new)) result }
-    ensures missed { (line : LineNo) → (mode : Mode) → (result ≡ Outcome.Miss line mode) ↔ IsMissing (need instr.now regs.old (P.lines port.old)) (P.copy port.old) line mode }
-    ensures still { IsStill result → (regs.new ≡ regs.old) × Same (P.copy port.old) (P.copy port.new) }
+    ensures missed { (line : LineNo) → (mode : Mode) → (result ≡ Outcome.Miss line mode) ↔ CopyIsMissing (need instr.now regs.old (P.lines port.old)) (P.copy port.old) line mode }
+    ensures still { OutcomeIsStill result → (regs.new ≡ regs.old) × Same (P.copy port.old) (P.copy port.new) }
     ensures sizes { (P.lines port.new ≡ P.lines port.old) × (P.places port.new ≡ P.places port.old) }
 {
     run_row(instr, regs, port)

@@ -70,10 +70,10 @@ abbrev pub refused : ℕ → Option Fault → Option AsmErr
 refused number fault = option_map (λ f. fault_at f number) fault
 
 -- from one layout to the next by a line with a number, or its fault; or memory was refused
-abbrev pub IsLaid : Layout → Layout → Line → ℕ → Result Place AsmErr → Type 0
-IsLaid l after line number (Err NoMemory) = ⊤
-IsLaid l after line number (Err e) = refused number (place_fault l line) ≡ Some e
-IsLaid l after line number (Ok place) = (place_fault l line ≡ None) × (after ≡ behind l line) × (place ≡ place_of l line.statement)
+abbrev pub LineIsLaid : Layout → Layout → Line → ℕ → Result Place AsmErr → Type 0
+LineIsLaid l after line number (Err NoMemory) = ⊤
+LineIsLaid l after line number (Err e) = refused number (place_fault l line) ≡ Some e
+LineIsLaid l after line number (Ok place) = (place_fault l line ≡ None) × (after ≡ behind l line) × (place ≡ place_of l line.statement)
 
 -- an answer is the wanted layout with the wanted places, or the wanted fault; or memory was refused
 abbrev pub AnswersPlaces : Result Layout AsmErr → List Place → Result Laid AsmErr → Type 0

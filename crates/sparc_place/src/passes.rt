@@ -1,6 +1,6 @@
 ghost use Rattle.std.specs.Prelude.{◌≡◌, ◌<◌, ◌+◌, ◌^◌};
 ghost use Rattle.sparc_place.specs.Places.{nothing_laid, fault_at, places, places_of};
-ghost use Rattle.sparc_place.specs.Plans.{layout_of, IsLaid, AnswersPlaces};
+ghost use Rattle.sparc_place.specs.Plans.{layout_of, LineIsLaid, AnswersPlaces};
 
 use crate::cursors::{Place, Places};
 use crate::plans::Plan;
@@ -32,7 +32,7 @@ impl Plan {
     // Lays down a label.
     fn lay_label(&mut self, alloc: Global, line: &Line, number: u32) -> Result<Place, AsmErr>
         requires { line.now.statement ≡ None }
-        ensures { IsLaid (layout_of self.old) (layout_of self.new) line.now number result }
+        ensures { LineIsLaid (layout_of self.old) (layout_of self.new) line.now number result }
     {
         if self.label_again(&line.label) {
             return Err(AsmErr::Redefined { line: number });
@@ -46,7 +46,7 @@ impl Plan {
 
     // Lays down a line with a number: where it stands, or its fault.
     fn lay(&mut self, alloc: Global, line: &Line, number: u32) -> Result<Place, AsmErr>
-        ensures { IsLaid (layout_of self.old) (layout_of self.new) line.now number result }
+        ensures { LineIsLaid (layout_of self.old) (layout_of self.new) line.now number result }
     {
         let Some(statement) = &line.statement else {
             return self.lay_label(alloc, line, number);

@@ -14,7 +14,7 @@ use Rattle.sparc_table.specs.Operands.{address_of}
 use Rattle.sparc_table.specs.Control.{holds}
 use Rattle.sparc_table.specs.Access.{is_load, is_shared, mode_of, width_of}
 use Rattle.sparc_table.specs.Table.{is_in}
-use Rattle.sparc_table.specs.Meaning.{need, effect, writes, IsStill, beside}
+use Rattle.sparc_table.specs.Meaning.{need, effect, writes, OutcomeIsStill, beside}
 use Rattle.sparc_table.specs.declared.registers.Regs.{Regs}
 use Rattle.sparc_table.specs.declared.instructions.Instr.{Instr}
 use Rattle.sparc_table.specs.declared.instructions.Instr.TheVariants.{Call, Sethi, Branch, Arith, Shift, ReadY, WriteY, Jmpl, TrapOn, Memory}
@@ -23,7 +23,7 @@ use Rattle.sparc_table.specs.declared.outcomes.Outcome.TheVariants.{Done, Miss}
 
 -- Halt and Trap leave registers and line as they are, and the outcome is no Miss
 pub record IsOrderly (regs : Regs) (line : Line) (after : Regs × Line × Outcome) : Type 0 where
-  pub still : IsStill after.2 → (after.0 ≡ regs) × (after.1 ≡ line)
+  pub still : OutcomeIsStill after.2 → (after.0 ≡ regs) × (after.1 ≡ line)
   pub found : (l : LineNo) → (m : Mode) → after.2 ≢ Miss l m
 
 choice : {A : Type 0} (P : A → Type 0) (b : Bool) (x y : A) → P x → P y → P (cond b x y)

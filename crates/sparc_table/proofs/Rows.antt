@@ -2,7 +2,7 @@
 use Rattle.std.proofs.Common.{◌≡◌, ℕ, ◌==◌, Bool, true, false, cond, ◌↔◌, IfSome, MatchOption, List, [], ◌∷◌, Option, Some, None, option_map, refl, arith, sym, subst}
 use Rattle.std.proofs.lemmas.Bool.{eqb-true, eqb-false}
 use Rattle.sparc_table.specs.Fields.{bits_of, op_of, op2_of, op3_of, rd_of, rs1_of, i_of, unused_of, annul_of, cond_of}
-use Rattle.sparc_table.specs.Table.{is_in, arithmetic, shifts, accesses, IsOperand, IsSpelled, IsOutside, FitsOperand, Fits, register_in, operand_in, short_operand_in, format_2, format_3, memory, instr_of}
+use Rattle.sparc_table.specs.Table.{is_in, arithmetic, shifts, accesses, IsOperand, IsSpelled, WordIsOutside, FitsOperand, Fits, register_in, operand_in, short_operand_in, format_2, format_3, memory, instr_of}
 use Rattle.sparc_table.specs.declared.instructions.Operand.{Operand}
 use Rattle.sparc_table.specs.declared.instructions.Operand.TheVariants.{Reg, Imm}
 use Rattle.sparc_table.specs.declared.instructions.Instr.{Instr}
@@ -134,10 +134,10 @@ instr_of_is (TrapOn condition rs1 operand) word h =
 instr_of_is (Memory op3 rd rs1 operand) word h = rw (h.1.0, h.1.1, h.0, h.1.2, h.1.3, operand_is operand word h.1.4) refl
 
 -- a word outside the table spells no instruction
-pub table : (word : ℕ) (found : Option Instr) → found ≡ instr_of word → MatchOption found (IsOutside word) (λ instr. IsSpelled instr word)
+pub table : (word : ℕ) (found : Option Instr) → found ≡ instr_of word → MatchOption found (WordIsOutside word) (λ instr. IsSpelled instr word)
 table word found e = go found e
   where
-    go : (o : Option Instr) → o ≡ instr_of word → MatchOption o (IsOutside word) (λ instr. IsSpelled instr word)
+    go : (o : Option Instr) → o ≡ instr_of word → MatchOption o (WordIsOutside word) (λ instr. IsSpelled instr word)
     go (Some instr) e = subst (Spells word) (sym e) (instr_of_spells word)
     go None e = λ instr h. absurd (let f = instr_of_is instr word h in cc)
 

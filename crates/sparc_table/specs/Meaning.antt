@@ -63,8 +63,8 @@ writes (Memory op3 rd rs1 operand) = not (is_load op3)
 writes _ = false
 
 -- the outcomes with which a turn changes nothing
-abbrev pub IsStill : Outcome → Type 0
-IsStill (Miss line mode) = ⊤
-IsStill Halt = ⊤
-IsStill (Trap tt) = ⊤
-IsStill _ = ⊥
+abbrev pub OutcomeIsStill : Outcome → Type 0
+OutcomeIsStill (Miss line mode) = ⊤
+OutcomeIsStill Halt = ⊤
+OutcomeIsStill (Trap tt) = ⊤
+OutcomeIsStill _ = ⊥

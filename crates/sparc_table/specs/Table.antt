@@ -53,8 +53,8 @@ IsSpelled (TrapOn condition rs1 operand) word = (condition < 16) × IsFormat3 2 
 IsSpelled (Memory op3 rd rs1 operand) word = IsTrue (is_in accesses op3) × IsFormat3 3 op3 rd rs1 13 operand word
 
 -- a word spells no instruction
-abbrev pub IsOutside : ℕ → Type 0
-IsOutside word = (instr : Instr) → ¬ IsSpelled instr word
+abbrev pub WordIsOutside : ℕ → Type 0
+WordIsOutside word = (instr : Instr) → ¬ IsSpelled instr word
 
 -- ---- the table as a function
 

@@ -6,7 +6,7 @@ ghost use Rattle.sparc_table.specs.Table.{IsSpelled, instr_of};
 ghost use Rattle.sparc_table.specs.Turns.{need_of, turn_of};
 ghost use Rattle.alw_num.specs.declared.states.Mode.TheVariants.{Read};
 ghost use Rattle.sparc_table.specs.declared.outcomes.Need.TheVariants.{Copy};
-ghost use Rattle.sparc_table.specs.Meaning.{effect, writes, IsStill};
+ghost use Rattle.sparc_table.specs.Meaning.{effect, writes, OutcomeIsStill};
 ghost use Rattle.sparc_table.specs.declared.instructions.Instr.{Instr};
 ghost use Rattle.sparc_table.specs.declared.registers.Regs.{Regs};
 ghost use Rattle.sparc_table.specs.declared.outcomes.Outcome.TheVariants.{Miss};
@@ -20,7 +20,7 @@ pub fn one_table()
 /// What holds of the effect of every instruction: Halt and Trap leave the registers and the line, no
 /// effect is a Miss, and only stores, LDSTUB and SWAP change the line.
 pub fn orderly_effects()
-    ensures still { (instr : Instr) → (regs : Regs) → (line : Line) → IsStill (effect instr regs line).2 → ((effect instr regs line).0 ≡ regs) × ((effect instr regs line).1 ≡ line) }
+    ensures still { (instr : Instr) → (regs : Regs) → (line : Line) → OutcomeIsStill (effect instr regs line).2 → ((effect instr regs line).0 ≡ regs) × ((effect instr regs line).1 ≡ line) }
     ensures found { (instr : Instr) → (regs : Regs) → (line : Line) → (l : LineNo) → (mode : Mode) → (effect instr regs line).2 ≢ Miss l mode }
     ensures line { (instr : Instr) → (regs : Regs) → (line : Line) → IsFalse (writes instr) → (effect instr regs line).1 ≡ line }
 {}
@@ -30,6 +30,6 @@ pub fn orderly_effects()
 pub fn orderly_turns()
     ensures exists { (code : List ℕ) → (regs : Regs) → (lines : ℕ) → (line : LineNo) → (mode : Mode) → need_of code regs lines ≡ Copy line mode → line.0 < lines }
     ensures reads { (code : List ℕ) → (regs : Regs) → (lines : ℕ) → (line : LineNo) → (value : Line) → need_of code regs lines ≡ Copy line Read → (turn_of code regs lines value).1 ≡ value }
-    ensures still { (code : List ℕ) → (regs : Regs) → (lines : ℕ) → (line : Line) → IsStill (turn_of code regs lines line).2 → ((turn_of code regs lines line).0 ≡ regs) × ((turn_of code regs lines line).1 ≡ line) }
+    ensures still { (code : List ℕ) → (regs : Regs) → (lines : ℕ) → (line : Line) → OutcomeIsStill (turn_of code regs lines line).2 → ((turn_of code regs lines line).0 ≡ regs) × ((turn_of code regs lines line).1 ≡ line) }
     ensures found { (code : List ℕ) → (regs : Regs) → (lines : ℕ) → (line : Line) → (l : LineNo) → (mode : Mode) → (turn_of code regs lines line).2 ≢ Miss l mode }
 {}

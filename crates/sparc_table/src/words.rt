@@ -1,6 +1,6 @@
 ghost use Rattle.std.specs.Prelude.{◌≡◌, ◌==◌, ◌<◌, ◌^◌, ℕ, Some, IfSome, MatchOption, option_map};
 ghost use Rattle.sparc_table.specs.Fields.{bits_of, op_of, op2_of, op3_of, rd_of, rs1_of, annul_of, cond_of};
-ghost use Rattle.sparc_table.specs.Table.{Fits, FitsOperand, IsSpelled, IsOutside, IsFormat3, is_in, arithmetic, accesses, only_if, instr_of, format_2, format_3, memory, register_in, operand_in, short_operand_in};
+ghost use Rattle.sparc_table.specs.Table.{Fits, FitsOperand, IsSpelled, WordIsOutside, IsFormat3, is_in, arithmetic, accesses, only_if, instr_of, format_2, format_3, memory, register_in, operand_in, short_operand_in};
 
 use crate::instructions::{Instr, Operand};
 
@@ -9,7 +9,7 @@ use crate::instructions::{Instr, Operand};
 #[inline(always)]
 pub fn decode(word: u32) -> Option<Instr>
     ensures row { result ≡ instr_of word }
-    ensures spelled { MatchOption result (IsOutside word) (λ instr. IsSpelled instr word) }
+    ensures spelled { MatchOption result (WordIsOutside word) (λ instr. IsSpelled instr word) }
     ensures fits { IfSome result (λ instr. Fits instr) }
 {
     match op(word) {

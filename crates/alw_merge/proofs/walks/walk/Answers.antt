@@ -9,7 +9,7 @@ use Rattle.alw_links.specs.Traffic.{Traffic}
 use Rattle.alw_mesh.proofs.OneNode.{few_nodes}
 use Rattle.alw_cells.specs.Logs.{logged}
 use Rattle.alw_merge.specs.declared.streams.Read.{Read}
-use Rattle.alw_merge.specs.Streams.{Reads, IsReadOff}
+use Rattle.alw_merge.specs.Streams.{Reads, EventIsReadOff}
 use Rattle.alw_merge.specs.Joins.{dids_at, MayFollow, Follows}
 use Rattle.alw_merge.proofs.Walking.{IsMerging, merging_begins, follows_here, follows_may, merges_on}
 use Rattle.alw_merge.proofs.Joining.{courses_counted, lists_same}
@@ -33,20 +33,20 @@ loop-walked-init c =
 
 pub follow-requires-clause-here : goal.follow-requires-clause-here
 follow-requires-clause-here c =
-    let read : IsReadOff c.loop-walked.events c.in-Some.read c.event.new.sends.items c.event.new.self =
+    let read : EventIsReadOff c.loop-walked.events c.in-Some.read c.event.new.sends.items c.event.new.self =
     subst (λ (o : Option Read). Reads c.loop-walked.events o c.event.new.sends.items c.event.new.self) c.in-Some.is c.in_ok-read.ensures in
     follows_here c.parts-allowed.ensures.allowed c.requires.read.legal c.loop-walked.invariant read
 
 pub follow-requires-clause-follows : goal.follow-requires-clause-follows
 follow-requires-clause-follows c =
-    let read : IsReadOff c.loop-walked.events c.in-Some.read c.event.new.sends.items c.event.new.self =
+    let read : EventIsReadOff c.loop-walked.events c.in-Some.read c.event.new.sends.items c.event.new.self =
     subst (λ (o : Option Read). Reads c.loop-walked.events o c.event.new.sends.items c.event.new.self) c.in-Some.is c.in_ok-read.ensures in
     subst (λ (sends : List (ℕ × Msg)). MayFollow c.loop-walked.walked.links.nodes c.in-Some.read.entry.event sends (dids_at c.loop-walked.rests.items (node_of c.in-Some.read.entry.event))) (sym c.deref.ensures.value)
     (follows_may c.parts-allowed.ensures.allowed c.requires.read.legal c.loop-walked.invariant read)
 
 pub loop-walked-preserved : goal.loop-walked-preserved
 loop-walked-preserved c =
-    let read : IsReadOff c.loop-walked.events c.in-Some.read c.event.new.sends.items c.event.new.self =
+    let read : EventIsReadOff c.loop-walked.events c.in-Some.read c.event.new.sends.items c.event.new.self =
     subst (λ (o : Option Read). Reads c.loop-walked.events o c.event.new.sends.items c.event.new.self) c.in-Some.is c.in_ok-read.ensures in
     let follows = subst (λ (sends : List (ℕ × Msg)). Follows c.args.image.now c.in-Some.read sends c.loop-walked.rests.items c.follow.new.rests.items c.loop-walked.walked.links c.follow.new.walked.links
     c.loop-walked.walked.tally.told c.follow.new.walked.tally.told) c.deref.ensures.value c.in_ok-follow.ensures.follows in

@@ -1,6 +1,6 @@
 -- One row more is laid, and at the end all of them.
 use Rattle.std.proofs.Common.{◌≡◌, ◌+◌, ◌*◌, ◌∙◌, [], ◌∷◌, length, sym, ap, subst, arith, add-mul, one-mul, length-append}
-use Rattle.alw_work.specs.Ties.{AreColumns}
+use Rattle.alw_work.specs.Ties.{LinksAreColumns}
 use Rattle.alw_work.proofs.Layings.{rows_next}
 use Rattle.alw_work.proofs.laying.lay_links.Goals as goal
 
@@ -29,5 +29,5 @@ returns g c =
       links = was.count ∙ ap (λ k. k * nodes) all;
       rows = was.rows ∙ all;
       outs = was.outs;
-      ins = subst (λ k. AreColumns links nodes k 0 c.loop-from.ins.items) all was.ins;
+      ins = subst (λ k. LinksAreColumns links nodes k 0 c.loop-from.ins.items) all was.ins;
     }

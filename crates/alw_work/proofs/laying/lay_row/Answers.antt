@@ -2,7 +2,7 @@
 use Rattle.std.proofs.Common.{◌≡◌, ◌<◌, ◌+◌, ◌*◌, ◌∙◌, List, [], ◌∷◌, length, slice_get, Some, None, refl, sym, ap, subst, arith, length-append}
 use Rattle.std.proofs.lemmas.Option.{slice_get_read}
 use Rattle.alw_work.specs.declared.ends.Out.{Out}
-use Rattle.alw_work.specs.Ties.{AreColumns}
+use Rattle.alw_work.specs.Ties.{LinksAreColumns}
 use Rattle.alw_work.proofs.Layings.{keeps_push, row_next, columns_next, columns_turn}
 use Rattle.alw_work.proofs.laying.lay_row.Goals as goal
 
@@ -37,5 +37,5 @@ returns g c =
       count = was.count ∙ ap (λ k. c.args.from * c.args.nodes + k) all;
       row_is = was.row_is;
       ins_are = columns_turn c.loop-to.links.items c.args.nodes c.args.from c.loop-to.ins.items
-          (subst (λ k. AreColumns c.loop-to.links.items c.args.nodes c.args.from k c.loop-to.ins.items) all was.ins_are);
+          (subst (λ k. LinksAreColumns c.loop-to.links.items c.args.nodes c.args.from k c.loop-to.ins.items) all was.ins_are);
     }

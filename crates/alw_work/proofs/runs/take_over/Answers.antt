@@ -3,7 +3,7 @@ use Rattle.std.proofs.Common.{◌≡◌, ◌∙◌, ℕ, List, sym, ap, subst}
 use Rattle.std.proofs.lemmas.Result.{IfOk-weaker}
 use Rattle.alw_image.specs.Images.{node_count}
 use Rattle.alw_ruled.specs.Ends.{LinkName}
-use Rattle.alw_work.specs.Ties.{cells_in, AreTied}
+use Rattle.alw_work.specs.Ties.{cells_in, EndsAreTied}
 use Rattle.alw_work.proofs.Plain.{cell_plain}
 use Rattle.alw_work.proofs.Leaving.{taken, left_at_trap, left_at_end}
 use Rattle.alw_work.proofs.runs.take_over.Goals as goal
@@ -12,7 +12,7 @@ pub close_all-requires-clause-tied : goal.close_all-requires-clause-tied
 close_all-requires-clause-tied g c =
     let tied = rw c.in-Some.is at c.in_ok-lefts.ensures.tied in
     let count : c.count_nodes-nodes.result ≡ node_count g.I.Naming.image = c.count_nodes-nodes.ensures.count ∙ ap node_count c.requires.image in
-    subst (λ (y : List LinkName × ℕ). AreTied y.0 y.1 c.in-Some.lefts.items) (λ i. (sym c.requires.links i, sym count i)) tied
+    subst (λ (y : List LinkName × ℕ). EndsAreTied y.0 y.1 c.in-Some.lefts.items) (λ i. (sym c.requires.links i, sym count i)) tied
 
 pub close_all-requires-clause-plain : goal.close_all-requires-clause-plain
 close_all-requires-clause-plain g c = λ k cell at. cell_plain cell ((rw c.in-Some.is at c.in_ok-lefts.ensures.cells).each k cell at).1

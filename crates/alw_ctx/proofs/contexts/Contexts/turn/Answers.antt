@@ -5,7 +5,7 @@ use Rattle.alw_num.specs.declared.states.Mode.{Mode}
 use Rattle.sparc_table.specs.Turns.{need_of, turn_of}
 use Rattle.sparc_table.specs.declared.registers.Regs.{Regs}
 use Rattle.sparc_table.specs.declared.outcomes.Outcome.TheVariants as ends
-use Rattle.sparc_exec.specs.Runs.{seen, IsRun, IsMissing}
+use Rattle.sparc_exec.specs.Runs.{seen, IsRun, CopyIsMissing}
 use Rattle.alw_model.specs.Contexts.{Slot}
 use Rattle.alw_ctx.specs.Residents.{slots_of}
 use Rattle.alw_ctx.proofs.Slots.{length_slots, of_slot, turned, same_contexts}
@@ -27,7 +27,7 @@ returns-clause-missed g c =
     let inside = c.self.inside in
     let size = length_slots inside.count inside.places (omega (arith, c.self.invariant.1, c.self.invariant.2)) in
     let within : c.args.slot < length (slots_of inside.count inside.places) = rw (← c.self.view_is) at c.requires in
-    let Misses : Regs → Regs → Type 0 = λ r _. (line : LineNo) → (mode : Mode) → (c.turn.result ≡ ends.Miss line mode) ↔ IsMissing (need_of c.args.code.now r (g.P.Port.lines c.args.port.now)) (g.P.Port.copy c.args.port.now) line mode in
+    let Misses : Regs → Regs → Type 0 = λ r _. (line : LineNo) → (mode : Mode) → (c.turn.result ≡ ends.Miss line mode) ↔ CopyIsMissing (need_of c.args.code.now r (g.P.Port.lines c.args.port.now)) (g.P.Port.copy c.args.port.now) line mode in
     rw (← c.self.view_is) (of_slot Misses inside.count inside.places c.args.slot _ c.turn.new.self (omega (arith, within, size)) (omega (arith, c.self.invariant.1, c.self.invariant.2)) c.turn.ensures.missed)
 
 pub returns-clause-contexts : goal.returns-clause-contexts

@@ -2,7 +2,7 @@
 use Rattle.std.proofs.Common.{sym, ◌∙◌, arith}
 use Rattle.std.proofs.lemmas.List.{append-nil}
 use Rattle.alw_msg.specs.Contents.{request_in}
-use Rattle.alw_laws.specs.Traffic.{IsUp}
+use Rattle.alw_laws.specs.Traffic.{IsTrafficUp}
 use Rattle.alw_laws.specs.Views.{node_in}
 use Rattle.alw_laws.specs.Parts.{packet_said_by}
 use Rattle.alw_laws.proofs.Links.{goes_on, stays, ends}
@@ -21,12 +21,12 @@ loop-place-preserved c =
       | then-is_on w ↦
           let said = w.gains.ensures.sums _ c.loop-place.invariant.0 in
           let on = sym c.is_on.ensures ∙ w.if-is_on.true in
-          let next = goes_on request_in view.line.0 c.args.number.0 view.at.0 view.links c.loop-place.place _ sent (IsUp w.gains.new.self) packet on said in
+          let next = goes_on request_in view.line.0 c.args.number.0 view.at.0 view.links c.loop-place.place _ sent (IsTrafficUp w.gains.new.self) packet on said in
           rw w.up-is (next, omega arith)
       | else-is_on w ↦
           let off = sym c.is_on.ensures ∙ w.if-is_on.false in
           let said = c.loop-place.invariant.0 in
-          let next = stays request_in view.line.0 c.args.number.0 view.at.0 view.links c.loop-place.place _ sent (IsUp c.loop-place.up) packet off said in
+          let next = stays request_in view.line.0 c.args.number.0 view.at.0 view.links c.loop-place.place _ sent (IsTrafficUp c.loop-place.up) packet off said in
           rw w.up-is (next, omega arith)
     ]
 
@@ -35,4 +35,4 @@ unfolding node_in
 returns-clause-up c =
     let view = c.args.self.now in
     let packet = packet_said_by view c.args.number.0 in
-    ends request_in view.line.0 c.args.number.0 view.at.0 view.links c.loop-place.place (IsUp c.loop-place.up) packet (omega arith) c.loop-place.invariant.0
+    ends request_in view.line.0 c.args.number.0 view.at.0 view.links c.loop-place.place (IsTrafficUp c.loop-place.up) packet (omega arith) c.loop-place.invariant.0

@@ -4,7 +4,7 @@ use Rattle.std.specs.Option.{option_map}
 use Rattle.std.proofs.lemmas.List.{length_push}
 use Rattle.alw_msg.specs.Lists.{front}
 use Rattle.alw_cells.specs.Logs.{Reading, reading_of, after_next, entry_of}
-use Rattle.alw_merge.specs.Streams.{left_of, heads_of, Joins, IsUnderWay}
+use Rattle.alw_merge.specs.Streams.{left_of, heads_of, Joins, StreamIsUnderWay}
 use Rattle.alw_merge.proofs.Merging.{one_more, lefts_more, all_there, node_of_front}
 use Rattle.alw_merge.proofs.streams.Stream.over.Goals as goal
 
@@ -19,7 +19,7 @@ loop-at-preserved c =
     (sym so_far.place) c.in_ok-add.ensures.joins in
     let grown = length_push readings c.next.new.self in
     record {
-      under = subst (λ items. IsUnderWay items (heap_items c.add.new.heads) (heap_len c.add.new.heads) (heap_capacity c.add.new.heads))
+      under = subst (λ items. StreamIsUnderWay items (heap_items c.add.new.heads) (heap_len c.add.new.heads) (heap_capacity c.add.new.heads))
           (sym c.push_reserved.ensures.items)
           (one_more readings (heap_items c.loop-at.heads) (heap_items c.add.new.heads) _ _ _ _ log.entries c.next.new.self c.next.result so_far.under
           c.cursor-reading.ensures.ascends reading entry joins c.in_ok-add.ensures.len
