@@ -394,7 +394,7 @@ def check_fit(findings, edit, crate):
         texts[name] = texts[name].replace(old, new) if old else texts[name]
 
 
-LAUNCHER = {'--help', '--version', '--unproved'}
+LAUNCHER = {'--build', '--help', '--version', '--unproved'}
 QUOTED = re.compile(r'"(-?-?[a-z]+)"')
 
 

@@ -6,7 +6,7 @@ _alewife() {
     case $COMP_CWORD in
     "$at")
         words='asm run replay audit gen route save resume'
-        [ "$at" = 1 ] && words="$words --unproved --help --version"
+        [ "$at" = 1 ] && words="$words --unproved --build --help --version"
         ;;
     *)
         case ${COMP_WORDS[at]}:$before in
