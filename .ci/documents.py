@@ -25,7 +25,10 @@ import sys
 from dataclasses import dataclass, field
 from pathlib import Path
 
-ROOT = Path(__file__).resolve().parent.parent
+sys.path.insert(0, str(Path(__file__).resolve().parent.parent / 'tools'))
+sys.dont_write_bytecode = True
+from alewife import Findings, ROOT
+
 HEADINGS = ['What it does', 'What a contract sees', 'What is proved', 'What is only tested', 'Left open', 'A caller']
 CRATE_TABLE = ['promise', 'function, clause', 'edit that is refused']
 MAP_TABLE = ['promise', 'function, clause', 'crate', 'edit that is refused']
@@ -208,14 +211,10 @@ def section_of(text, heading):
     return match[1].strip() if match else None
 
 
-class Findings:
-    def __init__(self):
-        self.count = 0
-
-    def say(self, file, line, text):
-        self.count += 1
-        place = file.relative_to(ROOT)
-        print(f'{place}:{line}: {text}' if line else f'{place}: {text}')
+def placed(file, line, text):
+    """A finding, with its file, and its line where it has one."""
+    place = file.relative_to(ROOT)
+    return f'{place}:{line}: {text}' if line else f'{place}: {text}'
 
 
 # ---- the checks
@@ -523,7 +522,7 @@ def documents(repository):
 
 
 def main():
-    findings, repository = Findings(), read_crates()
+    findings, repository = Findings(placed), read_crates()
     check_claims(findings, ROOT / 'README.md')
     check_maps(findings, ROOT / 'README.md', repository)
     for crate in repository.values():

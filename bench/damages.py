@@ -6,10 +6,12 @@ again, so that the fault lies deeper. Every damage gives back something for any 
 import re
 import struct
 
+from alewife import ALWAYS, DATA, ENTRY as ENTRY_FORM, HEAD, IMAGE_ROW, LISTS, START, WORD, cut_in_rows
+
 LIES = [0, 1, 2**8, 2**16, 2**31, 2**32 - 1, 2**32, 2**63, 2**64 - 1, 2**64, 10**30]
 ODD_BYTES = b'\x00\t\n\r !+-.0189:AFafxz\x7f\x80\xff'
 NUMBER = re.compile(rb'\b(?:0x[0-9a-fA-F]+|[0-9]+)\b')
-COUNT = re.compile(rb'^(?:image|entries|runs|prints|memory|state) ([0-9]+)$', re.M)
+COUNT = re.compile(f'^(?:image|{"|".join(LISTS)}) ([0-9]+)$'.encode(), re.M)
 
 
 def replaced(data, match, piece):
@@ -217,7 +219,7 @@ def other_parameter(chance, data):
 
 
 TABLE_LINE = re.compile(rb'^(?:[0-9]+ [IDHE] .*|[0-9]+ [0-9]+|[0-9]+ 0x.*|0x.*|(?:node|context|pending|cache|home|packet|link) .*)\n', re.M)
-ENTRY = re.compile(rb'^([0-9]+) ([IDHE]) ([0-9]+)(?: ([0-9]+))?$', re.M)
+ENTRY = re.compile(f'^{ENTRY_FORM}$'.encode(), re.M)
 
 
 def other_row(chance, data):
@@ -266,8 +268,8 @@ def other_entry(chance, data):
 
 
 HEADER = [(4, 2), (6, 1), (7, 1), (8, 1), (9, 1), (10, 2), (12, 4), (16, 4), (20, 4), (24, 4)]
-SECTIONS = [(12, 4), (16, 20), (20, 8), (24, 4)]
-HEAD_BYTES = 28
+SECTIONS = [(12, WORD), (16, DATA.size), (20, START.size), (24, ALWAYS.size)]
+HEAD_BYTES = HEAD.size
 
 
 def other_field(chance, data):
@@ -329,13 +331,7 @@ def listed(lines, start, is_member):
     return end - start - 1
 
 
-MEMBERS = {
-    b'entries': re.compile(rb'[0-9]+ [A-Z]'),
-    b'runs': re.compile(rb'[0-9]+ [0-9]+$'),
-    b'prints': re.compile(rb'[0-9]+ 0x'),
-    b'memory': re.compile(rb'0x'),
-    b'state': re.compile(rb'(?!end$)'),
-}
+MEMBERS = {name.encode(): re.compile(row.encode()) for name, row in LISTS.items()}
 
 
 def mended(data):
@@ -352,10 +348,9 @@ def with_image_mended(lines):
     start = next((at for at, line in enumerate(lines) if line.startswith(b'image ')), None)
     if start is None:
         return b'\n'.join(lines)
-    count = listed(lines, start, re.compile(rb'[0-9a-f]+$').match)
+    count = listed(lines, start, re.compile(IMAGE_ROW.encode()).match)
     digits = b''.join(lines[start + 1 : start + 1 + count])
-    rows = [digits[at : at + 64] for at in range(0, len(digits), 64)]
-    return b'\n'.join([*lines[:start], b'image %d' % (len(digits) // 2), *rows, *lines[start + 1 + count :]])
+    return b'\n'.join([*lines[:start], b'image %d' % (len(digits) // 2), *cut_in_rows(digits), *lines[start + 1 + count :]])
 
 
 # ---- which damages a format may have

@@ -1,28 +1,21 @@
 """The runs of a sweep: the numbers of its options, each run's summary as a row, and the file that rows are kept in."""
+import csv
 import errno
 import fcntl
-import hashlib
+import io
 import itertools
 import math
 import os
 import re
-import subprocess
 from dataclasses import dataclass
 from pathlib import Path
 
+from alewife import RAN, SUMMARY_NAMES, ProgramError, called, digest_of, summary_of
+
 MOST = 1_000_000
-FORM = '''ALEWIFE REPORT 1
-mesh {width} {height} contexts {contexts} lines {lines}
-params pointers {pointers} sets {sets} limit {limit}
-ended {ended}
-entries {entries} turns {turns} misses {misses} evicts {evicts}
-messages RREQ {RREQ} WREQ {WREQ} REPM {REPM} UPDATE {UPDATE} ACKC {ACKC} RDATA {RDATA} WDATA {WDATA} INV {INV} BUSY {BUSY}
-hops {hops} handlers {handlers} spills {spills}
-'''
-SUMMARY = re.compile(re.sub(r'\{(\w+)\}', lambda name: rf'(?P<{name[1]}>{"[^,]+" if name[1] == "ended" else "[0-9]+"})', FORM))
 OPTIONS = ('seed', 'pointers', 'sets', 'limit', 'evict')
 KEY = ('image', *OPTIONS)
-COUNTS = tuple(re.findall(r'\{(\w+)\}', FORM.partition('ended')[2]))
+COUNTS = SUMMARY_NAMES[SUMMARY_NAMES.index('ended'):]
 COLUMNS = ('image', 'width', 'height', 'contexts', 'lines', *OPTIONS, *COUNTS)
 
 
@@ -59,7 +52,7 @@ class Image:
 def read_image(path):
     """The image in a file."""
     data = read(path)
-    return Image(data, hashlib.sha256(data).hexdigest()[:16])
+    return Image(data, digest_of(data))
 
 
 def read(path):
@@ -84,14 +77,13 @@ def row_of(binary, image, options):
     """Runs an image: its row, by the program's summary."""
     words = ['run', *(word for name in OPTIONS for word in (f'--{name}', options[name])), '--write', 'summary']
     try:
-        ran = subprocess.run([binary, *words], input=image.data, stdout=subprocess.PIPE, stderr=subprocess.PIPE)
-    except OSError as fault:
-        raise SweepError(f"{binary} can't be run: {fault.strerror}. Name the program, or build it: ./alewife gen > image") from fault
-    match = SUMMARY.fullmatch(ran.stdout.decode(errors='replace'))
-    if ran.returncode not in (0, 4, 5) or not match:
-        why = ran.stderr.decode(errors='replace').strip() or 'what it wrote is no summary'
-        raise SweepError(f'refused: {" ".join(words)}: status {ran.returncode}, {why}')
-    return {'image': image.digest, **options, **match.groupdict()}
+        ran = called(binary, words, image.data)
+    except ProgramError as error:
+        raise SweepError(str(error)) from error
+    summary = summary_of(ran.out.decode(errors='replace'))
+    if ran.status not in RAN or not summary:
+        raise SweepError(f'refused: {" ".join(words)}: status {ran.status}, {ran.line() or "what it wrote is no summary"}')
+    return {'image': image.digest, **options, **summary}
 
 
 # ---- rows in files
@@ -103,23 +95,24 @@ def key_of(row):
 
 
 def line_of(values):
-    """A line of a table. No value has a comma."""
-    return ','.join(values) + '\n'
+    """A line of a table."""
+    made = io.StringIO()
+    csv.writer(made, lineterminator='\n').writerow(values)
+    return made.getvalue()
 
 
 def read_rows(path, text):
     """The columns of a table of rows, and its rows, each with its line's number."""
-    lines = text.splitlines(keepends=True) or ['']
-    columns = lines[0].strip().split(',')
+    lines, whole = csv.reader(io.StringIO(text, newline='')), text.count('\n')
+    columns = next(lines, [])
     if not set(KEY) <= set(columns):
         raise SweepError(f'{path}: the first line is no header of a sweep')
     rows = []
-    for number, line in enumerate(lines[1:], 2):
-        values = line[:-1].split(',')
+    for values in lines:
         row = dict(zip(columns, values))
-        if not line.endswith('\n') or len(values) != len(columns) or not all(row[name].isdecimal() for name in OPTIONS):
-            raise SweepError(f'{path}: line {number} is no whole row')
-        rows.append((number, row))
+        if lines.line_num > whole or len(values) != len(columns) or not all(row[name].isdecimal() for name in OPTIONS):
+            raise SweepError(f'{path}: line {lines.line_num} is no whole row')
+        rows.append((lines.line_num, row))
     return columns, rows
 
 

@@ -1,15 +1,14 @@
 """The frames of a run: the states that the program writes at the stamps of a trace, each as what differs from the one before."""
 import itertools
 import re
-import struct
-import subprocess
 from concurrent.futures import ThreadPoolExecutor
 from dataclasses import dataclass
 from pathlib import Path
 
+from alewife import WORD, ProgramError, called, checkpoint_of, image_of
+
 MOST_FRAMES = 4000
 AT_ONCE = 2
-HEAD = struct.Struct('>4sHBBBxHIIII')
 LINE_AT = {'pending': 1, 'cache': 2, 'home': 1, 'packet': 2}
 NAMING = {'node': 2, 'context': 2, 'pending': 2, 'cache': 2, 'home': 2, 'packet': 5, 'link': 7}
 WORDS = re.compile(r'(?:hold|wait|trapped) \S+|\S+')
@@ -31,21 +30,20 @@ class Program:
     def call(self, *words):
         """The status of a call, what it wrote, and its line on standard error."""
         try:
-            ran = subprocess.run([self.binary, *words], input=self.trace, stdout=subprocess.PIPE, stderr=subprocess.PIPE)
-        except OSError as fault:
-            raise ViewError(f"{self.binary} can't be run: {fault.strerror}. Name the program, or build it: ./alewife gen > image") from fault
-        return ran.returncode, ran.stdout.decode(errors='replace'), ran.stderr.decode(errors='replace').strip()
+            ran = called(self.binary, words, self.trace)
+        except ProgramError as error:
+            raise ViewError(str(error)) from error
+        return ran.status, ran.out.decode(errors='replace'), ran.line()
 
     def save(self, *words):
         """The lines of a checkpoint: those of the trace up to the cut, and those of the state there."""
         status, text, why = self.call('save', *words)
         if status == 2:
             raise ViewError(f'{self.binary} has no command save ({why}): name another program')
-        lines = text.split('\n')
-        place = next((at for at, line in enumerate(lines) if line.startswith('state ')), None)
-        if status or place is None or lines[-2:] != ['end', ''] or lines[place] != f'state {len(lines) - place - 3}':
+        checkpoint = checkpoint_of(text)
+        if status or not checkpoint:
             raise ViewError(f'refused: {why or f"status {status}, and what save wrote is no checkpoint"}')
-        return lines[1:place], lines[place + 1:-2]
+        return checkpoint
 
     def route(self):
         """The load of each wire as [from, to, count], or None of a trace that has no end, which route refuses."""
@@ -68,32 +66,12 @@ def read_trace(path):
 # ---- what a trace says
 
 
-@dataclass(frozen=True)
-class Run:
-    """What the lines of a trace say: its image, its parameters, and the events of each stamp, as 'D 1 0'."""
-    image: bytes
-    params: dict
-    events: dict
-
-
-def run_of(lines):
-    """The run of the lines from 'image n' to the last entry."""
-    at = next(at for at, line in enumerate(lines) if line.startswith('params '))
-    params, events = lines[at].split()[1:], {}
-    for entry in lines[at + 2:]:
-        stamp, _, event = entry.partition(' ')
-        events.setdefault(int(stamp), []).append(event)
-    return Run(bytes.fromhex(''.join(lines[1:at])), dict(zip(params[::2], map(int, params[1::2]))), dict(sorted(events.items())))
-
-
 def start_of(image):
     """The machine of an image: its sizes, its data lines by number, and its Trap-Always lines."""
-    _, _, width, height, contexts, lines, code, data, starts, always = HEAD.unpack_from(image)
-    place = HEAD.size + 4 * code
-    bodies = dict(struct.unpack_from('>I16s', image, place + 20 * each) for each in range(data))
-    listed = struct.unpack_from(f'>{always}I', image, place + 20 * data + 8 * starts)
-    words = {line: ' '.join(f'0x{body[at:at + 4].hex()}' for at in (0, 4, 8, 12)) for line, body in bodies.items()}
-    return {'mesh': [width, height], 'contexts': contexts, 'lines': lines, 'code': code, 'bodies': words, 'always': listed}
+    read = image_of(image)
+    words = {line: ' '.join(f'0x{body[at:at + WORD].hex()}' for at in range(0, len(body), WORD)) for line, body in read.data.items()}
+    width, height, contexts, lines = read.sizes
+    return {'mesh': [width, height], 'contexts': contexts, 'lines': lines, 'code': len(read.code) // WORD, 'bodies': words, 'always': read.always}
 
 
 def stamps_of(run, first, last):

@@ -1,10 +1,10 @@
 """A picture (SVG) of a frame: the mesh, what each node has of one line, and the messages on their way, each along its route."""
-import hashlib
 from collections import Counter
 from dataclasses import dataclass, field
 from html import escape
 
 import frames
+from alewife import digest_of
 
 WIDE, ROW, ACROSS, DOWN, MARGIN = 182, 14, 52, 32, 14
 LETTERS, LETTER = 26, 6.6
@@ -75,11 +75,6 @@ class Mesh:
 
 
 # ---- what a state says of a line
-
-
-def digest_of(image):
-    """The first 16 digits of an image's SHA-256, by which a picture names it."""
-    return hashlib.sha256(image).hexdigest()[:16]
 
 
 def home_row(words):

@@ -9,10 +9,13 @@ import struct
 import subprocess
 import sys
 import tempfile
-from collections import namedtuple
 from pathlib import Path
 
 HERE = Path(__file__).resolve().parent
+sys.path.insert(0, str(HERE.parent.parent / 'tools'))
+sys.dont_write_bytecode = True
+from alewife import Image, Sizes
+
 COMPILERS = ['sparc64-linux-gnu-gcc'] + [f'sparc64-linux-gnu-gcc-{version}' for version in range(20, 7, -1)]
 BINUTILS = ('as', 'ld', 'objcopy', 'objdump', 'nm', 'addr2line')
 SHARED = 0x40000000
@@ -23,9 +26,6 @@ MOST_WORDS = 65536
 FLAGS = ['-m32', '-mcpu=v7', '-mflat', '-msoft-float', '-ffreestanding', '-std=c11', '-O2', '-gdwarf-5', '-Wall', '-Wextra',
          '-fno-delayed-branch', '-fno-jump-tables', '-fno-pic', '-fno-pie', '-fno-stack-protector', '-fno-common', '-ffixed-g5',
          '-fno-asynchronous-unwind-tables', '-fno-tree-loop-distribute-patterns', '-ffunction-sections', '-fdata-sections']
-
-Sizes = namedtuple('Sizes', 'width height contexts lines')
-
 
 class BuildError(Exception):
     """Why there is no image."""
@@ -174,15 +174,10 @@ def check_code(program, words):
 
 
 def image(sizes, code, data, start):
-    """An image: its head, the code, each line of data that isn't 0, and where each context starts."""
+    """The image of code, with each line of data that isn't 0, and a start for each context."""
     lines = [data[at:at + 16].ljust(16, b'\0') for at in range(0, len(data), 16)]
-    listed = [(number, line) for number, line in enumerate(lines) if any(line)]
-    starts = [(node, slot) for node in range(sizes.width * sizes.height) for slot in range(sizes.contexts)]
-    version = 1 if max(sizes.width, sizes.height) <= 8 else 2
-    head = struct.pack('>4sHBBBBH4I', b'ALEW', version, sizes.width, sizes.height, sizes.contexts, 0, sizes.lines,
-                       len(code) // 4, len(listed), len(starts), 0)
-    return (head + code + b''.join(struct.pack('>I16s', *line) for line in listed)
-            + b''.join(struct.pack('>HBBI', node, slot, 0, start) for node, slot in starts))
+    starts = tuple((node, slot, start) for node in range(sizes.width * sizes.height) for slot in range(sizes.contexts))
+    return Image(sizes, code, {number: line for number, line in enumerate(lines) if any(line)}, starts).packed()
 
 
 def build(files, sizes, keep=None):
