@@ -1,6 +1,6 @@
 -- What words without a bad place ask for, by the tables of commands and options. A command leaves choices, numbered from 0, and an option makes
 -- one of them, by a value of its kind.
-use Rattle.std.specs.Prelude.{ℕ, suc, ◌+◌, ◌==◌, ◌||◌, ◌&&◌, nat_lt, Bool, false, List, [], ◌∷◌, map, slice_index_or, if◌then◌else◌}
+use Rattle.std.specs.Prelude.{ℕ, suc, ◌+◌, ◌==◌, ◌||◌, ◌&&◌, nat_lt, Bool, false, List, [], ◌∷◌, codes, slice_index_or, if◌then◌else◌}
 use Rattle.std.specs.Prelude.{Option, None, Some, option_map, option_and_then}
 use Rattle.std.specs.Option.{option_map_or}
 use Rattle.alw_config.specs.declared.commands.Command.{Command}
@@ -9,42 +9,56 @@ use Rattle.alw_config.specs.declared.rows.Value.{Value}
 use Rattle.alw_config.specs.declared.rows.Value.TheVariants.{Number, How, AsmForm, Form}
 use Rattle.alw_config.specs.declared.rows.Name.{Name}
 use Rattle.alw_config.specs.declared.rows.Name.TheVariants.{Asm, Run, Replay, Audit, Gen, Route, Save, Resume}
+use Rattle.alw_config.specs.declared.rows.Kind.{Kind}
+use Rattle.alw_config.specs.declared.rows.Kind.TheVariants as kinds
+use Rattle.alw_config.specs.declared.commands.How.TheVariants as hows
+use Rattle.alw_config.specs.declared.commands.AsmForm.TheVariants as asms
+use Rattle.alw_config.specs.declared.commands.Form.TheVariants as forms
 use Rattle.alw_config.specs.declared.rows.Meaning.{Meaning}
 use Rattle.alw_config.specs.declared.rows.Made.{Made}
 use Rattle.alw_config.specs.declared.rows.Rule.{Rule}
-use Rattle.alw_config.specs.declared.rows.TheConstants.{COMMANDS, ASM_OPTIONS, ASM_DEFAULTS, RUN_OPTIONS, RUN_DEFAULTS, REPLAY_OPTIONS, REPLAY_DEFAULTS}
-use Rattle.alw_config.specs.declared.rows.TheConstants.{AUDIT_OPTIONS, AUDIT_DEFAULTS, GEN_OPTIONS, GEN_DEFAULTS, GEN_RULE, ROUTE_OPTIONS, ROUTE_DEFAULTS}
-use Rattle.alw_config.specs.declared.rows.TheConstants.{SAVE_OPTIONS, SAVE_DEFAULTS, RESUME_OPTIONS, RESUME_DEFAULTS}
 use Rattle.alw_config.specs.Values.{row_of, value_of}
 
 -- the commands, by their names
 abbrev pub commands : List (List ℕ × Name)
-commands = map (λ row. (row.0.now, row.1)) COMMANDS
+commands =
+    (codes "asm", Asm) ∷ (codes "run", Run) ∷ (codes "replay", Replay) ∷ (codes "audit", Audit) ∷ (codes "gen", Gen) ∷ (codes "route", Route) ∷ (codes "save", Save) ∷
+    (codes "resume", Resume) ∷ []
 
 -- options, by their names
 abbrev pub Options : Type 0
 Options = List (List ℕ × Meaning)
 
+-- an option that makes a choice by a value of a kind
+abbrev pub makes_by : ℕ → Kind → Meaning
+makes_by choice kind = record { choice = choice; kind = kind }
+
 -- a command's options, and its choices where no option makes them
 abbrev pub options_of : Name → Options
-options_of Asm = map (λ row. (row.0.now, row.1)) ASM_OPTIONS
-options_of Run = map (λ row. (row.0.now, row.1)) RUN_OPTIONS
-options_of Replay = map (λ row. (row.0.now, row.1)) REPLAY_OPTIONS
-options_of Audit = map (λ row. (row.0.now, row.1)) AUDIT_OPTIONS
-options_of Gen = map (λ row. (row.0.now, row.1)) GEN_OPTIONS
-options_of Route = map (λ row. (row.0.now, row.1)) ROUTE_OPTIONS
-options_of Save = map (λ row. (row.0.now, row.1)) SAVE_OPTIONS
-options_of Resume = map (λ row. (row.0.now, row.1)) RESUME_OPTIONS
+options_of Asm = (codes "--write", makes_by 0 kinds.AsmForm) ∷ []
+options_of Run =
+    (codes "--seed", makes_by 0 kinds.Seed) ∷ (codes "--workers", makes_by 0 kinds.Workers) ∷ (codes "--pointers", makes_by 1 (kinds.Between 1 8)) ∷
+    (codes "--sets", makes_by 2 kinds.SetCount) ∷ (codes "--limit", makes_by 3 (kinds.Between 1 1048576)) ∷ (codes "--evict", makes_by 4 (kinds.Between 0 255)) ∷
+    (codes "--write", makes_by 5 kinds.Form) ∷ []
+options_of Replay = (codes "--write", makes_by 0 kinds.Form) ∷ []
+options_of Audit = []
+options_of Gen =
+    (codes "--seed", makes_by 0 (kinds.Between 0 18446744073709551615)) ∷ (codes "--width", makes_by 1 (kinds.Between 1 16)) ∷
+    (codes "--height", makes_by 2 (kinds.Between 1 16)) ∷ (codes "--size", makes_by 3 (kinds.Between 1 255)) ∷ []
+options_of Route = (codes "--seed", makes_by 0 (kinds.Between 0 18446744073709551615)) ∷ []
+options_of Save = (codes "--at", makes_by 0 (kinds.Between 0 4294967295)) ∷ []
+options_of Resume =
+    (codes "--seed", makes_by 0 (kinds.Between 0 18446744073709551615)) ∷ (codes "--evict", makes_by 1 (kinds.Between 0 255)) ∷ (codes "--write", makes_by 2 kinds.Form) ∷ []
 
 abbrev pub defaults_of : Name → List Value
-defaults_of Asm = ASM_DEFAULTS
-defaults_of Run = RUN_DEFAULTS
-defaults_of Replay = REPLAY_DEFAULTS
-defaults_of Audit = AUDIT_DEFAULTS
-defaults_of Gen = GEN_DEFAULTS
-defaults_of Route = ROUTE_DEFAULTS
-defaults_of Save = SAVE_DEFAULTS
-defaults_of Resume = RESUME_DEFAULTS
+defaults_of Asm = AsmForm asms.Image ∷ []
+defaults_of Run = How (hows.Seed 0) ∷ Number 4 ∷ Number 256 ∷ Number 32768 ∷ Number 0 ∷ Form forms.Report ∷ []
+defaults_of Replay = Form forms.Report ∷ []
+defaults_of Audit = []
+defaults_of Gen = Number 0 ∷ Number 4 ∷ Number 4 ∷ Number 16 ∷ []
+defaults_of Route = Number 0 ∷ []
+defaults_of Save = Number 4294967295 ∷ []
+defaults_of Resume = Number 0 ∷ Number 0 ∷ Form forms.Report ∷ []
 
 -- a word is an option that makes this choice
 abbrev pub makes : Options → ℕ → List ℕ → Bool
@@ -80,9 +94,9 @@ values_from choice options (default ∷ rest) words =
 
 -- ---- a rule over several choices
 
--- a command's rule, where it has one
+-- a command's rule, where it has one: a mesh of more than 8 columns or rows has at most 63 operations a node
 abbrev pub rule_of : Name → Option Rule
-rule_of Gen = Some GEN_RULE
+rule_of Gen = Some (record { one = 1; other = 2; above = 8; third = 3; most = 63 })
 rule_of _ = None
 
 -- the number that a value is, and 0 where it is none

@@ -1,5 +1,5 @@
 -- The words that options take as their values, and what each stands for.
-use Rattle.std.specs.Prelude.{ℕ, ◌&&◌, ◌==◌, Bool, List, [], ◌∷◌, map, nat_le, decimal, bytes_eq, if◌then◌else◌, Option, None, Some, option_map}
+use Rattle.std.specs.Prelude.{ℕ, ◌&&◌, ◌==◌, Bool, List, [], ◌∷◌, codes, nat_le, decimal, bytes_eq, if◌then◌else◌, Option, None, Some, option_map}
 use Rattle.std.specs.List.{list_any}
 use Rattle.std.specs.Str.Parse.{digits_value}
 use Rattle.alw_image.specs.Parameters.{set_counts}
@@ -10,7 +10,8 @@ use Rattle.alw_config.specs.declared.rows.Value.{Value}
 use Rattle.alw_config.specs.declared.rows.Value.TheVariants as values
 use Rattle.alw_config.specs.declared.rows.Kind.{Kind}
 use Rattle.alw_config.specs.declared.rows.Kind.TheVariants as kinds
-use Rattle.alw_config.specs.declared.rows.TheConstants.{ASM_FORMS, FORMS}
+use Rattle.alw_config.specs.declared.commands.AsmForm.TheVariants as asms
+use Rattle.alw_config.specs.declared.commands.Form.TheVariants as runs
 
 -- what a name stands for in a table: by the first row that has it
 abbrev pub row_of : {X : Type 0} → List (List ℕ × X) → List ℕ → Option X
@@ -19,10 +20,10 @@ row_of (row ∷ rest) name = if bytes_eq row.0 name then Some row.1 else row_of 
 
 -- what is written
 abbrev pub asm_forms : List (List ℕ × AsmForm)
-asm_forms = map (λ row. (row.0.now, row.1)) ASM_FORMS
+asm_forms = (codes "image", asms.Image) ∷ (codes "listing", asms.Listing) ∷ []
 
 abbrev pub forms : List (List ℕ × Form)
-forms = map (λ row. (row.0.now, row.1)) FORMS
+forms = (codes "report", runs.Report) ∷ (codes "json", runs.Json) ∷ (codes "trace", runs.Trace) ∷ (codes "claim", runs.Claim) ∷ (codes "summary", runs.Summary) ∷ []
 
 -- the number whose decimal digits a word is
 abbrev pub number_of : List ℕ → ℕ

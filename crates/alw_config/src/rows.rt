@@ -1,4 +1,4 @@
-//! The tables of command words: each row is a name, and what it stands for.
+//! The tables of command words: each row is a name, and what it stands for. The definitions have them as literals.
 
 use crate::commands::{AsmForm, Form, How};
 use alw_image::{MOST_LIMIT, MOST_POINTERS};

@@ -1,7 +1,6 @@
 -- The parameters of a run, each with its range.
-use Rattle.std.specs.Prelude.{ℕ, ◌≤◌, IsTrue, List, ◌==◌}
+use Rattle.std.specs.Prelude.{ℕ, ◌≤◌, IsTrue, List, [], ◌∷◌, ◌==◌}
 use Rattle.std.specs.List.{list_any}
-use Rattle.alw_image.specs.declared.parameters.TheConstants.{MOST_POINTERS, SET_COUNTS, MOST_LIMIT}
 
 -- hardware pointers of an entry, sets of a cache, the greatest stamp, and evictions tried of 256 draws
 pub record Parameters : Type 0 where
@@ -12,13 +11,13 @@ pub record Parameters : Type 0 where
 
 -- the powers of two from 4 to 4096
 abbrev pub set_counts : List ℕ
-set_counts = SET_COUNTS
+set_counts = 4 ∷ 8 ∷ 16 ∷ 32 ∷ 64 ∷ 128 ∷ 256 ∷ 512 ∷ 1024 ∷ 2048 ∷ 4096 ∷ []
 
 -- each is within its range
 pub record AreParameters (p : Parameters) : Type 0 where
   pub some_pointer : 1 ≤ p.pointers
-  pub pointers : p.pointers ≤ MOST_POINTERS
+  pub pointers : p.pointers ≤ 8
   pub sets : IsTrue (list_any (λ n. p.sets == n) set_counts)
   pub some_limit : 1 ≤ p.limit
-  pub limit : p.limit ≤ MOST_LIMIT
+  pub limit : p.limit ≤ 1048576
   pub evict : p.evict ≤ 255
