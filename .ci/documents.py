@@ -2,23 +2,23 @@
 """Checks that the documents say what stands. Prints a line for each finding, and ends with 1 where there is one.
 
 What is tested:
-- README.md's maps of promises: each row has a promise, functions with their clauses, crates, and edits. The functions
-  and edits stand in one of the row's crates, and each row has an edit. The promises are those of the list of claims,
-  '- **promise**: claim', in its order, and a claim has a line of at most 100 characters.
-- each crate's README: its headings, its table (the same without the crates, and a row needs no edit), that each edit of the
-  crate has a row, and that 'Left open' speaks of want of memory where a public function may answer nothing but that.
-- README.md, docs/ and each crate's README: each name in `code` that looks like one of the repository's is declared in it,
-  and each path is there, as is what links lead to. CHANGES.md may name what is gone.
+- README.md: at most 150 lines, each under 120 characters, and eight links to promises of docs/PROMISES.md.
+- each crate's README: its headings; its table of promises, whose rows have functions of the crate with their clauses, and edits;
+  that each edit of the crate stands in a row; and that 'Left open' speaks of want of memory where a public function may
+  answer nothing but that. A row may begin with a name, '**name**: ', and a named promise has an edit in one of its rows.
+- README.md, docs/, bench/README.md and each crate's README: each name in `code` that looks like one of the repository's is
+  declared in it, and each path is there, as is what links lead to, with the place in its page. CHANGES.md may name what is gone.
 - the manual page, the completions, the launcher's help and README.md have the command words of alw_config, and no other options.
 - each edit still fits: its old text stands once in its file.
-- each block of README.md that shows commands or C is a file of examples/, of which the checks there run each.
+- each block of README.md and docs/EXAMPLES.md that shows commands or C is a file of examples/, of which the checks there run
+  each, and each file *.shell of examples/ stands in one of the two.
 - docs/ARCHITECTURE.md has each crate of crates.txt, and no other.
 - a crate of crates.txt stands on crates of its own floor and of those that the floor's line names; what it lists else is of the toolchain.
 - docs/REFUSALS.md: each row has calls of its crate, a clause of one of them or a word of it, and tests; and each call of these crates that
   answers a Result or an Option has a row.
 
 A row's second cell is read like this: parts are parted by ';', and what stands in `code` in a part is a function, method or
-type of the row's crates, or a clause of one named before it in that part. In brackets stand definitions, or an edit's crate.
+type of the crate, or a clause of one named before it in that part. In brackets stand definitions, or an edit's crate.
 """
 import re
 import sys
@@ -31,7 +31,6 @@ from alewife import Findings, ROOT
 
 HEADINGS = ['What it does', 'What a contract sees', 'What is proved', 'What is only tested', 'Left open', 'A caller']
 CRATE_TABLE = ['promise', 'function, clause', 'edit that is refused']
-MAP_TABLE = ['promise', 'function, clause', 'crate', 'edit that is refused']
 REFUSAL_TABLE = ['call', 'refuses', 'clause', 'what stands', 'succeeds in']
 
 # Words in `code` that the repository doesn't declare: of Rust and its library, of the toolchain, and of the shell.
@@ -260,39 +259,52 @@ def check_edits(findings, file, row, cell, crates, repository):
     return found
 
 
-CLAIM = re.compile(r'^- \*\*(.*?)\*\*: .*$', re.M)
+NAME = re.compile(r'\*\*([^*]+)\*\*: ')
 
 
-def maps_of(text):
-    """The rows of the maps of promises."""
-    return [row for head, rows in tables_of(text) if head == MAP_TABLE for row in rows]
+def promise_rows(crate):
+    """The rows of a crate's table of promises."""
+    text = crate.readme().read_text() if crate.readme().is_file() else ''
+    return [row for head, rows in tables_of(text) if head == CRATE_TABLE for row in rows]
 
 
-def check_claims(findings, file):
-    """The claims of README.md are the promises of its maps, in their order, a line each."""
-    text = file.read_text()
-    claims, promises = [claim[1] for claim in CLAIM.finditer(text)], [row.cells[0] for row in maps_of(text)]
-    for claim in CLAIM.finditer(text):
-        if len(claim[0]) > 100:
-            findings.say(file, 0, f'the line of the claim {claim[1]} has {len(claim[0])} characters')
-    if claims != promises:
-        missing = sorted(set(claims) ^ set(promises))
-        findings.say(file, 0, f'claims and rows differ: {", ".join(missing) or "their order"}')
+def name_of(row):
+    """The name of a row's promise, or None."""
+    match = NAME.match(row.cells[0])
+    return match[1] if match else None
 
 
-def check_maps(findings, file, repository):
-    """The maps of promises of README.md."""
-    rows = maps_of(file.read_text())
-    if not rows:
-        findings.say(file, 0, f'no table with the head {MAP_TABLE}')
-    for row in rows:
-        crates = [repository[name] for name in SPAN.findall(row.cells[2]) if name in repository]
-        if not crates or len(row.cells) != len(MAP_TABLE):
-            findings.say(file, row.line, 'a row without its crates')
-            continue
-        check_contract(findings, file, row, row.cells[1], crates)
-        if not check_edits(findings, file, row, row.cells[3], crates, repository):
-            findings.say(file, row.line, 'a row without an edit')
+def named_rows(repository):
+    """The rows of each named promise, by its name, each with its crate; floor by floor."""
+    found = {}
+    for name in crates_in_order():
+        for row in promise_rows(repository[name]) if name in repository else ():
+            if name_of(row):
+                found.setdefault(name_of(row), []).append((repository[name], row))
+    return found
+
+
+def check_promises(findings, repository):
+    """Each named promise has an edit."""
+    for name, rows in named_rows(repository).items():
+        if not any(row.cells[2] for _, row in rows):
+            findings.say(rows[0][0].readme(), rows[0][1].line, f'the promise {name} has no edit')
+
+
+PROMISE_LINK = re.compile(r'\]\(docs/PROMISES\.md#([^)]+)\)')
+
+
+def check_readme(findings):
+    """README.md is a page that one reads, with eight promises. `check_links` says whether they are there."""
+    file = ROOT / 'README.md'
+    lines = file.read_text().splitlines()
+    if len(lines) > 150:
+        findings.say(file, 0, f'has {len(lines)} lines, and at most 150 are wanted')
+    for number, line in enumerate(lines, 1):
+        if len(line) >= 120:
+            findings.say(file, number, f'has {len(line)} characters, and fewer than 120 are wanted')
+    if len(set(PROMISE_LINK.findall('\n'.join(lines)))) != 8:
+        findings.say(file, 0, 'links to other than eight promises of docs/PROMISES.md')
 
 
 def check_form(findings, file, text, crate):
@@ -324,11 +336,10 @@ def check_crate(findings, crate, repository):
     text = file.read_text()
     check_form(findings, file, text, crate)
     check_left_open(findings, file, text, crate, repository)
+    if [head for head, _ in tables_of(text)].count(CRATE_TABLE) != 1:
+        findings.say(file, 0, f'has not one table with the head {CRATE_TABLE}')
     named = set()
-    tables = [rows for head, rows in tables_of(text) if head == CRATE_TABLE]
-    if len(tables) != 1:
-        findings.say(file, 0, f'has {len(tables)} tables with the head {CRATE_TABLE}')
-    for row in (row for rows in tables for row in rows):
+    for row in promise_rows(crate):
         check_contract(findings, file, row, row.cells[1], [crate])
         named |= check_edits(findings, file, row, row.cells[2], [crate], repository)
     for edit in sorted(crate.edits - {name for owner, name in named if owner == crate.name}):
@@ -336,7 +347,7 @@ def check_crate(findings, crate, repository):
 
 
 PATH = re.compile(r'^[\w.*-]+(/[\w.*-]*)+$|^[\w-]+\.(?:rt|antt|md|s|sh|py|txt)$')
-LINK = re.compile(r'\]\(([^):#\s]+)\)')
+LINK = re.compile(r'\]\(([^):#\s]*)(?:#([^):\s]+))?\)')
 WORD = re.compile(r'[A-Za-z_◌][\w-]*')
 
 
@@ -356,10 +367,24 @@ def check_names(findings, file, repository, folder):
 
 
 def check_links(findings, file):
-    """What a link or a picture leads to is there."""
-    for path in LINK.findall(without_fences(file.read_text())):
-        if not (file.parent / path).exists():
+    """What a link or a picture leads to is there, and the place in a page too."""
+    for path, place in LINK.findall(without_fences(file.read_text())):
+        target = file.parent / path if path else file
+        if not target.exists():
             findings.say(file, 0, f'there is no {path}')
+        elif place and place not in places_of(target):
+            findings.say(file, 0, f'there is no place {place} in {path or file.name}')
+
+
+def anchor(heading):
+    """The place in a page that a heading makes: its words in small letters, joined by '-'."""
+    return re.sub(r'[^\w -]', '', heading.lower()).replace(' ', '-')
+
+
+def places_of(file):
+    """The places in a page that links can lead to."""
+    text = file.read_text()
+    return {anchor(heading) for heading in re.findall(r'^#+ (.*)$', text, re.M)} | set(re.findall(r'<a id="([^"]+)"></a>', text))
 
 
 def is_there(path, folder):
@@ -426,13 +451,18 @@ def check_words(findings):
 
 def check_architecture(findings, repository):
     """crates.txt, the folders of crates/ and the table of docs/ARCHITECTURE.md have the same crates."""
-    listed = re.findall(r'^(\w+)(?: \w+=?\w*)*:', (ROOT / 'crates.txt').read_text(), re.M)
+    listed = crates_in_order()
     file = ROOT / 'docs' / 'ARCHITECTURE.md'
     shown = [name for head, rows in tables_of(file.read_text()) if head[0] == 'crate' for row in rows for name in SPAN.findall(row.cells[0])]
     for name in sorted(set(listed) ^ set(repository)):
         findings.say(ROOT / 'crates.txt', 0, f'{name} stands in crates.txt or in crates/, and not in both')
     for name in sorted(set(shown) ^ set(listed)):
         findings.say(file, 0, f'{name} stands in its table or in crates.txt, and not in both')
+
+
+def crates_in_order():
+    """The crates of crates.txt."""
+    return re.findall(r'^(\w+)(?: \w+=?\w*)*:', (ROOT / 'crates.txt').read_text(), re.M)
 
 
 FLOOR = re.compile(r'^# (\w+)(?:, on ([\w, ]+))?: .*\n((?:\w+.*\n)+)', re.M)
@@ -502,18 +532,24 @@ def check_all_refuse(findings, file, named, repository):
 
 
 def check_examples(findings):
-    """Each block of README.md that shows commands is one of the examples, which examples/check runs, and each in C is a program there."""
-    file = ROOT / 'README.md'
-    kept = {kind: [example.read_text() for example in (ROOT / 'examples').rglob(f'*.{kind}')] for kind in ('shell', 'c')}
-    for language, block in re.findall(r'^```(\w*)\n(.*?)^```$', file.read_text(), flags=re.M | re.S):
-        kind = 'c' if language == 'c' else 'shell'
-        if (language == 'c' or block.startswith('$ ')) and block not in kept[kind]:
-            findings.say(file, 0, f"no file *.{kind} of examples/ is the block that begins with '{block.splitlines()[0]}'")
+    """Each block of the two pages that shows commands is one of the examples, which examples/check runs, and each in C is a program there."""
+    examples = {kind: {example.read_text(): example for example in (ROOT / 'examples').rglob(f'*.{kind}')} for kind in ('shell', 'c')}
+    shown = set()
+    for file in (ROOT / 'README.md', ROOT / 'docs' / 'EXAMPLES.md'):
+        for language, block in re.findall(r'^```(\w*)\n(.*?)^```$', file.read_text(), flags=re.M | re.S):
+            kind = 'c' if language == 'c' else 'shell'
+            shown.add(block)
+            if (language == 'c' or block.startswith('$ ')) and block not in examples[kind]:
+                findings.say(file, 0, f"no file *.{kind} of examples/ is the block that begins with '{block.splitlines()[0]}'")
+    for text, example in examples['shell'].items():
+        if text not in shown:
+            findings.say(example, 0, 'stands neither in README.md nor in docs/EXAMPLES.md')
 
 
 def documents(repository):
     """The files whose names are checked, each with the folder that its paths may start from."""
     yield ROOT / 'README.md', ROOT
+    yield ROOT / 'bench' / 'README.md', ROOT / 'bench'
     for file in sorted((ROOT / 'docs').glob('*.md')):
         yield file, ROOT / 'docs'
     for crate in repository.values():
@@ -523,8 +559,8 @@ def documents(repository):
 
 def main():
     findings, repository = Findings(placed), read_crates()
-    check_claims(findings, ROOT / 'README.md')
-    check_maps(findings, ROOT / 'README.md', repository)
+    check_readme(findings)
+    check_promises(findings, repository)
     for crate in repository.values():
         check_crate(findings, crate, repository)
         for edit in sorted(crate.folder.glob('must-fail/*.edit')):

@@ -1,5 +1,5 @@
 #!/usr/bin/env python3
-"""Writes docs/TRUSTED.md: of each promise of README.md, the definitions that its clauses reach.
+"""Writes docs/TRUSTED.md: of each named promise of the crates' READMEs, the definitions that its clauses reach.
 
     .ci/trusted.py           writes the page
     .ci/trusted.py --check   ends with 1 where the page isn't what would be written, and says so
@@ -193,11 +193,10 @@ def clauses_of(row, crates):
             yield function, [c for c in function.clauses if not named or c in named or c.kind == 'requires']
 
 
-def reach_of(sources, row, repository):
-    """What a row of the map reaches."""
-    crates = [repository[name] for name in SPAN.findall(row.cells[2]) if name in repository]
+def reach_of(sources, crate, row):
+    """What a row of a crate's table reaches."""
     starts = []
-    for function, clauses in clauses_of(row, crates):
+    for function, clauses in clauses_of(row, [crate]):
         here = sources.files[function.file]
         starts += [(here, clause.text) for clause in clauses] + [(here, function.signature)]
     return reached_from(sources, starts)
@@ -225,18 +224,20 @@ def listed(sources, items):
 
 HEAD = """# What must be believed
 
-A clause says what its definitions say. This page tells, of each promise of README.md, which definitions its clauses reach: those that they name,
-those that these name, and so on. They are what a reader must believe of it, besides the clause itself and the toolchain's own words; code, proofs
-and all other definitions of `specs/` are held to them, or play no part. Lines are without comments and imports. Types are those of Rust that the
-definitions or the signatures name: their fields, or what contracts see of them, are believed too. `.ci/trusted.py` writes this page, and the gate
-refuses one that isn't current.
+A clause says what its definitions say. This page lists, for each named promise of `docs/PROMISES.md`, the definitions
+that its clauses reach: those that they name, those that these name, and so on. They are what a reader must believe of
+it, besides the clause itself and the toolchain's own words. The checker holds code and proofs to them; all other
+definitions of `specs/` play no part. Lines are without comments and imports. Types are those of Rust that definitions or
+signatures name: a reader believes their fields, or what contracts see of them, too. `.ci/trusted.py` writes this page,
+and the gate refuses one that isn't current.
 """
 
 
 def page(repository):
     sources = read_sources(repository)
-    rows = documents.maps_of((ROOT / 'README.md').read_text())
-    reaches = [(row.cells[0], reach_of(sources, row, repository)) for row in rows]
+    reaches = [(name, set().union(*(reach_of(sources, crate, row) for crate, row in rows)))
+               for name, rows in documents.named_rows(repository).items()]
+    unnamed = [reach_of(sources, crate, row) for crate in repository.values() for row in documents.promise_rows(crate) if not documents.name_of(row)]
     out = [HEAD, '| promise | files | definitions | lines | types |', '|---|---|---|---|---|']
     out += ['| ' + ' | '.join([promise, *map(str, counted(sources, items))]) + ' |' for promise, items in reaches]
     every = set().union(*(items for _, items in reaches))
@@ -247,11 +248,11 @@ def page(repository):
         groups.setdefault(frozenset(item for item in items if item[0] == 'definition'), []).append(promise)
     for items, promises in groups.items():
         text = f'**{", ".join(promises)}**. ' + ('; '.join(listed(sources, items)) or 'No definition of the repository') + '.'
-        out += [textwrap.fill(text, 150, break_long_words=False, break_on_hyphens=False), '']
+        out += [textwrap.fill(text, 118, break_long_words=False, break_on_hyphens=False), '']
     out += ['## Reached by no promise', '',
-            'Definitions of `specs/` that no promise above reaches: words of private functions, of proofs, and of laws that README.md doesn\'t list.', '']
-    unreached = {('definition', *key, name) for key, spec in sources.specs.items() for name in spec.definitions} - every
-    out += [textwrap.fill('; '.join(listed(sources, unreached)) + '.', 150, break_long_words=False, break_on_hyphens=False), '']
+            'Definitions of `specs/` that no promise reaches, named or not: words of private functions and of proofs.', '']
+    unreached = {('definition', *key, name) for key, spec in sources.specs.items() for name in spec.definitions} - every.union(*unnamed)
+    out += [textwrap.fill('; '.join(listed(sources, unreached)) + '.', 118, break_long_words=False, break_on_hyphens=False), '']
     return '\n'.join(out)
 
 
