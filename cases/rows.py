@@ -76,11 +76,11 @@ def write(group, rows):
 
 
 def form_of(data):
-    """How bytes stand in a row: a text as itself, other bytes in hexadecimal, and many of these by their digest."""
-    if data.isascii() and all(byte >= 32 or byte in b'\t\n\r' for byte in data):
-        return data.decode()
+    """How an output stands in a row: a text as itself, other bytes in hexadecimal, and what is long by its digest."""
     if len(data) > LONGEST:
         return {'sha256': hashlib.sha256(data).hexdigest(), 'bytes': len(data)}
+    if data.isascii() and all(byte >= 32 or byte in b'\t\n\r' for byte in data):
+        return data.decode()
     return {'hex': data.hex()}
 
 
@@ -104,25 +104,27 @@ def run(program, words, data):
     return Answer(ran.returncode, ran.stdout, ran.stderr.decode(errors='replace'))
 
 
+def opened(given):
+    """The bytes of an input, or an open file of so many bytes of 0."""
+    if isinstance(given, str):
+        return given.encode()
+    if 'hex' in given:
+        return bytes.fromhex(given['hex'])
+    file = tempfile.TemporaryFile()
+    file.truncate(given['zeros'])
+    return file
+
+
 def answer_of(program, row):
     """What a program answers to a row's line. A command that says something on standard error is the last that is run."""
-    with tempfile.TemporaryFile() as zeros:
-        given = row.get('input', '')
-        if isinstance(given, str):
-            data = given.encode()
-        elif 'hex' in given:
-            data = bytes.fromhex(given['hex'])
-        else:
-            data = zeros
-            zeros.truncate(given['zeros'])
-        before = []
-        for words in commands(row):
-            answer = run(program, words, data)
-            if answer.error:
-                break
-            data = answer.output
-            before.append(data)
-    answer.before = before[:len(commands(row)) - 1]
+    data, before = opened(row.get('input', '')), []
+    for words in commands(row):
+        answer = run(program, words, data)
+        before.append(answer.output)
+        data = answer.output
+        if answer.error:
+            break
+    answer.before = before[:-1]
     return answer
 
 
@@ -150,8 +152,8 @@ def output_difference(row, answer):
         missing = [text for text in wanted['holds'] if text.encode() not in written]
         return f'the output has no {missing[0]!r}' if missing else None
     if isinstance(wanted, dict) and 'sha256' in wanted:
-        return None if form_of(written) == wanted or hashlib.sha256(written).hexdigest() == wanted['sha256'] else \
-            f'the output of {len(written)} bytes has another digest'
+        is_same = hashlib.sha256(written).hexdigest() == wanted['sha256']
+        return None if is_same else f'the output, of {len(written)} bytes, has another digest'
     if isinstance(wanted, dict) and 'of' in wanted:
         expected = answer.before[wanted['of'] - 1] if len(answer.before) >= wanted['of'] else b''
     else:
