@@ -1,4 +1,4 @@
-/* What a program asks of the machine: print a word, test and set, exchange, give way, a lock, a barrier.
+/* What a program asks of the machine: print words, test and set, exchange, give way, locks, a barrier.
 
    A program has one function, `program`, which each context runs to its end. Built for this machine (examples/c/build), a context is a
    context of a node; built natively with native.c, it is a thread. A native build is what a run's prints are compared with. */
@@ -7,20 +7,15 @@
 
 #include <stddef.h>
 #include <stdint.h>
+#include <string.h>
 
-/* The program. `context` counts from 0, and there are `contexts`. */
+/* The program. `context` counts from 0, and there are `contexts`, at most CONTEXTS. */
 void program(uint32_t context, uint32_t contexts);
 
 /* A variable with this begins a line of 16 bytes, so that it shares none with what stands before it. */
 #define LINE __attribute__((aligned(16)))
 
 #ifdef __sparc__
-
-/* Of the C library there is this. */
-void *memcpy(void *restrict to, const void *restrict from, size_t count);
-void *memmove(void *to, const void *from, size_t count);
-void *memset(void *to, int byte, size_t count);
-int memcmp(const void *one, const void *other, size_t count);
 
 /* Prints a word: a line `context 0xword` of the report. */
 static inline void print(uint32_t word)
@@ -44,6 +39,28 @@ static inline uint32_t exchange(uint32_t *word, uint32_t value)
     return value;
 }
 
+/* Loads and stores a word that other contexts store or load meanwhile: one instruction, where it stands in the program. */
+static inline uint32_t load_word(const uint32_t *word)
+{
+    uint32_t value = *(const volatile uint32_t *)word;
+    __asm__ volatile("" : : : "memory");
+    return value;
+}
+
+static inline void store_word(uint32_t *word, uint32_t value)
+{
+    __asm__ volatile("" : : : "memory");
+    *(volatile uint32_t *)word = value;
+}
+
+/* The number of the context that asks, which start.s keeps in %g7. */
+static inline uint32_t own_context(void)
+{
+    uint32_t context;
+    __asm__("mov %%g7,%0" : "=r"(context));
+    return context;
+}
+
 /* Lets the node's other contexts run. A context gives way only where it misses, so this loads from two lines that no cache of at most
    256 sets can hold at once: one of them is missing. A context that is alone on its node has nobody to give way to. */
 #if CONTEXTS_A_NODE > 1
@@ -63,9 +80,11 @@ static inline void yield(void)
 #else /* a native build */
 
 #include <sched.h>
-#include <string.h>
+
+#define CONTEXTS 1024
 
 void print(uint32_t word);
+uint32_t own_context(void);
 
 static inline uint32_t test_and_set(uint8_t *byte)
 {
@@ -77,6 +96,16 @@ static inline uint32_t exchange(uint32_t *word, uint32_t value)
     return __atomic_exchange_n(word, value, __ATOMIC_SEQ_CST);
 }
 
+static inline uint32_t load_word(const uint32_t *word)
+{
+    return __atomic_load_n(word, __ATOMIC_SEQ_CST);
+}
+
+static inline void store_word(uint32_t *word, uint32_t value)
+{
+    __atomic_store_n(word, value, __ATOMIC_SEQ_CST);
+}
+
 static inline void yield(void)
 {
     sched_yield();
@@ -84,44 +113,126 @@ static inline void yield(void)
 
 #endif
 
-/* A lock: free while its byte is 0. Put it into a line of its own, away from what it protects. */
+/* Prints two words, of which the first says what the second is. */
+static inline void print2(uint32_t tag, uint32_t value)
+{
+    print(tag);
+    print(value);
+}
+
+/* Prints a text, four characters a word, and behind them a 0 at least. */
+static inline void print_text(const char *text)
+{
+    for (size_t at = 0, count = strlen(text); at <= count; at += 4) {
+        uint32_t word = 0;
+        for (size_t i = at; i < at + 4; i++)
+            word = word << 8 | (i < count ? (uint8_t)text[i] : 0);
+        print(word);
+    }
+}
+
+/* A lock: free while its word is 0. Put it into a line of its own, away from what it protects. */
 struct lock {
-    uint8_t taken;
+    uint32_t taken;
 };
 
 /* Waits for the lock, and takes it. It looks before it tries again: a look is a copy, and a try takes the line from all others. */
 static inline void acquire(struct lock *lock)
 {
-    while (test_and_set(&lock->taken))
-        while (__atomic_load_n(&lock->taken, __ATOMIC_ACQUIRE))
+    while (exchange(&lock->taken, 1))
+        while (load_word(&lock->taken))
             yield();
 }
 
 static inline void release(struct lock *lock)
 {
-    __atomic_store_n(&lock->taken, 0, __ATOMIC_RELEASE);
+    store_word(&lock->taken, 0);
 }
 
-/* A barrier: how many have come, and how often all have. */
-struct barrier {
-    struct lock lock;
-    uint32_t arrived;
-    LINE uint32_t round;
+/* A lock with a queue (Mellor-Crummey and Scott): each context waits on a line of its own, and the one before it stores there. Contexts are
+   told by their number plus 1, and 0 is none. It takes a line for each context. */
+struct queue_lock {
+    LINE uint32_t last;
+    struct {
+        LINE uint32_t next;
+        uint32_t waits;
+    } of[CONTEXTS];
 };
+
+/* Waits for the lock, and takes it. */
+static inline void queue_acquire(struct queue_lock *lock)
+{
+    uint32_t own = own_context() + 1, before;
+    store_word(&lock->of[own - 1].next, 0);
+    store_word(&lock->of[own - 1].waits, 1);
+    before = exchange(&lock->last, own);
+    if (before == 0)
+        return;
+    store_word(&lock->of[before - 1].next, own);
+    while (load_word(&lock->of[own - 1].waits))
+        yield();
+}
+
+/* Gives the lock to the next context. Without compare-and-swap the queue is taken off and put back where somebody has come meanwhile, and
+   who comes between the two is before those that were there. */
+static inline void queue_release(struct queue_lock *lock)
+{
+    uint32_t own = own_context() + 1, next = load_word(&lock->of[own - 1].next), between = 0;
+    if (next == 0) {
+        uint32_t last = exchange(&lock->last, 0);
+        if (last == own)
+            return;
+        between = exchange(&lock->last, last);
+        while ((next = load_word(&lock->of[own - 1].next)) == 0)
+            yield();
+    }
+    if (between)
+        store_word(&lock->of[between - 1].next, next);
+    else
+        store_word(&lock->of[next - 1].waits, 0);
+}
+
+/* A barrier as a tree, in which context c stands above 2c + 1 and 2c + 2. Each line has one context that stores there and one that waits for
+   it, so that none has more than two readers. It takes two lines for each context. */
+struct barrier {
+    struct {
+        LINE uint32_t arrived;
+        uint32_t part;
+        LINE uint32_t released;
+        uint32_t whole;
+    } of[CONTEXTS];
+};
+
+/* Waits until all contexts have come here with a number, and answers the sum: waits for those below, then for the one above, and lets those
+   below go on. */
+static inline uint32_t sum_of_all(struct barrier *barrier, uint32_t contexts, uint32_t number)
+{
+    uint32_t own = own_context(), round = load_word(&barrier->of[own].released) + 1;
+    uint32_t first = 2 * own + 1, end = first + 2 < contexts ? first + 2 : contexts;
+    for (uint32_t below = first; below < end; below++) {
+        while (load_word(&barrier->of[below].arrived) != round)
+            yield();
+        number += barrier->of[below].part;
+    }
+    if (own > 0) {
+        barrier->of[own].part = number;
+        store_word(&barrier->of[own].arrived, round);
+        while (load_word(&barrier->of[own].released) != round)
+            yield();
+        number = barrier->of[own].whole;
+    } else
+        store_word(&barrier->of[own].released, round);
+    for (uint32_t below = first; below < end; below++) {
+        barrier->of[below].whole = number;
+        store_word(&barrier->of[below].released, round);
+    }
+    return number;
+}
 
 /* Waits until all contexts have come here. */
 static inline void wait_for_all(struct barrier *barrier, uint32_t contexts)
 {
-    acquire(&barrier->lock);
-    uint32_t round = barrier->round;
-    barrier->arrived++;
-    if (barrier->arrived == contexts) {
-        barrier->arrived = 0;
-        __atomic_store_n(&barrier->round, round + 1, __ATOMIC_RELEASE);
-    }
-    release(&barrier->lock);
-    while (__atomic_load_n(&barrier->round, __ATOMIC_ACQUIRE) == round)
-        yield();
+    sum_of_all(barrier, contexts, 0);
 }
 
 #endif

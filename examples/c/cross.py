@@ -9,23 +9,42 @@ import struct
 import subprocess
 import sys
 import tempfile
+from collections import namedtuple
+from dataclasses import dataclass
 from pathlib import Path
 
 HERE = Path(__file__).resolve().parent
 sys.path.insert(0, str(HERE.parent.parent / 'tools'))
 sys.dont_write_bytecode = True
+import stacks
 from alewife import Image, Sizes
 
-COMPILERS = ['sparc64-linux-gnu-gcc'] + [f'sparc64-linux-gnu-gcc-{version}' for version in range(20, 7, -1)]
+COMPILERS = ['sparc64-linux-gnu-gcc'] + [f'sparc64-linux-gnu-gcc-{version}' for version in range(20, 9, -1)]
 BINUTILS = ('as', 'ld', 'objcopy', 'objdump', 'nm', 'addr2line')
 SHARED = 0x40000000
 MOST_WORDS = 65536
+MARK = 0x5354414b
+BELOW, ABOVE = 16, 96
 
 # Code without register windows, floating point and tables of jumps, since data can't be read from code, and with nothing in delay
-# slots, where the two instructions that take the place of one would have no room. What isn't used isn't linked.
+# slots, where the two instructions that take the place of one would have no room. What isn't used isn't linked. All atomics but those of
+# atomic_flag are calls of atomic.c, since a store that isn't behind its lock would be lost in an update. A function begins with its frame, where
+# the condition codes are nobody's, so that it can be compared with the stack's end.
 FLAGS = ['-m32', '-mcpu=v7', '-mflat', '-msoft-float', '-ffreestanding', '-std=c11', '-O2', '-gdwarf-5', '-Wall', '-Wextra',
+         '-Wno-unused-parameter', '-nostdinc', '-fno-inline-atomics', '-fcallgraph-info=su',
          '-fno-delayed-branch', '-fno-jump-tables', '-fno-pic', '-fno-pie', '-fno-stack-protector', '-fno-common', '-ffixed-g5',
-         '-fno-asynchronous-unwind-tables', '-fno-tree-loop-distribute-patterns', '-ffunction-sections', '-fdata-sections']
+         '-fno-asynchronous-unwind-tables', '-fno-tree-loop-distribute-patterns', '-ffunction-sections', '-fdata-sections',
+         '-fno-shrink-wrap', '-fno-schedule-insns', '-fno-schedule-insns2']
+
+Options = namedtuple('Options', 'keep defines any_stack', defaults=(None, (), False))
+HINTS = (
+    (re.compile(r'fatal error: \S+: No such file'),
+     "of the C library's headers there are assert.h, limits.h and string.h, and the compiler's own: stdint.h, stdbool.h, stddef.h, stdatomic.h .."),
+    (re.compile(r'undefined reference to `__(atomic|sync)_'),
+     'atomics are the __atomic_ ones of 1, 2, 4 and 8 bytes, as C11 has them; alewife.h has exchange and test_and_set besides'),
+    (re.compile(r'undefined reference to `program'), 'one of the files has to have void program(uint32_t context, uint32_t contexts)'),
+)
+
 
 class BuildError(Exception):
     """Why there is no image."""
@@ -50,7 +69,8 @@ def called(words):
     """What a tool writes to standard output. What it says else is shown, and is why there is no image where it fails."""
     ran = subprocess.run([str(word) for word in words], stdout=subprocess.PIPE, stderr=subprocess.PIPE, text=True, errors='replace')
     if ran.returncode != 0:
-        raise BuildError(f'{words[0]} refused it:\n{ran.stderr.strip()}')
+        hints = [hint for pattern, hint in HINTS if pattern.search(ran.stderr)]
+        raise BuildError('\n'.join([f'{words[0]} refused it:', ran.stderr.strip(), *hints]))
     if ran.stderr:
         print(ran.stderr.strip(), file=sys.stderr)
     return ran.stdout
@@ -95,17 +115,56 @@ def without_doubles(line):
     return before + (loads[::-1] if based_on == number_of(even) else loads)
 
 
+# ---- frames within the stack
+
+
+FRAME = re.compile(r'\s*add\s+%sp, *(-\d+|%g\d), *%sp\s*')
+
+
+def with_check(line):
+    """The lines for a line of assembly: where a frame is made, the context traps if that is beyond its stack's end, which is in %g6."""
+    return [line, '\tcmp\t%sp, %g6', '\ttcs\t16'] if FRAME.fullmatch(line) else [line]
+
+
 # ---- compiling and linking
 
 
-def compiled(gcc, file, folder, number, sizes):
+@dataclass
+class Build:
+    """A build under way: the compiler, a folder for what is made, the machine's sizes, the options, and the calls that are found."""
+    gcc: str
+    folder: Path
+    sizes: Sizes
+    options: Options
+    calls: stacks.Calls
+
+    def contexts(self):
+        """How many contexts there are on all nodes."""
+        return self.sizes.width * self.sizes.height * self.sizes.contexts
+
+    def end(self):
+        """The address behind shared data."""
+        return SHARED + 16 * self.sizes.width * self.sizes.height * self.sizes.lines
+
+
+def translated(build, file, made):
+    """Compiles a source in C to assembly for this machine, and notes its calls."""
+    headers = [word for folder in (HERE / 'include', called([build.gcc, '-print-file-name=include']).strip()) for word in ('-isystem', folder)]
+    sizes = [f'-DCONTEXTS_A_NODE={build.sizes.contexts}', f'-DCONTEXTS={build.contexts()}']
+    called([build.gcc, *FLAGS, *headers, *sizes, *(f'-D{each}' for each in build.options.defines), f'-I{HERE}', '-S', file, '-o', made])
+    lines = (part for line in made.read_text().splitlines() for part in without_doubles(line))
+    made.write_text(''.join(part + '\n' for line in lines for part in with_check(line)))
+    build.calls.add(made.with_suffix('.ci').read_text(), made.stem)
+
+
+def compiled(build, file, number):
     """The object file of a source in C or assembly."""
-    assembly, made = Path(folder, f'{number}-{file.stem}.s'), Path(folder, f'{number}-{file.stem}.o')
+    assembly = build.folder / f'{number}-{file.stem}.s'
+    made = assembly.with_suffix('.o')
     if not file.is_file():
         raise BuildError(f'there is no file {file}')
     if file.suffix == '.c':
-        text = called([gcc, *FLAGS, f'-DCONTEXTS_A_NODE={sizes.contexts}', f'-I{HERE}', '-S', file, '-o', '-'])
-        assembly.write_text(''.join(part + '\n' for line in text.splitlines() for part in without_doubles(line)))
+        translated(build, file, assembly)
     elif file.suffix == '.s':
         assembly = file
     else:
@@ -114,14 +173,14 @@ def compiled(gcc, file, folder, number, sizes):
     return made
 
 
-def linked(gcc, files, folder, sizes):
+def linked(build, files):
     """The linked program."""
-    sources = [HERE / 'start.s', HERE / 'runtime.c', *files]
-    objects = [compiled(gcc, Path(file), folder, number, sizes) for number, file in enumerate(sources)]
-    nodes, made = sizes.width * sizes.height, Path(folder, 'program.elf')
+    sources = [HERE / 'start.s', HERE / 'runtime.c', HERE / 'atomic.c', *files]
+    objects = [compiled(build, Path(file), number) for number, file in enumerate(sources)]
+    made = build.folder / 'program.elf'
     called(['sparc64-linux-gnu-ld', '-m', 'elf32_sparc', '-z', 'noexecstack', '--gc-sections', '--orphan-handling=error',
-            '-T', HERE / 'machine.ld', f'--defsym=shared_end={SHARED + 16 * nodes * sizes.lines}',
-            f'--defsym=contexts={nodes * sizes.contexts}', *objects, '-o', made])
+            '-T', HERE / 'machine.ld', f'--defsym=shared_end={build.end()}', f'--defsym=stack_mark={MARK}',
+            f'--defsym=contexts={build.contexts()}', *objects, '-o', made])
     return made
 
 
@@ -132,9 +191,26 @@ def section(program, name, folder):
     return made.read_bytes()
 
 
-def start_of(program):
-    """The address at which contexts start."""
-    return next(int(line.split()[0], 16) for line in called(['sparc64-linux-gnu-nm', program]).splitlines() if line.endswith(' start'))
+def symbols_of(program):
+    """The values of a program's symbols."""
+    rows = (line.split() for line in called(['sparc64-linux-gnu-nm', program]).splitlines())
+    return {row[-1]: int(row[0], 16) for row in rows if len(row) == 3}
+
+
+def check_stack(build, symbols):
+    """Refuses stacks that are too small for the program's calls, unless the options say otherwise, and says where they aren't known."""
+    depth, unknown = stacks.depth_of(build.calls, 'program')
+    wanted, size, contexts = BELOW + depth + ABOVE, symbols['stack_size'], build.contexts()
+    least = ' at least' if unknown else ''
+    if wanted > size:
+        room = symbols['data_end'] - SHARED + contexts * ((wanted + 15) // 16 * 16)
+        lines = -(-room // (16 * build.sizes.width * build.sizes.height))
+        said = f'stack {wanted} bytes a context{least}, there are {size}: give {lines} lines a node'
+        if not build.options.any_stack or size < BELOW + ABOVE:
+            raise BuildError(said + (', or say --any-stack' if size >= BELOW + ABOVE else ''))
+        print(f'build: {said}', file=sys.stderr)
+    elif unknown:
+        print(f'build: stack {wanted} bytes a context{least}, there are {size}: {"; ".join(unknown)}', file=sys.stderr)
 
 
 # ---- instructions
@@ -173,24 +249,34 @@ def check_code(program, words):
 # ---- the image
 
 
-def image(sizes, code, data, start):
-    """The image of code, with each line of data that isn't 0, and a start for each context."""
-    lines = [data[at:at + 16].ljust(16, b'\0') for at in range(0, len(data), 16)]
+def lines_of(build, data, symbols):
+    """The lines that aren't 0 at the start, by their numbers: those of data, and the mark under each stack."""
+    lines = {number: data[16 * number:16 * number + 16].ljust(16, b'\0') for number in range((len(data) + 15) // 16)}
+    lowest = (build.end() - SHARED - (context + 1) * symbols['stack_size'] for context in range(build.contexts()))
+    lines.update({address // 16: struct.pack('>I', MARK).ljust(16, b'\0') for address in lowest})
+    return {number: line for number, line in lines.items() if any(line)}
+
+
+def image(sizes, code, lines, start):
+    """The image of code, with the lines that aren't 0, and a start for each context."""
     starts = tuple((node, slot, start) for node in range(sizes.width * sizes.height) for slot in range(sizes.contexts))
-    return Image(sizes, code, {number: line for number, line in enumerate(lines) if any(line)}, starts).packed()
+    return Image(sizes, code, lines, starts).packed()
 
 
-def build(files, sizes, keep=None):
-    """The image of a program; `keep` is a path at which the linked program is kept too."""
+def build(files, sizes, options=Options()):
+    """The image of a program. The options have a path at which the linked program is kept too."""
     gcc = compiler()
     with tempfile.TemporaryDirectory() as folder:
-        program = linked(gcc, files, folder, sizes)
+        made = Build(gcc, Path(folder), sizes, options, stacks.Calls())
+        program = linked(made, files)
+        symbols = symbols_of(program)
+        check_stack(made, symbols)
         code, data = section(program, '.text', folder), section(program, '.data', folder)
         check_code(program, [word for word, in struct.iter_unpack('>I', code)])
-        made = image(sizes, code, data, start_of(program))
-        if keep:
-            write_whole(Path(keep), program.read_bytes())
-    return made
+        whole = image(sizes, code, lines_of(made, data, symbols), symbols['start'])
+        if options.keep:
+            write_whole(Path(options.keep), program.read_bytes())
+    return whole
 
 
 def write_whole(path, data):

@@ -1,4 +1,5 @@
-/* Code at 0, shared data at 0x40000000, and the stacks behind them. examples/c/build gives shared_end and contexts. */
+/* Code at 0, shared data at 0x40000000, and the stacks behind them. examples/c/build gives shared_end, contexts and stack_mark, and puts
+   the mark under each stack. */
 ENTRY(start)
 SECTIONS
 {
@@ -8,7 +9,6 @@ SECTIONS
     .bss : { *(.bss .bss.* COMMON) }
     data_end = ALIGN(16);
     stack_size = data_end < shared_end ? ((shared_end - data_end) / contexts) & ~15 : 0;
-    ASSERT(stack_size >= 256, "shared data have less than 256 bytes of stack for each context: give the nodes more lines")
 
     /* Any section that isn't named here is refused: the image wouldn't have it. */
     .debug_abbrev 0 : { *(.debug_abbrev) }

@@ -4,7 +4,7 @@
 #include <stdlib.h>
 #include "alewife.h"
 
-enum { MOST_CONTEXTS = 1024, MOST_PRINTS = 4096 };
+enum { MOST_PRINTS = 4096 };
 
 struct context {
     pthread_t thread;
@@ -25,19 +25,24 @@ void print(uint32_t word)
     own->words[own->count++] = word;
 }
 
+uint32_t own_context(void)
+{
+    return (uint32_t)(own - table);
+}
+
 static void *begin(void *context)
 {
     own = context;
-    program((uint32_t)(own - table), contexts);
+    program(own_context(), contexts);
     return NULL;
 }
 
 int main(int count, char **words)
 {
     contexts = count == 2 ? (uint32_t)strtoul(words[1], NULL, 10) : 0;
-    table = contexts >= 1 && contexts <= MOST_CONTEXTS ? calloc(contexts, sizeof *table) : NULL;
+    table = contexts >= 1 && contexts <= CONTEXTS ? calloc(contexts, sizeof *table) : NULL;
     if (!table) {
-        fprintf(stderr, "native: one word, how many contexts, 1 to %d\n", MOST_CONTEXTS);
+        fprintf(stderr, "native: one word, how many contexts, 1 to %d\n", CONTEXTS);
         return 2;
     }
     for (uint32_t i = 0; i < contexts; i++)

@@ -1,5 +1,6 @@
-/* What GCC calls where the machine has no instruction: quotients and rests, numbers of 64 bits, and moves of memory. What a program
-   doesn't use isn't linked. Floating point isn't here. */
+/* What GCC calls where the machine has no instruction: quotients and rests, and numbers of 64 bits; and what include/ declares. What a
+   program doesn't use isn't linked. Floating point isn't here. */
+#include <assert.h>
 #include "alewife.h"
 
 uint32_t unsigned_quotient(uint32_t, uint32_t) __asm__(".udiv");
@@ -158,7 +159,7 @@ int64_t __moddi3(int64_t dividend, int64_t divisor)
     return dividend < 0 ? -rest : rest;
 }
 
-/* ---- memory */
+/* ---- memory and strings */
 
 void *memcpy(void *restrict to, const void *restrict from, size_t count)
 {
@@ -190,4 +191,37 @@ int memcmp(const void *one, const void *other, size_t count)
         if (left[i] != right[i])
             return left[i] < right[i] ? -1 : 1;
     return 0;
+}
+
+size_t strlen(const char *text)
+{
+    size_t count = 0;
+    while (text[count] != 0)
+        count++;
+    return count;
+}
+
+int strcmp(const char *one, const char *other)
+{
+    size_t i = 0;
+    while (one[i] != 0 && one[i] == other[i])
+        i++;
+    return (uint8_t)one[i] - (uint8_t)other[i];
+}
+
+char *strcpy(char *restrict to, const char *restrict from)
+{
+    return memcpy(to, from, strlen(from) + 1);
+}
+
+void assertion_failed(const char *file, unsigned line)
+{
+    const char *name = file;
+    for (; *file != 0; file++)
+        if (*file == '/')
+            name = file + 1;
+    print_text(name);
+    print(line);
+    __asm__ volatile("ta 3");
+    __builtin_unreachable();
 }

@@ -29,7 +29,6 @@ static void sort(uint32_t first, uint32_t last)
 void program(uint32_t context, uint32_t contexts)
 {
     uint32_t draw = 7, sum = 0;
-    (void)contexts;
     if (context != 0)
         return;
     for (uint32_t i = 0; i < COUNT; i++) {

@@ -9,8 +9,8 @@ LINE static uint32_t ready;
 void program(uint32_t context, uint32_t contexts)
 {
     if (context == contexts - 1)
-        __atomic_store_n(&ready, 1, __ATOMIC_RELEASE);
-    while (!__atomic_load_n(&ready, __ATOMIC_ACQUIRE))
+        store_word(&ready, 1);
+    while (!load_word(&ready))
         ;
     print(context);
 }
