@@ -1,3 +1,2 @@
-pub mod Looks
 pub mod PlaceMaps
 pub mod Seen

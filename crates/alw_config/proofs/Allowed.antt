@@ -5,9 +5,6 @@ use Rattle.std.specs.Prelude.{Option, None, Some, IfSome, IsTrue, slice_index_or
 use Rattle.std.specs.Option.{option_map_or}
 use Rattle.std.specs.List.{list_any}
 use Rattle.alw_image.specs.Parameters.{set_counts}
-use Rattle.alw_config.specs.declared.commands.AsmForm.{AsmForm}
-use Rattle.alw_config.specs.declared.commands.Form.{Form}
-use Rattle.alw_config.specs.declared.commands.How.{How}
 use Rattle.alw_config.specs.declared.commands.How.TheVariants as hows
 use Rattle.alw_config.specs.declared.rows.Made.{Made}
 use Rattle.alw_config.specs.declared.rows.Meaning.{Meaning}
@@ -19,7 +16,7 @@ use Rattle.alw_config.specs.declared.rows.Value.{Value}
 use Rattle.alw_config.specs.declared.rows.Value.TheVariants as values
 use Rattle.alw_config.specs.declared.rows.TheConstants.{MOST_CHOICES}
 use Rattle.alw_config.specs.Values.{row_of, asm_forms, forms, number_if, value_of}
-use Rattle.alw_config.specs.Table.{Options, options_of, defaults_of, rule_of, makes, value_behind, made_from, made}
+use Rattle.alw_config.specs.Table.{Options, options_of, defaults_of, rule_of, made_from, made}
 use Rattle.alw_config.specs.Choices.{ChoicesAreMade, HasChoices, is_of, is_allowed, ValuesAreAllowed, value_by}
 use Rattle.alw_config.proofs.Made.{made_at}
 use Rattle.alw_config.proofs.Spelled.{passed_if}

@@ -1,12 +1,9 @@
 -- Choices that are made, where one more pair of an option and its value stands at the end.
-use Rattle.std.proofs.Common.{◌≡◌, ℕ, zero, suc, ◌+◌, ◌-◌, ◌*◌, ◌<◌, ◌≤◌, ◌||◌, ◌==◌, Bool}
-use Rattle.std.proofs.Common.{true, false, cond, List, [], ◌∷◌, ◌++◌, length, refl, sym, ap, ◌∙◌, arith}
+use Rattle.std.proofs.Common.{◌≡◌, ℕ, zero, suc, ◌+◌, ◌-◌, ◌*◌, ◌<◌, ◌≤◌, ◌||◌, Bool}
+use Rattle.std.proofs.Common.{true, false, cond, List, [], ◌∷◌, ◌++◌, length, refl, ap, arith}
 use Rattle.std.specs.Prelude.{Option, None, Some, is_some, option_map, slice_index_or, slice_set}
-use Rattle.std.specs.Option.{option_map_or}
 use Rattle.alw_config.specs.declared.rows.Made.{Made}
-use Rattle.alw_config.specs.declared.rows.Meaning.{Meaning}
 use Rattle.alw_config.specs.declared.rows.Value.{Value}
-use Rattle.alw_config.specs.Values.{row_of}
 use Rattle.alw_config.specs.Table.{Options, makes, value_behind, is_made, made_from}
 
 -- ---- in the words
@@ -55,21 +52,6 @@ module _ (options : Options) (k : ℕ) (option value : List ℕ) where
   made-before from (x ∷ []) c even other = absurd (omega arith)
   made-before from (x ∷ y ∷ rest) c even other =
       ap (cond (makes options k x) (option_map (made_at (from + 1)) (value_behind options x y))) (made-before (from + 2) rest (c - 1) (omega arith) other)
-
--- a value stands before the end of the words
-pub made-within : (options : Options) (k from : ℕ) (words : List (List ℕ)) (m : Made) → made_from from options k words ≡ Some m → m.at < from + length words
-made-within options k from [] m found = absurd (cc)
-made-within options k from (x ∷ []) m found = absurd (cc)
-made-within options k from (x ∷ y ∷ rest) m found = go (makes options k x) found (λ later. made-within options k (from + 2) rest m later)
-  where
-    at_once : (o : Option Value) → option_map (made_at (from + 1)) o ≡ Some m → m.at < from + length (x ∷ y ∷ rest)
-    at_once None e = absurd (cc)
-    at_once (Some v) e = let same : made_at (from + 1) v ≡ m = cc in omega (arith, ap (λ (made : Made). made.at) same)
-
-    go : (b : Bool) → cond b (option_map (made_at (from + 1)) (value_behind options x y)) (made_from (from + 2) options k rest) ≡ Some m
-        → (made_from (from + 2) options k rest ≡ Some m → m.at < from + 2 + length rest) → m.at < from + length (x ∷ y ∷ rest)
-    go true e more = at_once (value_behind options x y) e
-    go false e more = omega (arith, more e)
 
 -- ---- in a list of choices
 

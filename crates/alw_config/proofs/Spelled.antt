@@ -1,6 +1,6 @@
 -- Words that spell a number.
-use Rattle.std.proofs.Common.{◌≡◌, ◌≢◌, ℕ, ◌<◌, ◌≤◌, ◌^◌, ◌==◌, nat_le, Bool, true, false, cond, ◌&&◌}
-use Rattle.std.proofs.Common.{Option, Some, None, List, [], ◌∷◌, ◌⊎◌, ⊎_elim, refl, subst, ap, ◌∙◌, decimal, arith}
+use Rattle.std.proofs.Common.{◌≡◌, ℕ, ◌<◌, ◌≤◌, ◌^◌, ◌==◌, nat_le, Bool, true, false, cond, ◌&&◌}
+use Rattle.std.proofs.Common.{Some, None, List, [], ◌∷◌, ◌⊎◌, ⊎_elim, refl, subst, ap, ◌∙◌, decimal, arith}
 use Rattle.std.proofs.lemmas.Slice.Eq.{bytes_eq-Decides}
 use Rattle.std.proofs.lemmas.Bool.{and_parts}
 use Rattle.std.proofs.lemmas.Bool.Decides.{nat_tests}
@@ -21,17 +21,6 @@ passes_if test word n spelled l passed = rw (spelled_if test word n spelled l, p
 
 pub fails_if : (test : ℕ → Bool) (word : List ℕ) (n : ℕ) → word ≡ decimal n → n < 2 ^ 64 → test n ≡ false → number_if test word ≡ None
 fails_if test word n spelled l failed = rw (spelled_if test word n spelled l, failed)
-
--- no number below 2^64 is spelled, and the test passes no other
-pub unspelled_if : (test : ℕ → Bool) (word : List ℕ) → ((n : ℕ) → test n ≡ true → n < 2 ^ 64) →
-    ((n : ℕ) → n < 2 ^ 64 → word ≢ decimal n) → number_if test word ≡ None
-unspelled_if test word small none = go (is_decimal word && test (number_of word)) refl
-  where
-    go : (b : Bool) → (is_decimal word && test (number_of word)) ≡ b → cond b (Some (number_of word)) None ≡ None
-    go true e =
-        let parts = and_parts (is_decimal word) (test (number_of word)) e in
-        absurd (none (number_of word) (small (number_of word) parts.1) ((bytes_eq-Decides word (decimal (number_of word))).0 parts.0))
-    go false e = refl
 
 -- a number that passes
 pub passed_if : (test : ℕ → Bool) (word : List ℕ) (n : ℕ) → number_if test word ≡ Some n → test n ≡ true
@@ -71,9 +60,6 @@ is_between least most n above below = grind (arith, nat_tests)
 
 pub is_outside : (least most n : ℕ) → (n < least) ⊎ (most < n) → (nat_le least n && nat_le n most) ≡ false
 is_outside least most n far = ⊎_elim (λ below. grind (arith, nat_tests)) (λ above. grind (arith, nat_tests)) far
-
-pub between_parts : (least most n : ℕ) → (nat_le least n && nat_le n most) ≡ true → (least ≤ n) × (n ≤ most)
-between_parts least most n passed = let parts = and_parts (nat_le least n) (nat_le n most) passed in (grind (arith, nat_tests), grind (arith, nat_tests))
 
 -- ---- numbers of sets
 

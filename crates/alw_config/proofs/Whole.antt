@@ -1,5 +1,5 @@
 -- From the words behind a command's name to all words.
-use Rattle.std.proofs.Common.{◌≡◌, ℕ, zero, suc, ◌+◌, ◌-◌, ◌<◌, ◌≤◌, Bool, true, false, List, [], ◌∷◌, length, refl, sym, ap, ◌∙◌, inl, inr, arith}
+use Rattle.std.proofs.Common.{◌≡◌, ℕ, zero, suc, ◌+◌, ◌-◌, ◌<◌, ◌≤◌, Bool, true, false, List, [], ◌∷◌, length, refl, ap, ◌∙◌, inl, inr, arith}
 use Rattle.std.specs.Prelude.{Some, None, Option, IfSome, is_none, option_and_then}
 use Rattle.std.specs.Option.{option_map_or}
 use Rattle.alw_config.specs.declared.commands.Command.{Command}
@@ -9,7 +9,7 @@ use Rattle.alw_config.specs.declared.rows.Rule.{Rule}
 use Rattle.alw_config.specs.declared.rows.Value.{Value}
 use Rattle.alw_config.specs.declared.rows.TheConstants.{MOST_CHOICES}
 use Rattle.alw_config.specs.Values.{row_of}
-use Rattle.alw_config.specs.Table.{Options, commands, options_of, defaults_of, rule_of, made, misfit, values_from, command_of}
+use Rattle.alw_config.specs.Table.{Options, commands, options_of, defaults_of, rule_of, misfit, values_from, command_of}
 use Rattle.alw_config.specs.Places.{PlacesAreRight, IsFirstPlace, IsRefusedAt, IsRefusedBehind, IsCommand, is_bad, is_bad_option, misfit_in}
 use Rattle.alw_config.specs.Choices.{ChoicesAreMade, HasChoices, values_by, misfit_by}
 use Rattle.alw_config.proofs.Allowed.{few_defaults, rule_has}

@@ -3,7 +3,7 @@ use Rattle.std.proofs.Common.{◌≡◌, ℕ, zero, suc, ◌+◌, ◌*◌, ◌<�
 use Rattle.std.proofs.Common.{refl, ap, ◌∙◌, arith}
 use Rattle.std.specs.List.{list_any}
 use Rattle.std.proofs.lemmas.Bool.{eq-eqb, ne_eqb}
-use Rattle.std.proofs.lemmas.List.{get_or-set_same, get_or-set_other, length-set, drop_more, get_or_read}
+use Rattle.std.proofs.lemmas.List.{get_or-set_same, get_or-set_other, drop_more, get_or_read}
 use Rattle.std.proofs.lemmas.Option.{get_or_from_slice_get}
 use Rattle.std.proofs.lemmas.Nat.{mul-add-lt, same_from_place}
 use Rattle.alw_num.proofs.Weigh.{is_node}
@@ -46,14 +46,6 @@ module _ (nodes : ℕ) where
   pub link_taken : (links : List (List Msg)) (from to a b : ℕ) → from < nodes → to < nodes → b < nodes → length links ≡ nodes * nodes
       → link_of nodes (links_without nodes links from to) a b ≡ cond (a == from && (b == to)) (behind (link_of nodes links from to)) (link_of nodes links a b)
   link_taken links from to = link_set links from to (behind (link_of nodes links from to))
-
-  -- the number of links stays
-  pub length-with : (links : List (List Msg)) (from to : ℕ) (msg : Msg) → length (links_with nodes links from to msg) ≡ length links
-  length-with links from to msg = length-set links (place_of nodes from to) _
-
-  pub length-with_all : (links : List (List Msg)) (from : ℕ) (sends : List (ℕ × Msg)) → length (links_with_all nodes links from sends) ≡ length links
-  length-with_all links from [] = refl
-  length-with_all links from (send ∷ rest) = length-with_all (links_with nodes links from send.0 send.1) from rest ∙ length-with links from send.0 send.1
 
   -- the sends from place i on are send i, and then those behind it
   pub with_all_more : (links : List (List Msg)) (from : ℕ) (sends : List (ℕ × Msg)) (i : ℕ) (send : ℕ × Msg) → i < length sends → slice_get sends i ≡ Some send

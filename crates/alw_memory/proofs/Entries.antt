@@ -16,10 +16,6 @@ use Rattle.alw_memory.specs.Lines.{entries_from}
 abbrev pub home_line : HomeEntry → Bool → HomeLine
 home_line entry always = record { entry = entry; always = always }
 
-pub length_entries : (line : ℕ) (homes : List HomeLine) (table : Table) → length (entries_from line homes table) ≡ length homes
-length_entries line [] table = refl
-length_entries line (home ∷ rest) table = ap suc (length_entries (line + 1) rest table)
-
 pub entry_read : (line : ℕ) (homes : List HomeLine) (table : Table) (place at : ℕ) (d : HomeLine) → place < length homes → at ≡ line + place
     → entry_at (entries_from line homes table) place ≡ directory_of (slice_index_or homes place d).entry (set_of_line table at)
     (slice_index_or homes place d).always

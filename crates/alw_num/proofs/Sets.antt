@@ -9,7 +9,7 @@ use Rattle.std.proofs.lemmas.List.{nil_from_length}
 use Rattle.std.proofs.lemmas.Nat.Bits.{same_from_bits, bit_at-lt, bit_at-zero, bit_at_lowest, bit_at-suc, bit_at_or, bit_at_and, bit_at_xor, bit_at-pow_same, bit_at-pow_other}
 use Rattle.alw_num.specs.NodeSets.{Nodes, no_nodes, has_node, add_node, drop_node, one_node, join_nodes, members, count_nodes, places, front_if, AreBelow}
 use Rattle.alw_num.specs.Weights.{digit, weigh, times, sum_below}
-use Rattle.alw_num.proofs.Weigh.{is_node, digit_same, digit_other, digit_le, digit_of_more, true_of_digit, cases_lt_then, sum_same, sum_le, sum_both, sum_ones, sum_at, sum_times}
+use Rattle.alw_num.proofs.Weigh.{is_node, digit_same, digit_other, digit_le, digit_of_more, true_of_digit, cases_lt_then, sum_same, sum_le, sum_ones, sum_at, sum_times}
 
 bit_by_test : (a b : ℕ) → a < 2 → b < 2 → (a == 1) ≡ (b == 1) → a ≡ b
 bit_by_test a b l m e = grind (arith, nat_tests)
@@ -167,17 +167,8 @@ pub count-bits : (P : Nodes) → count_nodes P ≡ count_ones P.bits
 unfolding members
 count-bits P = places-length P.bits (P.bits == 0) 0 P.bits (omega arith) refl
 
--- what is in a set that is made of others
-pub ruleset has_laws = (has-none, has-one, has-add, has-drop, has-join)
-
 pub add_member : (P : Nodes) (n : ℕ) → has_node P n ≡ true → add_node P n ≡ P
 add_member P n here = same_nodes _ _ (λ k. grind (arith, nat_tests, has-add P n k))
-
-pub drop_stranger : (P : Nodes) (n : ℕ) → has_node P n ≡ false → drop_node P n ≡ P
-drop_stranger P n gone = same_nodes _ _ (λ k. grind (arith, nat_tests, has-drop P n k))
-
-pub drop-add : (P : Nodes) (n : ℕ) → has_node P n ≡ false → drop_node (add_node P n) n ≡ P
-drop-add P n gone = same_nodes _ _ (λ k. grind (arith, nat_tests, has-drop (add_node P n) n k, has-add P n k))
 
 pub add-drop : (P : Nodes) (n : ℕ) → has_node P n ≡ true → add_node (drop_node P n) n ≡ P
 add-drop P n here = same_nodes _ _ (λ k. grind (arith, nat_tests, has-add (drop_node P n) n k, has-drop P n k))
@@ -260,9 +251,6 @@ count-none = ap length members-none
 pub count-one : (n : ℕ) → count_nodes (one_node n) ≡ 1
 count-one n = ap length (members-one n)
 
-pub count-members : (P : Nodes) → count_nodes P ≡ length (members P)
-count-members P = refl
-
 pub none_of_count : (P : Nodes) → count_nodes P ≡ 0 → P ≡ no_nodes
 none_of_count P e = none_of_members P (nil_from_length (members P) e)
 
@@ -280,11 +268,6 @@ count-add P n =
     let here : has_node (add_node P n) n ≡ true = has-add P n n ∙ rw (eq-eqb n n refl) in
     omega (arith, count_differs (add_node P n) P n (λ k d. has-add P n k ∙ rw (ne_eqb k n d)), ap digit here)
 
-pub count-drop : (P : Nodes) (n : ℕ) → count_nodes (drop_node P n) + digit (has_node P n) ≡ count_nodes P
-count-drop P n =
-    let gone : has_node (drop_node P n) n ≡ false = has-drop P n n ∙ rw (eq-eqb n n refl) in
-    omega (arith, count_differs (drop_node P n) P n (λ k d. has-drop P n k ∙ rw (ne_eqb k n d)), ap digit gone)
-
 -- a set whose nodes are all in another has no more of them
 pub count-le : (P Q : Nodes) → ((k : ℕ) → has_node P k ≡ true → has_node Q k ≡ true) → count_nodes P ≤ count_nodes Q
 count-le P Q within =
@@ -293,20 +276,6 @@ count-le P Q within =
     let q = count-sum Q most (λ k l. past_last Q k (omega arith)) in
     let s = sum_le most (λ k. digit (has_node P k)) (λ k. digit (has_node Q k)) (λ k l. digit_of_more (has_node P k) (has_node Q k) (within k)) in
     omega arith
-
-pub count-join : (P Q : Nodes) → count_nodes (join_nodes P Q) ≤ count_nodes P + count_nodes Q
-count-join P Q =
-    let most : ℕ = last_of P + last_of Q + last_of (join_nodes P Q) + 1 in
-    let p = count-sum P most (λ k l. past_last P k (omega arith)) in
-    let q = count-sum Q most (λ k l. past_last Q k (omega arith)) in
-    let j = count-sum (join_nodes P Q) most (λ k l. past_last (join_nodes P Q) k (omega arith)) in
-    let s = sum_le most (λ k. digit (has_node (join_nodes P Q) k)) (λ k. digit (has_node P k) + digit (has_node Q k)) (λ k l. rw (has-join P Q k) (digit_or (has_node P k) (has_node Q k))) in
-    let b = sum_both most (λ k. digit (has_node P k)) (λ k. digit (has_node Q k)) in
-    omega arith
-  where
-    digit_or : (a b : Bool) → digit (a || b) ≤ digit a + digit b
-    digit_or true b = omega arith
-    digit_or false b = omega arith
 
 -- a set of nodes below n has no more than n
 pub count_below : (P : Nodes) (n : ℕ) → ((k : ℕ) → n ≤ k → has_node P k ≡ false) → count_nodes P ≤ n

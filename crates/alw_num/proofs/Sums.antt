@@ -1,5 +1,5 @@
 -- Sums of counts by groups of 16 places: what a change of one count does to them, and how number k is found by them.
-use Rattle.std.proofs.Common.{◌≡◌, ◌≢◌, ℕ, zero, suc, add-one, ◌+◌, ◌-◌, ◌*◌, ◌/◌, ◌%◌, ◌<◌, ◌≤◌, List, [], ◌∷◌, length, replicate, get_or, set, drop, slice_index, refl, sym, ap, subst, ◌∙◌, ⊎_elim, arith}
+use Rattle.std.proofs.Common.{◌≡◌, ◌≢◌, ℕ, zero, suc, add-one, ◌+◌, ◌-◌, ◌*◌, ◌/◌, ◌%◌, ◌<◌, ◌≤◌, List, [], ◌∷◌, length, replicate, set, drop, slice_index, refl, sym, ap, ◌∙◌, ⊎_elim, arith}
 use Rattle.std.proofs.lemmas.Bool.{cases_lt}
 use Rattle.std.proofs.lemmas.List.{get_or-set_same, get_or-set_other, get_or-drop, get_or_past, length-set, length-replicate, get_or-replicate}
 use Rattle.alw_num.specs.Weights.{sum_below}
@@ -46,12 +46,6 @@ module _ (counts groups : List ℕ) (sum : ℕ) (summed : AreSummed counts group
   all_groups sixteen = ap (sum_before groups) sixteen ∙ (front_is 16 ∙ sum_past (slice_index counts) (length counts) 256 (beyond counts) summed.few)
 
   module _ (group number : ℕ) (here : number < slice_index groups group) where
-    -- a group that counts something begins within the counts
-    pub group_within : 16 * group < length counts
-    group_within = ⊎_elim (λ l. l)
-        (λ l. absurd (omega (arith, here, summed.grouped group, sum_none 16 (λ j. slice_index counts (16 * group + j)) (λ j m. beyond counts (16 * group + j) (omega arith)))))
-        (cases_lt (16 * group) (length counts))
-
     pub rest_has : number < total (drop (16 * group) counts)
     rest_has =
         let tail = drop (16 * group) counts in
@@ -100,9 +94,6 @@ module _ (counts groups : List ℕ) (sum : ℕ) (summed : AreSummed counts group
     -- the sums are small
     sum_small : (n : ℕ) (f : ℕ → ℕ) → ((k : ℕ) → f k < 65536) → sum_below n f ≤ 65535 * n
     sum_small n f few = omega (arith, sum_le n f (λ k. 65535 * 1) (λ k l. omega (arith, few k)), sum_scale n 65535 (λ k. 1), sum_ones n)
-
-    pub group_small : slice_index groups (place / 16) ≤ 1048560
-    group_small = omega (arith, summed.grouped (place / 16), sum_small 16 (λ j. slice_index counts (16 * (place / 16) + j)) (λ j. summed.small (16 * (place / 16) + j)))
 
     pub all_small : sum ≤ 16776960
     all_small = omega (arith, summed.all, summed.few, sum_small (length counts) (slice_index counts) summed.small)

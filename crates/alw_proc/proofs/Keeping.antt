@@ -1,5 +1,5 @@
 -- What an event leaves of a processor side is one again.
-use Rattle.std.proofs.Common.{◌≡◌, ℕ, ◌<◌, ◌≤◌, Bool, true, false, cond, ◌==◌, nat_lt, Option, Some, None, IsTrue, find, List, [], ◌∷◌, length, refl, sym, ap, ◌∙◌, subst, ◌⊎◌, inl, inr, arith}
+use Rattle.std.proofs.Common.{◌≡◌, ℕ, ◌<◌, ◌≤◌, Bool, true, false, cond, ◌==◌, Option, Some, None, IsTrue, find, List, [], ◌∷◌, length, refl, sym, ap, ◌∙◌, subst, ◌⊎◌, inl, inr, arith}
 use Rattle.std.proofs.lemmas.Bool.{true≢false, eqb-true, eqb-false, cases_lt}
 use Rattle.std.proofs.lemmas.Bool.Decides.{nat_tests}
 use Rattle.std.proofs.lemmas.List.{length-set, length-map, get_or-map, get_or-set_same, get_or-set_other}
@@ -54,17 +54,6 @@ Awaits slots line transaction = IsTrue (passes_if_some (λ (t : Transaction). wa
 pub none_of_ready : (slots : List Slot) (slot line : ℕ) (o : Option Transaction) → is_ready (slot_at slots slot).status ≡ true → Awaits slots line o → OpeningIsNotOf slot o
 none_of_ready slots slot line None ready waits = tt
 none_of_ready slots slot line (Some t) ready waits = λ same. ready_waits (slot_at slots slot).status line ready (ap (λ n. waits_on line (slot_at slots n).status) (sym same) ∙ waits)
-
--- an opener is one of the slots
-pub opener_within : (slots : List Slot) (line : ℕ) (o : Option Transaction) → Awaits slots line o → IsTrue (passes_if_some (λ (t : Transaction). nat_lt t.opener (length slots)) o)
-opener_within slots line None waits = refl
-opener_within slots line (Some t) waits = go (cases_lt t.opener (length slots))
-  where
-    go : (t.opener < length slots) ⊎ (length slots ≤ t.opener) → nat_lt t.opener (length slots) ≡ true
-    go (inl l) = grind (arith, nat_tests)
-    go (inr m) =
-        let none : slot_at slots t.opener ≡ no_slot = get_or-eq_default slots no_slot m in
-        absurd (true≢false (sym waits ∙ ap (λ (s : Slot). waits_on line s.status) none))
 
 -- another slot runs
 pub awaits_ran : (slots : List Slot) (slot line : ℕ) (regs : Regs) (status : Status) (o : Option Transaction) → is_ready (slot_at slots slot).status ≡ true → Awaits slots line o → Awaits (ran slots slot regs status) line o

@@ -37,11 +37,6 @@ has_none-at [] k line none = refl
 has_none-at (first ∷ rest) zero line none = none.0
 has_none-at (first ∷ rest) (suc k) line none = has_none-at rest k line none.1
 
--- none before a slot, and none there
-pub none_at_each : (slots : List (Option Opening)) (line : ℕ) → ((k : ℕ) → k < length slots → passes (is_of line) (opened_at slots k) ≡ false) → HasNoOpening slots line
-none_at_each [] line none = tt
-none_at_each (first ∷ rest) line none = (none 0 (omega arith), none_at_each rest line (λ k l. none (suc k) (omega arith)))
-
 -- what a slot has opened is the first on its line
 pub first_at : (slots : List (Option Opening)) (slot k line : ℕ) (opening : Opening) → OpeningsAreSingle slots → opened_at slots k ≡ Some opening → (opening.line.0 == line) ≡ true → first_of slot slots line ≡ Some (transaction_of (slot + k) opening)
 first_at [] slot k line opening single at of = absurd (cc)
@@ -100,12 +95,6 @@ first_ended (Some first ∷ rest) slot (suc k) line opening single at =
     let other = has_none-at rest k first.line.0 single.0 in
     let apart : (opening.line.0 == first.line.0) ≡ false = ap (passes (is_of first.line.0)) (sym at) ∙ other in
     grind (arith, nat_tests, first_ended rest (slot + 1) k line opening single.1 at)
-
-single_ended : (slots : List (Option Opening)) (k : ℕ) → OpeningsAreSingle slots → OpeningsAreSingle (slice_set slots k None)
-single_ended [] k single = tt
-single_ended (first ∷ rest) zero single = (tt, single.1)
-single_ended (None ∷ rest) (suc k) single = (tt, single_ended rest k single.1)
-single_ended (Some first ∷ rest) (suc k) single = (has_none-opened rest k first.line.0 None single.0 refl, single_ended rest k single.1)
 
 -- ---- as the functions of openings meet them
 
@@ -172,9 +161,6 @@ ends_at slots k line single of = go (opened_at slots k) refl
         ∙ (ap (λ n. cond (l == n) None (first_of 0 slots l)) is
         ∙ (ap (λ (o : Option Transaction). cond (l == line) None o) (sym (value_from slots 0 l))
         ∙ sym (value-without (map_from 0 slots) line l)))))
-
-pub ended_single : (slots : List (Option Opening)) (k : ℕ) → OpeningsAreSingle slots → OpeningsAreSingle (slice_set slots k None)
-ended_single slots k single = single_ended slots k single
 
 -- where there is none, nothing ends
 pub ends_none : (slots : List (Option Opening)) (line : ℕ) → HasNoOpening slots line → map_from 0 slots ≡ without_value (map_from 0 slots) line

@@ -1,11 +1,10 @@
 -- A processor side stands at the start.
 use Rattle.std.proofs.Common.{ℕ, ◌<◌, ◌≤◌, refl, sym, subst, arith}
 use Rattle.std.proofs.lemmas.List.FromFn.{length-map-range_with_len}
-use Rattle.std.proofs.lemmas.Bool.Decides.{nat_tests}
 use Rattle.alw_num.proofs.MapLaws.{value-empty}
 use Rattle.alw_image.specs.declared.parts.Parts.{Parts}
 use Rattle.alw_image.specs.Images.{IsImage, node_count}
-use Rattle.alw_image.specs.Parameters.{Parameters, AreParameters}
+use Rattle.alw_image.specs.Parameters.{Parameters}
 use Rattle.alw_model.specs.Contexts.{slot_start, slots_start}
 use Rattle.alw_model.specs.Sides.{lines_of}
 use Rattle.alw_model.specs.NodeStates.{node_start, processor_of}
@@ -23,7 +22,3 @@ start_stands parts parameters number image l = record {
   cached = λ set. subst (HoldsLine (lines_of (processor_of parts parameters number (node_start parts number)))) (sym (value-empty set)) refl;
   opened = λ line. subst (Awaits (slots_start parts number) line) (sym (value-empty line)) refl;
 }
-
--- a cache has a set
-pub some_sets : (p : Parameters) → AreParameters p → 1 ≤ p.sets
-some_sets p are = grind (arith, nat_tests, are.sets)

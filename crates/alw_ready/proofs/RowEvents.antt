@@ -1,5 +1,5 @@
 -- The events of rows: how many they are, and which is number k.
-use Rattle.std.proofs.Common.{◌≡◌, ℕ, zero, suc, add-zero, ◌+◌, ◌-◌, ◌<◌, ◌≤◌, ◌==◌, Bool, true, false, cond, ◌&&◌, List, [], ◌∷◌, ◌++◌, length, map, replicate, get_or, set, slice_get, slice_index, Option, Some, refl, sym, ap, ◌∙◌, arith}
+use Rattle.std.proofs.Common.{◌≡◌, ℕ, zero, suc, add-zero, ◌+◌, ◌-◌, ◌<◌, ◌≤◌, ◌==◌, Bool, true, false, cond, ◌&&◌, List, [], ◌∷◌, ◌++◌, length, map, replicate, get_or, set, slice_get, slice_index, Some, refl, sym, ap, ◌∙◌, arith}
 use Rattle.std.proofs.lemmas.List.{length-append, length-map, length-set, length-replicate, map-set, set-get_or, get_or_read}
 use Rattle.std.proofs.lemmas.Bool.{eqb-true}
 use Rattle.std.proofs.Math.Bool.{beq}
@@ -28,11 +28,6 @@ row_length at row = go row.in_time (map (λ from. delivery from at) (members (no
     go true deliveries e = omega (arith, length-if row.instr (instr_at at) (event_if row.handle (handle_at at) deliveries), length-if row.handle (handle_at at) deliveries)
     go false deliveries e = refl
 
-at_if : (b : Bool) (event : Event) (rest : List Event) (k : ℕ) → k < digit b → slice_get (event_if b event rest) k ≡ Some event
-at_if true event rest zero l = refl
-at_if true event rest (suc k) l = absurd (omega arith)
-at_if false event rest k l = absurd (omega arith)
-
 past_if : (b : Bool) (event : Event) (rest : List Event) (k : ℕ) → digit b ≤ k → slice_get (event_if b event rest) k ≡ slice_get rest (k - digit b)
 past_if true event rest zero l = absurd (omega arith)
 past_if true event rest (suc k) l = let e : k ≡ suc k - 1 = omega arith in ap (slice_get rest) e
@@ -41,12 +36,6 @@ past_if false event rest k l = let e : k ≡ k - 0 = omega arith in ap (slice_ge
 module _ (at : ℕ) (row : Row) (k : ℕ) (timely : row.in_time ≡ true) where
   inside_is : row_events at row ≡ event_if row.instr (instr_at at) (event_if row.handle (handle_at at) (map (λ from. delivery from at) (members (nodes_of row.senders))))
   inside_is = rw timely refl
-
-  pub nth_instr : k < digit row.instr → slice_get (row_events at row) k ≡ Some (instr_at at)
-  nth_instr l = ap (λ events. slice_get events k) inside_is ∙ at_if row.instr (instr_at at) _ k l
-
-  pub nth_handle : digit row.instr ≤ k → k - digit row.instr < digit row.handle → slice_get (row_events at row) k ≡ Some (handle_at at)
-  nth_handle past l = ap (λ events. slice_get events k) inside_is ∙ (past_if row.instr (instr_at at) _ k past ∙ at_if row.handle (handle_at at) _ (k - digit row.instr) l)
 
   pub nth_delivery : (from skip : ℕ) → skip ≡ digit row.instr + digit row.handle → skip ≤ k → slice_get (members (nodes_of row.senders)) (k - skip) ≡ Some from → slice_get (row_events at row) k ≡ Some (delivery from at)
   nth_delivery from skip two past is =

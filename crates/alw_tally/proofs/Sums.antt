@@ -1,7 +1,5 @@
 -- Laws of the weight of a list: of a list of images, and of one member changed.
 use Rattle.std.proofs.Common.{◌≡◌, ℕ, zero, suc, ◌+◌, ◌<◌, ◌≤◌, Bool, true, false, cond, List, [], ◌∷◌, length, get_or, set, map, refl, ap, arith}
-use Rattle.std.specs.List.{count_by}
-use Rattle.std.proofs.lemmas.List.Recursion.{is_count_by}
 use Rattle.alw_num.specs.Weights.{digit, weigh}
 
 pub weigh-map : {A B : Type 0} (f : B → ℕ) (g : A → B) (xs : List A) → weigh f (map g xs) ≡ weigh (λ x. f (g x)) xs
@@ -13,10 +11,6 @@ counted true n = refl
 counted false n = omega arith
 
 module _ {X : Type 0} where
-  -- the members that pass a test
-  pub weigh-digits : (test : X → Bool) (xs : List X) → weigh (λ x. digit (test x)) xs ≡ count_by test xs
-  weigh-digits test xs = is_count_by (weigh (λ x. digit (test x))) test refl (λ x rest. counted (test x) (weigh (λ y. digit (test y)) rest)) xs
-
   -- one member changes
   pub weigh_set : (f : X → ℕ) (xs : List X) (i : ℕ) (y d : X) → i < length xs → weigh f (set xs i y) + f (get_or xs i d) ≡ weigh f xs + f y
   weigh_set f [] i y d l = absurd (omega arith)

@@ -175,8 +175,3 @@ pub line-contents : (places : List Place) (k : ℕ) (e : Entry) → slice_get (c
 line-contents [] k e at = absurd (cc)
 line-contents (place ∷ rest) zero e at = ap (λ (x : Entry). x.line) (same_Some (entry_of place) e at)
 line-contents (place ∷ rest) (suc k) e at = line-contents rest k e at
-
-pub within-get : {X : Type 0} (xs : List X) (k : ℕ) (x : X) → slice_get xs k ≡ Some x → k < length xs
-within-get [] k x at = absurd (cc)
-within-get (y ∷ ys) zero x at = omega arith
-within-get (y ∷ ys) (suc k) x at = omega (arith, within-get ys k x at)

@@ -21,12 +21,6 @@ skipped line at zero bytes = rw (add-zero)
 skipped line at (suc inside) [] = refl
 skipped line at (suc inside) (byte ∷ rest) = let place : at + 1 + inside ≡ at + suc inside = omega arith in skipped line (at + 1) inside rest ∙ ap (λ p. cut_from line p 0 (drop inside rest)) place
 
-pub cut-blank : (line at byte : ℕ) (rest : List ℕ) → is_of Blank byte ≡ true → cut_from line at 0 (byte ∷ rest) ≡ cut_from line (at + 1) 0 rest
-cut-blank line at byte rest blank = rw blank
-
-pub cut-none : (line at byte : ℕ) (rest : List ℕ) → is_of Blank byte ≡ false → token_from byte rest ≡ None → cut_from line at 0 (byte ∷ rest) ≡ None
-cut-none line at byte rest solid none = rw (solid, none)
-
 pub cut-token : (line at byte : ℕ) (rest : List ℕ) (kind : TokenKind) (count : ℕ) → is_of Blank byte ≡ false → token_from byte rest ≡ Some (kind, count) → 1 ≤ count → cut_from line at 0 (byte ∷ rest) ≡ option_map (λ tokens. record { line = line; start = at; end = at + count; kind = kind } ∷ tokens) (cut_from line (at + count) 0 (drop count (byte ∷ rest)))
 cut-token line at byte rest kind zero solid is some = absurd (omega arith)
 cut-token line at byte rest kind (suc count) solid is some =
@@ -41,11 +35,6 @@ map_append old token (Some tokens) = ap Some (sym (append_assoc old (token ∷ [
 -- one more token
 pub appended : (line at byte : ℕ) (rest : List ℕ) (kind : TokenKind) (count : ℕ) (old : List Token) → is_of Blank byte ≡ false → token_from byte rest ≡ Some (kind, count) → 1 ≤ count → option_map (λ tokens. old ++ tokens) (cut_from line at 0 (byte ∷ rest)) ≡ option_map (λ tokens. (old ++ record { line = line; start = at; end = at + count; kind = kind } ∷ []) ++ tokens) (cut_from line (at + count) 0 (drop count (byte ∷ rest)))
 appended line at byte rest kind count old solid is some = ap (option_map (λ tokens. old ++ tokens)) (cut-token line at byte rest kind count solid is some) ∙ map_append old (record { line = line; start = at; end = at + count; kind = kind }) (cut_from line (at + count) 0 (drop count (byte ∷ rest)))
-
-pub none_mapped : (old new : List Token) (wanted rest : Option (List Token)) → option_map (λ tokens. old ++ tokens) wanted ≡ option_map (λ tokens. new ++ tokens) rest → rest ≡ None → wanted ≡ None
-none_mapped old new None rest e none = refl
-none_mapped old new (Some tokens) None e none = absurd cc
-none_mapped old new (Some tokens) (Some more) e none = absurd cc
 
 -- the step of a line's loop: a token is pushed, and the bytes behind it are left
 pub token_step : (line at : ℕ) (rest : List ℕ) (first : ℕ) (behind after : List ℕ) (kind : TokenKind) (count : ℕ) (old new : List Token) → rest ≡ first ∷ behind → is_of Blank first ≡ false → token_from first behind ≡ Some (kind, count) → 1 ≤ count → new ≡ old ++ record { line = line; start = at; end = at + count; kind = kind } ∷ [] → after ≡ drop count rest → option_map (λ tokens. old ++ tokens) (cut_from line at 0 rest) ≡ option_map (λ tokens. new ++ tokens) (cut_from line (at + count) 0 after)

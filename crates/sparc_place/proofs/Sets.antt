@@ -1,10 +1,9 @@
 -- Sets of numbers as marks.
-use Rattle.std.proofs.Common.{◌≡◌, true, false, Bool, ℕ, zero, suc, ◌+◌, ◌*◌, ◌<◌, ◌≤◌, max, List, [], ◌∷◌, ◌++◌, length, slice_set, refl, sym, ap, ◌∙◌, arith, ⊎_elim}
+use Rattle.std.proofs.Common.{◌≡◌, true, false, Bool, ℕ, zero, suc, ◌+◌, ◌*◌, ◌<◌, ◌≤◌, max, List, [], ◌∷◌, ◌++◌, refl, ◌∙◌, arith, ⊎_elim}
 use Rattle.std.specs.Prelude.{replicate}
 use Rattle.std.proofs.Math.Bool.{or-true}
 use Rattle.std.proofs.lemmas.Bool.{cases_lt}
 use Rattle.std.proofs.lemmas.Bool.Decides.{nat_tests}
-use Rattle.std.proofs.lemmas.Grind.{common_steps}
 use Rattle.sparc_place.specs.Marks.{is_marked, is_context_marked, any_below}
 use Rattle.sparc_place.specs.Places.{with_range, with_start}
 
@@ -26,16 +25,6 @@ grown : (old : List Bool) (k n : ℕ) → is_marked (old ++ replicate k false) n
 grown [] k n = blank k n
 grown (x ∷ xs) k zero = refl
 grown (x ∷ xs) k (suc n) = grown xs k n
-
-pub no_range : (a n : ℕ) (set : ℕ → Bool) → with_range a a set n ≡ set n
-no_range a n set = grind (arith, nat_tests)
-
-pub grown_range : (old new : List Bool) (from k n : ℕ) → new ≡ old ++ replicate k false → is_marked new n ≡ with_range from from (is_marked old) n
-grown_range old new from k n e = ap (λ marks. is_marked marks n) e ∙ grown old k n ∙ sym (no_range from n (is_marked old))
-
--- one more mark
-pub more_range : (marks old : List Bool) (from i n : ℕ) → from ≤ i → i < length marks → is_marked marks n ≡ with_range from i (is_marked old) n → is_marked (slice_set marks i true) n ≡ with_range from (i + 1) (is_marked old) n
-more_range marks old from i n low within before = grind (arith, nat_tests, common_steps, before)
 
 -- the last mark
 pub whole_range : (from to i n : ℕ) (set : ℕ → Bool) → from ≤ i → to ≤ i → i ≤ max from to → with_range from i set n ≡ with_range from to set n

@@ -1,4 +1,4 @@
-use Rattle.std.proofs.Common.{Bool, true, cond, Some, None, ◌∙◌, ◌&&◌, nat_le, sym, ap, arith}
+use Rattle.std.proofs.Common.{Bool, cond, Some, None, ◌∙◌, ◌&&◌, nat_le, sym, ap}
 use Rattle.alw_config.proofs.Spelled.{passes_wide, fails_wide, is_set_count, set_count_is, set_count_is_between}
 use Rattle.alw_config.proofs.lookups.set_count.Goals as goal
 
