@@ -87,14 +87,6 @@ impl Sends {
         self.nodes - self.messages.len() as u32
     }
 
-    /// Gives back the memory of the room that no message took.
-    pub fn trim(&mut self)
-        ensures { self.new ≡ record self.old { room = length self.old.messages } }
-    {
-        self.nodes = self.messages.len() as u32;
-        self.messages.shrink_to_fit();
-    }
-
     pub fn is_empty(&self) -> bool
         ensures { IsTrue result ↔ (self.now.messages ≡ []) }
     {
