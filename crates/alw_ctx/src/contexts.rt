@@ -47,7 +47,7 @@ impl Contexts {
         requires { node.0 < node_count image.now }
         ensures { result ≡ record { slots = slots_start image.now node.0; current = 0 } }
     {
-        let _allowed = image.code();
+        let _allowed = image.code(); // for its clause
         Contexts {
             places: residents(image, node),
             count: image.contexts(),

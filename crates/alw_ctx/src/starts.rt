@@ -31,7 +31,7 @@ pub fn residents(image: &Image, node: NodeNo) -> [Resident; 4]
     requires { node.0 < node_count image.now }
     ensures { slots_of image.now.contexts result ≡ slots_start image.now node.0 }
 {
-    let _allowed = image.code();
+    let _allowed = image.code(); // for its clause
     let mut places = [NOBODY; 4];
     for slot in 0..image.contexts() {
         places[slot as usize] = resident(image, node, slot);
@@ -45,7 +45,6 @@ fn resident(image: &Image, node: NodeNo, slot: u8) -> Resident
     requires slot { slot < image.now.contexts }
     ensures { slot_of result ≡ slot_start image.now node.0 slot }
 {
-    let nodes = u32::from(image.width()) * u32::from(image.height());
     let contexts = u32::from(image.contexts());
     let number = u32::from(node.0) * contexts + u32::from(slot);
     let (pc, status) = match image.start(number) {
@@ -53,7 +52,7 @@ fn resident(image: &Image, node: NodeNo, slot: u8) -> Resident
         None => (0, Status::Halted),
     };
     Resident {
-        regs: Regs::start(pc, number, nodes * contexts),
+        regs: Regs::start(pc, number, image.all_contexts()),
         status,
         hold: None,
     }

@@ -13,7 +13,7 @@ ghost use Rattle.alw_flat.specs.Contexts.{contexts_of};
 use crate::memory::Memory;
 use alw_image::{Code, Image};
 use alw_msg::Status;
-use alw_num::{LineNo, NoMemory, SHARED_BASE, Width, lane};
+use alw_num::{LINE_BYTES, LineNo, NoMemory, SHARED_BASE, Width, lane};
 use sparc_exec::Outcome;
 use sparc_table::Regs;
 use std::alloc::Global;
@@ -58,9 +58,8 @@ impl Flat {
         ensures { IfOk result (λ f. f ≡ record { parts = for_turns image.now; flat = flat_start image.now }) }
     {
         let code = image.code().copy()?;
-        let nodes = u32::from(image.width()) * u32::from(image.height());
-        let memory = Memory::start(alloc, image, nodes * u32::from(image.per_node()))?;
-        let contexts = contexts_at_start(alloc, image, nodes * u32::from(image.contexts()))?;
+        let memory = Memory::start(alloc, image, image.lines())?;
+        let contexts = contexts_at_start(alloc, image, image.all_contexts())?;
         Ok(Flat {
             width: image.width(),
             height: image.height(),
@@ -100,8 +99,8 @@ impl Flat {
         requires { IsSharedWord self.now.parts addr }
         ensures { result ≡ word_of self.now.flat addr }
     {
-        let line = self.memory.value(LineNo((addr - SHARED_BASE) / 16));
-        lane(&line, addr % 16, Width::Word)
+        let line = self.memory.value(LineNo((addr - SHARED_BASE) / LINE_BYTES));
+        lane(&line, addr % LINE_BYTES, Width::Word)
     }
 }
 

@@ -7,7 +7,7 @@ use crate::faults::ImageErr;
 use crate::headers::is_within;
 use crate::images::context_of;
 use crate::parts::Parts;
-use alw_num::{Line, LineNo, NodeNo};
+use alw_num::{Line, LineNo, MOST_NODES, MOST_SIDE, NodeNo};
 
 // How many nodes, contexts of each and code words a start is tested against.
 #[derive(Clone, Copy, Debug, PartialEq, Eq)]
@@ -39,8 +39,9 @@ fn has_sizes(parts: &Parts) -> bool
 fn has_sides(parts: &Parts) -> bool
     ensures { result ≡ has_sides parts.now }
 {
-    is_within(1, 16, u32::from(parts.width))
-        && is_within(1, 16, u32::from(parts.height))
+    let most = u32::from(MOST_SIDE);
+    is_within(1, most, u32::from(parts.width))
+        && is_within(1, most, u32::from(parts.height))
         && is_within(1, 4, u32::from(parts.contexts))
         && is_within(1, 4096, u32::from(parts.per_node))
 }
@@ -111,7 +112,7 @@ fn bodies_fault(bodies: &[(LineNo, Line)], lines: u32, at: u32) -> Option<ImageE
 
 // The first start that is out of range or out of order.
 fn starts_fault(starts: &[(NodeNo, u8, u32)], mesh: Mesh, at: u32) -> Option<ImageErr>
-    requires nodes { mesh.nodes ≤ 256 }
+    requires nodes { mesh.nodes ≤ MOST_NODES }
     requires words { mesh.words ≤ 65536 }
     requires room { at + 8 * length starts.now < 2 ^ 32 }
     ensures { result ≡ table_fault (fits_start mesh.nodes mesh.contexts mesh.words) (λ start. start.0.0 * mesh.contexts + start.1) 8 at None starts.now }

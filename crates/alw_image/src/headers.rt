@@ -8,6 +8,7 @@ ghost use Rattle.alw_image.specs.declared.faults.ImageErr.{ImageErr};
 
 use crate::faults::ImageErr;
 use crate::readers::{behind, byte_at, half_at, word_at};
+use alw_num::MOST_SIDE;
 
 // The letters that an image begins with.
 const MAGIC: [u8; 4] = [0x41, 0x4c, 0x45, 0x57];
@@ -105,7 +106,11 @@ impl Header {
     fn most_side(&self) -> u32
         ensures { result ≡ most_side self.now.version }
     {
-        if self.version == 1 { 8 } else { 16 }
+        if self.version == 1 {
+            8
+        } else {
+            u32::from(MOST_SIDE)
+        }
     }
 
     // The least height: an image of at most 8 columns and rows is of version 1.

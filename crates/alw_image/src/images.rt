@@ -4,7 +4,7 @@ ghost use Rattle.alw_image.specs.Nodes.{is_body_of, is_line_of, is_start_of};
 use crate::checks::is_image;
 use crate::parts::{Code, Parts};
 use crate::ranges::between;
-use alw_num::{Line, LineNo, NoMemory, NodeNo};
+use alw_num::{Line, LineNo, MOST_LINES, MOST_NODES, NoMemory, NodeNo};
 use std::marker::Model;
 
 /// An image: parts that are within their ranges and in order. Contracts see the parts.
@@ -98,6 +98,34 @@ impl Image {
         ensures { result ≡ self.now.per_node }
     {
         self.parts.per_node
+    }
+
+    /// The number of nodes.
+    pub fn nodes(&self) -> u16
+        ensures count { result ≡ node_count self.now }
+        ensures some { 1 ≤ result }
+        ensures few { result ≤ MOST_NODES }
+        ensures allowed { IsImage self.now }
+    {
+        u16::from(self.parts.width) * u16::from(self.parts.height)
+    }
+
+    /// The number of lines of shared data.
+    pub fn lines(&self) -> u32
+        ensures count { result ≡ line_count self.now }
+        ensures few { result ≤ MOST_LINES }
+        ensures allowed { IsImage self.now }
+    {
+        u32::from(self.nodes()) * u32::from(self.parts.per_node)
+    }
+
+    /// The number of contexts of all nodes.
+    pub fn all_contexts(&self) -> u32
+        ensures count { result ≡ context_count self.now }
+        ensures few { result ≤ 4 * MOST_NODES }
+        ensures allowed { IsImage self.now }
+    {
+        u32::from(self.nodes()) * u32::from(self.parts.contexts)
     }
 
     /// The program.

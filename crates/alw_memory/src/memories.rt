@@ -66,14 +66,14 @@ impl Memory {
         requires { node.0 < node_count image.now }
         ensures { IfOk result (λ m. m ≡ memory_of image.now params.now node.0 (node_start image.now node.0)) }
     {
-        let _allowed = image.code();
+        let nodes = u32::from(image.nodes());
         let per_node = image.per_node();
         let homes = lines_start(alloc, image, node)?;
         let soft = SoftDir::room(alloc, u32::from(per_node), u32::from(per_node))?;
         let packets = VecDeque::with_capacity(alloc, per_node as usize)?;
         Ok(Memory {
             number: node,
-            nodes: u32::from(image.width()) * u32::from(image.height()),
+            nodes,
             per_node,
             pointers: params.pointers(),
             homes,
@@ -199,7 +199,7 @@ fn lines_start(alloc: Global, image: &Image, node: NodeNo) -> Result<Vec<HomeLin
     requires { node.0 < node_count image.now }
     ensures { IfOk result (λ v. v.items ≡ lines_start image.now node.0) }
 {
-    let _allowed = image.code();
+    let _allowed = image.code(); // for its clause
     let count = u32::from(image.per_node());
     let first = u32::from(node.0) * count;
     let mut homes = Vec::with_capacity(alloc, count as usize)?;

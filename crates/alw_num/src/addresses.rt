@@ -4,7 +4,17 @@ ghost use Rattle.alw_num.specs.Lanes.{bytes_of, line_from, lane_of, with_lane_of
 /// The first address of shared data. Code lies below it.
 pub const SHARED_BASE: u32 = 0x4000_0000;
 
-/// The number of a line of shared data. Line n holds the 16 bytes from 0x40000000 + 16 * n.
+/// The bytes of a line.
+pub const LINE_BYTES: u32 = 16;
+
+/// The most columns of a mesh, and the most rows.
+pub const MOST_SIDE: u8 = 16;
+
+/// The most lines of shared data of a machine.
+pub const MOST_LINES: u32 = 1_048_576;
+
+/// The number of a line of shared data, below `MOST_LINES`. Line n holds the `LINE_BYTES` bytes from
+/// `SHARED_BASE` + `LINE_BYTES` * n.
 #[derive(Clone, Copy, Debug, PartialEq, Eq)]
 pub struct LineNo(pub u32);
 
@@ -43,10 +53,10 @@ pub enum Width {
 /// The line that an address lies in. None below shared data.
 pub fn line_of(addr: u32) -> Option<LineNo>
     ensures none { IsNone result ↔ (addr < SHARED_BASE) }
-    ensures line { IfSome result (λ line. line.0 ≡ (addr - SHARED_BASE) / 16) }
+    ensures line { IfSome result (λ line. line.0 ≡ (addr - SHARED_BASE) / LINE_BYTES) }
 {
     let offset = addr.checked_sub(SHARED_BASE)?;
-    Some(LineNo(offset / 16))
+    Some(LineNo(offset / LINE_BYTES))
 }
 
 /// The node that keeps a line in its memory, where each node has `per_node` lines.
@@ -85,7 +95,7 @@ fn line_from_bytes(bytes: &[u8; 16]) -> Line
 
 /// The unsigned big-endian number in the bytes of a line from `offset` on.
 pub fn lane(line: &Line, offset: u32, width: Width) -> u32
-    requires within { offset < 16 }
+    requires within { offset < LINE_BYTES }
     requires aligned { IsAligned width offset }
     ensures { result ≡ lane_of line.now offset width }
 {
@@ -102,7 +112,7 @@ pub fn lane(line: &Line, offset: u32, width: Width) -> u32
 
 /// The line with the low bytes of `value` written big-endian from `offset` on.
 pub fn with_lane(line: &Line, offset: u32, width: Width, value: u32) -> Line
-    requires within { offset < 16 }
+    requires within { offset < LINE_BYTES }
     requires aligned { IsAligned width offset }
     ensures { result ≡ with_lane_of line.now offset width value }
 {

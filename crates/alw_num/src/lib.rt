@@ -11,7 +11,10 @@ mod roomy;
 mod sequences;
 mod states;
 
-pub use addresses::{Line, LineNo, NodeNo, SHARED_BASE, Width, home_of, lane, line_of, with_lane};
+pub use addresses::{
+    LINE_BYTES, Line, LineNo, MOST_LINES, MOST_SIDE, NodeNo, SHARED_BASE, Width, home_of, lane,
+    line_of, with_lane,
+};
 pub use byte_list::Bytes;
 pub use draws::Draws;
 pub use memory::NoMemory;

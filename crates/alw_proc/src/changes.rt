@@ -21,9 +21,9 @@ pub fn take_turn(contexts: &mut Contexts, shared: &mut Shared, slot: u8, code: &
     requires { slot < length contexts.old.slots }
     ensures { Runs code.now slot contexts.old shared.old contexts.new shared.new result }
 {
-    let _placed = shared.cache.sets();
+    let _placed = shared.cache.sets(); // for its clause
     let outcome = contexts.turn(slot, code, shared);
-    let _stay = shared.cache.sets();
+    let _stay = shared.cache.sets(); // for its clause
     outcome
 }
 

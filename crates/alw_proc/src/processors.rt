@@ -63,7 +63,7 @@ impl Proc {
         requires { node.0 < node_count image.now }
         ensures { IfOk result (λ p. p ≡ processor_of image.now params.now node.0 (node_start image.now node.0)) }
     {
-        let _allowed = image.code();
+        let lines = image.lines();
         let cache = Cache::room(alloc, params.sets())?;
         Ok(Proc {
             number: node,
@@ -71,10 +71,7 @@ impl Proc {
             height: image.height(),
             per_node: image.per_node(),
             contexts: Contexts::start(image, node),
-            shared: Shared {
-                cache,
-                lines: count_lines(image),
-            },
+            shared: Shared { cache, lines },
             openings: Openings::none(),
         })
     }
@@ -302,12 +299,4 @@ impl Proc {
             per_node: self.per_node,
         }
     }
-}
-
-// The number of lines of shared data of an image.
-fn count_lines(image: &Image) -> u32
-    ensures { result ≡ line_count image.now }
-{
-    let nodes = u32::from(image.width()) * u32::from(image.height());
-    nodes * u32::from(image.per_node())
 }

@@ -4,7 +4,7 @@ ghost use Rattle.sparc_table.specs.Operands.{sign_extended};
 ghost use Rattle.sparc_table.specs.Access.{width_of, is_load, mode_of, needed, loaded, stored};
 ghost use Rattle.sparc_exec.specs.Runs.{need_with};
 
-use alw_num::{Line, LineNo, Width, lane, line_of, with_lane};
+use alw_num::{LINE_BYTES, Line, LineNo, Width, lane, line_of, with_lane};
 
 // The width of an access.
 fn width(op3: u8) -> Width
@@ -79,7 +79,7 @@ pub fn load(op3: u8, address: u32, line: &Line) -> u32
     requires { IsAligned (width_of op3) address }
     ensures { result ≡ loaded op3 address line.now }
 {
-    let value = lane(line, address % 16, width(op3));
+    let value = lane(line, address % LINE_BYTES, width(op3));
     match op3 {
         0x09 => sign_extend_8(value),
         0x0a => sign_extend_16(value),
@@ -93,7 +93,7 @@ pub fn store(op3: u8, address: u32, value: u32, line: &Line) -> Line
     requires { IsAligned (width_of op3) address }
     ensures { result ≡ stored op3 address value line.now }
 {
-    let offset = address % 16;
+    let offset = address % LINE_BYTES;
     match op3 {
         0x0d => with_lane(line, offset, Width::Byte, 0xff),
         _ => with_lane(line, offset, width(op3), value),

@@ -1,6 +1,8 @@
 ghost use Rattle.std.specs.Prelude.{◌≡◌, ◌≤◌, ◌*◌};
 ghost use Rattle.sparc_place.specs.Sizes.{size_of};
 
+use alw_num::{MOST_LINES, MOST_NODES};
+
 /// The sizes that a source gives: None where it doesn't, which stands for 1.
 #[derive(Clone, Copy, Debug)]
 pub struct Sizes {
@@ -34,7 +36,7 @@ impl Sizes {
     /// The number of nodes.
     pub fn nodes(&self) -> u32
         ensures count { result ≡ size_of self.now.width * size_of self.now.height }
-        ensures range { result ≤ 256 }
+        ensures range { result ≤ MOST_NODES }
     {
         u32::from(self.width.unwrap_or(1)) * u32::from(self.height.unwrap_or(1))
     }
@@ -42,7 +44,7 @@ impl Sizes {
     /// The number of lines of shared data.
     pub fn lines(&self) -> u32
         ensures count { result ≡ size_of self.now.width * size_of self.now.height * size_of self.now.per_node }
-        ensures range { result ≤ 1048576 }
+        ensures range { result ≤ MOST_LINES }
     {
         self.nodes() * u32::from(self.per_node.unwrap_or(1))
     }

@@ -7,7 +7,7 @@ use crate::cursors::Cursor;
 use crate::numbers::{byte_count, is_aligned, is_index, is_size, moved_on, rounded_up};
 use crate::plans::{Plan, Step};
 use crate::sizes::Sizes;
-use alw_num::{Sequence, Width};
+use alw_num::{LINE_BYTES, MOST_SIDE, Sequence, Width};
 use sparc_asm::{Expression, Fault, Name, Statement, Sum, Value};
 
 // A name is a line's label.
@@ -26,7 +26,7 @@ impl Plan {
         ensures end { result ≡ data_end (layout_of self.now) }
         ensures range { result ≤ 16777216 }
     {
-        16 * self.sizes.lines()
+        LINE_BYTES * self.sizes.lines()
     }
 
     // `.mesh`.
@@ -44,7 +44,8 @@ impl Plan {
         if label.is_some() || self.begun || self.sizes.width.is_some() {
             return Err(Fault::Redefined);
         }
-        if !is_size(16, &width) || !is_size(16, &height) {
+        let most = u64::from(MOST_SIDE);
+        if !is_size(most, &width) || !is_size(most, &height) {
             return Err(Fault::Range);
         }
         Ok(Step::Sized(Sizes {

@@ -8,4 +8,4 @@ pub start-requires : goal.start-requires
 start-requires c =
     let image = c.args.image.now in
     let less = mul-add-lt c.args.node.0 image.contexts c.args.slot (node_count image) c.requires.node c.requires.slot in
-    rw (c.from-3.ensures, c.from-contexts.ensures, c.contexts.ensures, c.from-4.ensures) (grind arith)
+    rw (c.from.ensures, c.from-contexts.ensures, c.contexts.ensures, c.from-2.ensures) (grind arith)

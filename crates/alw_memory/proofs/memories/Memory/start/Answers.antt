@@ -18,15 +18,13 @@ invariant_of-result c =
         c.in_ok-packets.ensures.items,
         c.from.ensures,
         c.from-2.ensures,
-        c.from-3.ensures,
-        c.from-4.ensures,
-        c.width.ensures,
-        c.height.ensures,
+        c.from-nodes.ensures,
+        c.nodes.ensures.count,
         c.per_node-per_node.ensures,
         c.pointers.ensures.value,
       )
           (subst IsMemory (sym (starts_from image params number))
-          (starts_as_one image params number c.code-allowed.ensures.allowed c.pointers.ensures.allowed c.requires));
+          (starts_as_one image params number c.nodes.ensures.allowed c.pointers.ensures.allowed c.requires));
       lines = rw (c.in_ok-homes.ensures, c.per_node-per_node.ensures) (length-map-range_with_len (line_start image) (number * image.per_node) image.per_node);
       table = rw (c.in_ok-soft.ensures, c.from.ensures, c.from-2.ensures, c.per_node-per_node.ensures) (table_starts number image.per_node);
       room = omega (arith, c.in_ok-packets.ensures.capacity, c.per_node-per_node.ensures);
@@ -40,10 +38,8 @@ returns c =
       c.in_ok-packets.ensures.items,
       c.from.ensures,
       c.from-2.ensures,
-      c.from-3.ensures,
-      c.from-4.ensures,
-      c.width.ensures,
-      c.height.ensures,
+      c.from-nodes.ensures,
+      c.nodes.ensures.count,
       c.per_node-per_node.ensures,
       c.pointers.ensures.value,
     ) (starts_from c.args.image.now c.args.params.now c.args.node.0)

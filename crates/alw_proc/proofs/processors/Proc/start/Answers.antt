@@ -6,5 +6,5 @@ use Rattle.alw_proc.proofs.processors.Proc.start.Goals as goal
 pub invariant_of-result : goal.invariant_of-result
 invariant_of-result c =
     let cache = c.in_ok-cache.ensures in
-    rw (c.width.ensures, c.height.ensures, c.per_node.ensures, c.start.ensures, cache, c.sets.ensures.value, c.none.ensures, c.count_lines.ensures)
-    (record { stands = start_stands c.args.image.now c.args.params.now c.args.node.0 c.code-allowed.ensures.allowed c.requires; lines_are = refl })
+    rw (c.width.ensures, c.height.ensures, c.per_node.ensures, c.start.ensures, cache, c.sets.ensures.value, c.none.ensures, c.lines-lines.ensures.count)
+    (record { stands = start_stands c.args.image.now c.args.params.now c.args.node.0 c.lines-lines.ensures.allowed c.requires; lines_are = refl })
