@@ -5,7 +5,7 @@ ghost use Rattle.alw_num.specs.declared.states.Mode.{Mode};
 ghost use Rattle.sparc_table.specs.Table.{Fits, FitsOperand};
 ghost use Rattle.sparc_table.specs.Registers.{register, with_register};
 ghost use Rattle.sparc_table.specs.Operands.{operand_of};
-ghost use Rattle.sparc_table.specs.Access.{width_of, is_load};
+ghost use Rattle.sparc_table.specs.Access.{width_of, is_load, mode_of, needed};
 ghost use Rattle.sparc_table.specs.Control.{next};
 ghost use Rattle.sparc_table.specs.Meaning.{need, accessed, OutcomeIsStill};
 ghost use Rattle.sparc_table.specs.Turns.{fetched, run_of, need_of, turn_of};
@@ -17,7 +17,7 @@ use crate::arithmetic::{address, calculate, operand_value, shift};
 use crate::control::{advance, branch, call, jump, trap_on};
 use crate::ports::Port;
 use alw_num::{LineNo, Mode};
-use sparc_table::{Instr, Operand, Outcome, Regs, decode};
+use sparc_table::{Instr, Need, Operand, Outcome, Regs, decode};
 
 /// Runs one turn: fetches the word at PC, decodes it and runs its instruction over a port.
 ///
@@ -34,6 +34,40 @@ pub fn turn<P: Port>(code: &[u32], regs: &mut Regs, port: &mut P) -> Outcome
         Ok(instr) => run_one(&instr, regs, port),
         Err(tt) => Outcome::Trap { tt },
     }
+}
+
+/// What the turn of these registers needs, where shared data has this number of lines.
+#[tactic(auto, unfolding(sparc_table::specs::Turns::need_of, sparc_table::specs::Meaning::need))]
+pub fn need(code: &[u32], regs: &Regs, lines: u32) -> Need
+    ensures { result ≡ need_of code.now regs.now lines }
+{
+    match fetch(code, regs.pc) {
+        Ok(Instr::Memory {
+            op3, rs1, operand, ..
+        }) => need_at(op3, address(rs1, operand, regs), lines),
+        Ok(_) => Need::Nothing,
+        Err(tt) => Need::Trap { tt },
+    }
+}
+
+// What an access to an address needs.
+fn need_at(op3: u8, address: u32, lines: u32) -> Need
+    ensures { result ≡ needed address (width_of op3) (mode_of op3) lines }
+{
+    match line_at(op3, address, lines) {
+        Ok(line) => Need::Copy {
+            line,
+            mode: mode_for(op3),
+        },
+        Err(tt) => Need::Trap { tt },
+    }
+}
+
+// The mode that an access asks for.
+fn mode_for(op3: u8) -> Mode
+    ensures { result ≡ mode_of op3 }
+{
+    if is_load(op3) { Mode::Read } else { Mode::Write }
 }
 
 // The instruction at an address, or the type of the trap that fetching it gives.

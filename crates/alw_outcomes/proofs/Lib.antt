@@ -1,0 +1,14 @@
+pub mod Commuting
+pub mod Ends
+pub mod Reducing
+pub mod Independence
+pub mod Unhinted
+pub mod Sizes
+pub mod Running
+pub mod Runs
+pub mod EveryTrap
+pub mod Finding
+pub mod Steps
+pub mod Listed
+pub mod Witnesses
+pub mod Comparing

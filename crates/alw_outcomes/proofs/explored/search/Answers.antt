@@ -1,0 +1,15 @@
+-- One place more, and all at the end.
+use Rattle.std.proofs.Common.{arith, sym, ◌∙◌}
+use Rattle.std.proofs.lemmas.Bool.{eqb-true}
+use Rattle.alw_outcomes.specs.Explored.{found_in}
+use Rattle.alw_outcomes.proofs.Steps.{explored_more, all_listed}
+use Rattle.alw_outcomes.proofs.Listed.{every_contained}
+use Rattle.alw_outcomes.proofs.explored.search.Goals as goal
+
+pub returns-then-next-len-clause-complete : goal.returns-then-next-len-clause-complete
+returns-then-next-len-clause-complete c = λ _. every_contained c.args.image.now (found_in c.loop-next.found) (λ ending comes.
+    all_listed c.args.image.now c.args.classes.now (found_in c.loop-next.found) c.loop-next.next c.loop-next.invariant (omega (arith, c.if-next-len.true, c.len.ensures)) (let none = eqb-true _ 0 (sym c.is_empty.ensures ∙ c.if-not-is_empty.false) in omega (arith, none, c.loop-next.found.broken.ok.0)) ending comes)
+
+pub loop-next-preserved : goal.loop-next-preserved
+loop-next-preserved c =
+    explored_more c.args.image.now c.args.classes.now (found_in c.loop-next.found) (found_in c.expand.new.found) c.loop-next.next c.loop-next.invariant (omega (arith, c.if-next-len.false, c.len.ensures)) c.in_ok-expand.ensures.goes c.in_ok-expand.ensures.expanded

@@ -1,0 +1,57 @@
+ghost use Rattle.std.specs.Prelude.{◌≡◌, IfOk, IsTrue};
+ghost use Rattle.alw_outcomes.specs.Outcomes.{HasEvery};
+ghost use Rattle.alw_outcomes.specs.Explored.{found_in, endings_in, IsReal};
+
+use crate::classes::{Class, class_at};
+use crate::explored::{Broken, Explored, search};
+use crate::places::lines_of;
+use alw_image::Image;
+use alw_num::{Mode, NoMemory};
+use std::alloc::Global;
+
+/// Finds every outcome of an image. It first takes each line for one that nobody writes, and begins
+/// again whenever a turn shows that the line is written by one context, or used by several.
+pub fn explore(alloc: Global, image: &Image, most: u32) -> Result<Explored, NoMemory>
+    ensures real { IfOk result (λ found. IsReal image.now (found_in found)) }
+    ensures complete { IfOk result (λ found. IsTrue found.is_complete → HasEvery image.now (endings_in (found_in found))) }
+{
+    let lines = lines_of(image);
+    let mut classes = vec![in alloc; Class::Fixed; lines as usize]?;
+    for _round in 0..lines.saturating_mul(2) {
+        let found = search(alloc, image, &classes, most, true)?;
+        match first_break(&found.broken) {
+            Some(turn) => weaken(&mut classes, turn),
+            None => return Ok(found),
+        }
+    }
+    let found = search(alloc, image, &classes, most, true)?;
+    Ok(found)
+}
+
+/// Finds every outcome of an image by the turns of all contexts at each place. It answers as
+/// `explore` does, from more places.
+pub fn explore_whole(alloc: Global, image: &Image, most: u32) -> Result<Explored, NoMemory>
+    ensures real { IfOk result (λ found. IsReal image.now (found_in found)) }
+    ensures complete { IfOk result (λ found. IsTrue found.is_complete → HasEvery image.now (endings_in (found_in found))) }
+{
+    let found = search(alloc, image, &[], most, false)?;
+    Ok(found)
+}
+
+// The first turn that didn't keep to the hint.
+fn first_break(broken: &[Broken]) -> Option<Broken> {
+    broken.first().copied()
+}
+
+// Says less of the line of a turn that didn't keep to the hint.
+fn weaken(classes: &mut [Class], turn: Broken) {
+    let class = match (class_at(classes, turn.line), turn.mode) {
+        (Class::Fixed, Mode::Write) => Class::Own {
+            context: turn.context,
+        },
+        _ => Class::Shared,
+    };
+    if (turn.line.0 as usize) < classes.len() {
+        classes[turn.line.0 as usize] = class;
+    }
+}
