@@ -9,6 +9,8 @@ from concurrent.futures import ThreadPoolExecutor
 from dataclasses import dataclass, field
 from pathlib import Path
 
+import alewife
+
 HERE = Path(__file__).resolve().parent
 OUTSIDE = 'an outside program'
 SECONDS = 60
@@ -100,7 +102,7 @@ def run(program, words, data):
     except subprocess.TimeoutExpired as fault:
         raise Fault(f'no answer in {SECONDS} seconds') from fault
     except OSError as fault:
-        raise Fault(f"{program} can't be run: {fault.strerror}") from fault
+        raise alewife.no_program(program, fault.strerror) from fault
     return Answer(ran.returncode, ran.stdout, ran.stderr.decode(errors='replace'))
 
 
