@@ -14,12 +14,14 @@ What is tested:
   each, and each file *.shell of examples/ stands in one of the two.
 - docs/ARCHITECTURE.md has each crate of crates.txt, and no other.
 - a crate of crates.txt stands on crates of its own floor and of those that the floor's line names; what it lists else is of the toolchain.
-- docs/REFUSALS.md: each row has calls of its crate, a clause of one of them or a word of it, and tests; and each call of these crates that
+- cases/README.md names each group of cases.
+- docs/REFUSALS.md: each row has calls of its crate, a clause of one of them or a word of it, and tests or cases, these as `group: name`; and each call of these crates that
   answers a Result or an Option has a row.
 
 A row's second cell is read like this: parts are parted by ';', and what stands in `code` in a part is a function, method or
 type of the crate, or a clause of one named before it in that part. In brackets stand definitions, or an edit's crate.
 """
+import json
 import re
 import sys
 from dataclasses import dataclass, field
@@ -489,8 +491,35 @@ def tests_of(crate):
     return {name for file in crate.folder.glob('src/**/*.rt') for name in re.findall(r'#\[test\]\s+fn (\w+)', file.read_text())}
 
 
+def cases_of(group):
+    """The names of a group of cases."""
+    file = ROOT / 'cases' / f'{group}.jsonl'
+    return {json.loads(line)['name'] for line in file.read_text().splitlines()} if file.is_file() else set()
+
+
+def check_cases(findings):
+    """cases/README.md has each group of cases in its table, and no other."""
+    file = ROOT / 'cases' / 'README.md'
+    shown = {name for head, rows in tables_of(file.read_text()) if head[0] == 'group' for row in rows for name in SPAN.findall(row.cells[0])}
+    for name in sorted(shown ^ {group.stem for group in file.parent.glob('*.jsonl')}):
+        findings.say(file, 0, f'{name} is a group or stands in its table, and not both')
+
+
+def check_successes(findings, file, row, crate, repository):
+    """What a row of docs/REFUSALS.md names as a success: tests, each of the crate, of alw_trials or of the crate behind it, and cases."""
+    named = row.cells[4]
+    for test, other in re.findall(r'`(\w+)`(?: \(`(\w+)`\))?', named):
+        if test not in tests_of(repository.get(other, crate)) | (set() if other else tests_of(repository['alw_trials'])):
+            findings.say(file, row.line, f'there is no test {test} in {other or crate.name}')
+    for group, name in re.findall(r'`(\w+): ([^`]+)`', named):
+        if name not in cases_of(group):
+            findings.say(file, row.line, f'there is no case {name} in {group}')
+    if not SPAN.findall(named):
+        findings.say(file, row.line, 'a row without a test or a case')
+
+
 def check_refusal(findings, file, row, crate, repository):
-    """A row of docs/REFUSALS.md: calls of the crate, with a clause of one of them, and tests. Answers the paths of the calls."""
+    """A row of docs/REFUSALS.md: calls of the crate, with a clause of one of them, and what succeeds. Answers the paths of the calls."""
     calls = [f for f in crate.functions if f.is_public and f.path in SPAN.findall(row.cells[0])]
     for path in sorted(set(SPAN.findall(row.cells[0])) - {f.path for f in calls}):
         findings.say(file, row.line, f'`{path}` is no call of {crate.name}')
@@ -499,9 +528,7 @@ def check_refusal(findings, file, row, crate, repository):
     cited = set(SPAN.findall(row.cells[2]))
     if cited and not cited & words:
         findings.say(file, row.line, f'no clause of {row.cells[0]} is named {", ".join(sorted(cited))} or speaks of it')
-    for test, other in re.findall(r'`(\w+)`(?: \(`(\w+)`\))?', row.cells[4]):
-        if test not in tests_of(repository.get(other, crate)) | (set() if other else tests_of(repository['alw_trials'])):
-            findings.say(file, row.line, f'there is no test {test} in {other or crate.name}')
+    check_successes(findings, file, row, crate, repository)
     return {f.path for f in calls}
 
 
@@ -572,6 +599,7 @@ def main():
     check_floors(findings, repository)
     check_words(findings)
     check_refusals(findings, repository)
+    check_cases(findings)
     check_examples(findings)
     if findings.count:
         print(f'documents: {findings.count} findings')

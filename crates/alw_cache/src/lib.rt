@@ -7,5 +7,3 @@ mod places;
 pub use caches::Cache;
 pub use places::Evicted;
 
-#[cfg(test)]
-mod tests;

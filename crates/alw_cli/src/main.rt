@@ -35,15 +35,9 @@ fn words_of(rt: &(impl Env + AllocGlobal)) -> Option<Vec<String>> {
 }
 
 #[cfg(test)]
-mod checkpoint_tests;
-#[cfg(test)]
-mod outside_tests;
-#[cfg(test)]
 mod tests;
 #[cfg(test)]
 mod work_tests;
-#[cfg(test)]
-mod worked_tests;
 
 fn main(rt: HostRuntime) -> ExitCode {
     let alloc: Global = rt.alloc();

@@ -10,5 +10,3 @@ mod words;
 pub use commands::{AsmForm, Command, Form, How, WordErr};
 pub use words::command;
 
-#[cfg(test)]
-mod tests;

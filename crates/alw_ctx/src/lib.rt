@@ -8,5 +8,3 @@ mod starts;
 pub use alw_msg::Status;
 pub use contexts::Contexts;
 
-#[cfg(test)]
-mod tests;

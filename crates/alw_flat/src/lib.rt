@@ -7,5 +7,3 @@ mod memory;
 pub use machines::Flat;
 pub use memory::Memory;
 
-#[cfg(test)]
-mod tests;

@@ -6,5 +6,3 @@ mod workloads;
 
 pub use workloads::{most_operations, workload};
 
-#[cfg(test)]
-mod tests;

@@ -7,5 +7,3 @@ mod reactions;
 pub use deliveries::{Acted, deliver};
 pub use reactions::react;
 
-#[cfg(test)]
-mod tests;

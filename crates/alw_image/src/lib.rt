@@ -22,5 +22,3 @@ pub use parts::{Bodies, Code, LineList, Parts, Starts};
 pub use reading::read_image;
 pub use writing::write_image;
 
-#[cfg(test)]
-mod tests;

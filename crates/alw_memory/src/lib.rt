@@ -7,5 +7,3 @@ mod views;
 pub use memories::Memory;
 pub use views::HomeView;
 
-#[cfg(test)]
-mod tests;

@@ -13,5 +13,3 @@ pub use messages::{Kind, Msg, MsgList};
 pub use sends::Sends;
 pub use turns::{Stretches, Turns, stretches, stretches_are_longest};
 
-#[cfg(test)]
-mod tests;

@@ -24,5 +24,3 @@ pub use roomy::Roomy;
 pub use sequences::Sequence;
 pub use states::{Meta, Mode, State};
 
-#[cfg(test)]
-mod tests;

@@ -9,5 +9,3 @@ mod shared;
 
 pub use processors::Proc;
 
-#[cfg(test)]
-mod tests;

@@ -12,7 +12,3 @@ pub use laws::{remains_by_event, told_event_by_event};
 pub use remains::Remains;
 pub use tallies::Tally;
 
-#[cfg(test)]
-mod remains_tests;
-#[cfg(test)]
-mod tests;

@@ -11,5 +11,3 @@ pub use numbers::{decimal, digits, hex_value, hex32};
 pub use pieces::{put_nodes, put_number};
 pub use texts::{Spell, Text, digit_of};
 
-#[cfg(test)]
-mod tests;

@@ -1,6 +1,4 @@
-use crate::assembling::LOCK;
-use crate::machines::TWO_WRITERS;
-use crate::plays::started;
+use crate::plays::{Play, started};
 use alw_image::{Image, Params};
 use alw_merge::{join, replay_logs};
 use alw_mesh::{Machine, fit};
@@ -11,6 +9,33 @@ use std::alloc::AllocGlobal;
 use std::sync::Wait;
 use std::test::Fail;
 use std::thread::Threads;
+
+// Two nodes store in one line, and the first one then loads it.
+const TWO_WRITERS: Play = Play {
+    sizes: "2 1 1 4 256 32768",
+    code: "03100000 d2204000 d0004000 91d02001 91d02000 03100000 d0204000 91d02000",
+    starts: "0 0 0, 1 0 20",
+    rows: "",
+};
+
+// Four nodes that each add 1 to a count a hundred times, behind a lock.
+const LOCK: &[u8] = b".mesh 2,2
+        set 0x40000000,%g1
+        set 0x40000010,%g2
+        mov 100,%g3
+again:  ldstub [%g1],%g4
+        tst %g4
+        bne again
+        nop
+        ld [%g2],%g5
+        add %g5,1,%g5
+        st %g5,[%g2]
+        stb %g0,[%g1]
+        subcc %g3,1,%g3
+        bne again
+        nop
+        ta 0
+";
 
 // The machine that is joined from what so many workers leave, and the one that takes the merge of their logs
 // again.

@@ -407,8 +407,7 @@ const ASKS: Play = Play {
     sizes: "1 1 1 4 4 100",
     code: "03100000 d0204000",
     starts: "0 0 0",
-    always: "",
-    rows: "1 I 0 done, 2 I 0 missed",
+    rows: "1 I 0, 2 I 0",
 };
 
 // The machine once it has.

@@ -7,5 +7,3 @@ mod pointers;
 pub use entries::HomeEntry;
 pub use pointers::{MOST_POINTERS, Pointers};
 
-#[cfg(test)]
-mod tests;

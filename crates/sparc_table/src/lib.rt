@@ -13,5 +13,3 @@ pub use outcomes::{Need, Outcome};
 pub use registers::Regs;
 pub use words::{decode, encode};
 
-#[cfg(test)]
-mod tests;
