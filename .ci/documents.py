@@ -12,7 +12,7 @@ What is tested:
 - each edit still fits: its old text stands once in its file.
 - each block of README.md and docs/EXAMPLES.md that shows commands or C is a file of examples/, of which the checks there run
   each, and each file *.shell of examples/ stands in one of the two.
-- docs/ARCHITECTURE.md has each crate of crates.txt, and no other.
+- docs/ARCHITECTURE.md has each crate of crates.txt, in that order, and no other.
 - a crate of crates.txt stands on crates of its own floor and of those that the floor's line names; what it lists else is of the toolchain.
 - cases/README.md names each group of cases.
 - docs/REFUSALS.md: each row has calls of its crate, a clause of one of them or a word of it, and tests or cases, these as `group: name`; and each call of these crates that
@@ -460,6 +460,8 @@ def check_architecture(findings, repository):
         findings.say(ROOT / 'crates.txt', 0, f'{name} stands in crates.txt or in crates/, and not in both')
     for name in sorted(set(shown) ^ set(listed)):
         findings.say(file, 0, f'{name} stands in its table or in crates.txt, and not in both')
+    if sorted(shown) == sorted(listed) and shown != listed:
+        findings.say(file, 0, 'its crates are not in the order of crates.txt')
 
 
 def crates_in_order():

@@ -73,7 +73,7 @@ def page(repository):
     sources, seen = trusted.read_sources(repository), set()
     out = [HEAD, *indexed(repository)]
     for floor, about, crates in floors():
-        out += ['', f'# {floor.capitalize()}', '', f'{about[0].upper()}{about[1:]}.']
+        out += ['', f'# Floor: {floor}', '', f'{about[0].upper()}{about[1:]}.']
         for crate in (repository[name] for name in crates if name in repository and documents.promise_rows(repository[name])):
             out += ['', f'## {crate.name}', '', *table_of(sources, crate, seen)]
     return '\n'.join(out) + '\n'
