@@ -8,7 +8,8 @@ What is tested:
   answer nothing but that. A row may begin with a name, '**name**: ', and a named promise has an edit in one of its rows.
 - README.md, docs/, bench/README.md and each crate's README: each name in `code` that looks like one of the repository's is
   declared in it, and each path is there, as is what links lead to, with the place in its page. CHANGES.md may name what is gone.
-- the manual page, the completions, the launcher's help and README.md have the command words of alw_config, and no other options.
+- what tools/words.py writes of the command words is current: the launcher's help, the manual's options, the completions. README.md's table has each
+  command with its options, and README.md and the manual say the times that the launcher says.
 - each edit still fits: its old text stands once in its file.
 - each block of README.md and docs/EXAMPLES.md that shows commands or C is a file of examples/, of which the checks there run
   each, and each file *.shell of examples/ stands in one of the two.
@@ -29,10 +30,12 @@ from pathlib import Path
 
 sys.path.insert(0, str(Path(__file__).resolve().parent.parent / 'tools'))
 sys.dont_write_bytecode = True
+import words
 from alewife import Findings, ROOT
 
 HEADINGS = ['What it does', 'What a contract sees', 'What is proved', 'What is only tested', 'Left open', 'A caller']
 CRATE_TABLE = ['promise', 'function, clause', 'edit that is refused']
+COMMAND_TABLE = ['command', 'reads', 'writes', 'options']
 REFUSAL_TABLE = ['call', 'refuses', 'clause', 'what stands', 'succeeds in']
 
 # Words in `code` that the repository doesn't declare: of Rust and its library, of the toolchain, and of the shell.
@@ -420,35 +423,33 @@ def check_fit(findings, edit, crate):
         texts[name] = texts[name].replace(old, new) if old else texts[name]
 
 
-LAUNCHER = {'--build', '--help', '--version', '--unproved'}
-QUOTED = re.compile(r'"(-?-?[a-z]+)"')
-
-
-def command_words():
-    """The words that alw_config's table of commands and options has: all that stands in quotes in its definitions and code."""
-    crate = ROOT / 'crates' / 'alw_config'
-    files = [*crate.glob('specs/**/*.antt'), *(file for file in crate.glob('src/**/*.rt') if 'tests' not in file.stem)]
-    return {word for file in files for word in QUOTED.findall(file.read_text())}
-
-
-def word_texts():
-    """The texts that say the command words, each with its file."""
-    launcher = (ROOT / 'alewife').read_text()
-    yield ROOT / 'alewife', launcher.partition("<<'HELP'")[2].partition('\nHELP\n')[0]
-    yield ROOT / 'README.md', (ROOT / 'README.md').read_text()
-    for file in (ROOT / 'docs' / 'alewife.1', *sorted((ROOT / 'docs' / 'completions').iterdir())):
-        yield file, file.read_text().replace('\\-', '-') if file.is_file() else ''
-
-
 def check_words(findings):
-    """Each text has each of the words, and no option that is neither in the table nor the launcher's."""
-    wanted = command_words() | LAUNCHER
-    for file, text in word_texts():
-        said = set(re.findall(r'(?<![\w-])(?:--)?[a-z]+(?![\w-])', text))
-        for word in sorted(wanted - said):
-            findings.say(file, 0, f"doesn't say the word {word}")
-        for word in sorted(word for word in said - wanted if word.startswith('--')):
-            findings.say(file, 0, f'has the option {word}, which no command takes')
+    """What tools/words.py writes is current, and README.md's table has each command with its own options and their names, and no other."""
+    for file, text in words.pages().items():
+        if file.read_text() != text:
+            findings.say(file, 0, "isn't what the table of command words says today: run tools/words.py")
+    file, commands = ROOT / 'README.md', words.read_table()
+    rows = {row.cells[0].strip('`'): row for head, rows in tables_of(file.read_text()) if head == COMMAND_TABLE for row in rows}
+    if list(rows) != list(commands):
+        findings.say(file, 0, f'its table of commands has {", ".join(rows)}, and the program {", ".join(commands)}')
+    for name, row in rows.items():
+        wanted = {option.name for option in commands[name].options} if name in commands else set()
+        for option in sorted(set(re.findall(r'--\w+', row.cells[3])) ^ wanted):
+            findings.say(file, row.line, f'{option} is said of {name} or is its option, and not both')
+    spelled = {word for span in SPAN.findall(file.read_text()) for word in span.split()}
+    for form in sorted({form for command in commands.values() for option in command.options if option.value() == 'FORM' for form in option.names} - spelled):
+        findings.say(file, 0, f"doesn't say the form {form}")
+
+
+TIMES = re.compile(r"^(\w+_takes)='(.*)'$", re.M)
+
+
+def check_times(findings):
+    """The times of a build that the launcher says are those that README.md and the manual say."""
+    for name, time in TIMES.findall((ROOT / 'alewife').read_text()):
+        for file in (ROOT / 'README.md', ROOT / 'docs' / 'alewife.1'):
+            if time not in ' '.join(file.read_text().split()):
+                findings.say(file, 0, f"doesn't say {time}, which is the launcher's {name}")
 
 
 def check_architecture(findings, repository):
@@ -600,6 +601,7 @@ def main():
     check_architecture(findings, repository)
     check_floors(findings, repository)
     check_words(findings)
+    check_times(findings)
     check_refusals(findings, repository)
     check_cases(findings)
     check_examples(findings)

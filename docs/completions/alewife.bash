@@ -1,31 +1,48 @@
-# Completions of alewife for bash: source this file.
+# Completions of alewife for bash: source this file. tools/words.py writes it.
 
 _alewife() {
-    local word=${COMP_WORDS[COMP_CWORD]} before=${COMP_WORDS[COMP_CWORD-1]} at=1 words
+    local word=${COMP_WORDS[COMP_CWORD]} before=${COMP_WORDS[COMP_CWORD-1]} at=1 words=
     [ "${COMP_WORDS[1]}" = --unproved ] && at=2
-    case $COMP_CWORD in
-    "$at")
+    case $COMP_CWORD:$before in
+    *:[\<\>]*) ;;
+    "$at":*)
         words='asm run replay audit gen route save resume'
-        [ "$at" = 1 ] && words="$words --unproved --build --help --version"
+        [ "$at" = 1 ] && words="$words help --unproved --build --install --help --version"
         ;;
     *)
         case ${COMP_WORDS[at]}:$before in
+        asm:asm) words='--write --help' ;;
         asm:--write) words='image listing' ;;
-        run:--write | replay:--write | resume:--write) words='report json trace claim summary' ;;
+        asm:*) words='--write' ;;
+        run:run) words='--seed --workers --pointers --sets --limit --evict --write --help' ;;
         run:--pointers) words='1 2 3 4 5 6 7 8' ;;
         run:--sets) words='4 8 16 32 64 128 256 512 1024 2048 4096' ;;
-        run:--seed | run:--workers | run:--limit | run:--evict | gen:--* | route:--* | save:--* | resume:--*) words='' ;;
-        asm:*) words='--write' ;;
-        replay:*) words='--write' ;;
-        gen:*) words='--seed --width --height --size' ;;
-        route:*) words='--seed' ;;
-        save:*) words='--at' ;;
-        resume:*) words='--seed --evict --write' ;;
+        run:--write) words='report json trace claim summary' ;;
+        run:--seed | run:--workers | run:--limit | run:--evict) compopt +o default ;;
         run:*) words='--seed --workers --pointers --sets --limit --evict --write' ;;
+        replay:replay) words='--write --help' ;;
+        replay:--write) words='report json trace claim summary' ;;
+        replay:*) words='--write' ;;
+        audit:audit) words='--help' ;;
+        gen:gen) words='--seed --width --height --size --help' ;;
+        gen:--width) words='1 2 3 4 5 6 7 8 9 10 11 12 13 14 15 16' ;;
+        gen:--height) words='1 2 3 4 5 6 7 8 9 10 11 12 13 14 15 16' ;;
+        gen:--seed | gen:--size) compopt +o default ;;
+        gen:*) words='--seed --width --height --size' ;;
+        route:route) words='--seed --help' ;;
+        route:--seed) compopt +o default ;;
+        route:*) words='--seed' ;;
+        save:save) words='--at --help' ;;
+        save:--at) compopt +o default ;;
+        save:*) words='--at' ;;
+        resume:resume) words='--seed --evict --write --help' ;;
+        resume:--write) words='report json trace claim summary' ;;
+        resume:--seed | resume:--evict) compopt +o default ;;
+        resume:*) words='--seed --evict --write' ;;
         esac
         ;;
     esac
     mapfile -t COMPREPLY < <(compgen -W "$words" -- "$word")
 }
 
-complete -F _alewife alewife ./alewife
+complete -o default -F _alewife alewife ./alewife

@@ -1,0 +1,279 @@
+"""What the launcher says below a refusal of the program: explain.py STATUS LINE PLACE WORDS..
+
+STATUS is 2 for refused words and 3 for a refused input, LINE is what the program wrote to standard error, PLACE is where standard input stood before it read,
+as far as that is known, and WORDS are the program's words. Writes the lines that say more, or none. Standard input is read again where it is a regular file.
+The words that the program has are in words.json, beside this file.
+"""
+import json
+import os
+import re
+import stat
+import sys
+from pathlib import Path
+
+TABLE = json.loads((Path(__file__).resolve().parent / 'words.json').read_text())
+COMMANDS = TABLE['commands']
+STATEMENTS = {*TABLE['mnemonics'], *(f'.{name}' for name in TABLE['directives'])}
+MOST_READ = 16 << 20
+MOST_SHOWN = 100
+MOST_LINE = 1000
+
+# What each input is called, and how one comes by it.
+MAKERS = {
+    'source': 'a text of instructions',
+    'image': 'asm, gen and examples/c/build make one',
+    'trace': 'run --write trace writes one',
+    'claim': 'run --write claim writes one',
+    'checkpoint': 'save writes one',
+}
+
+
+def shown(word):
+    """A word as it can be shown in a line."""
+    word = word if word.isprintable() and word else ascii(word)
+    return word if len(word) <= MOST_SHOWN else word[:MOST_SHOWN] + '..'
+
+
+def listed(names, last='and'):
+    """Names in a row."""
+    return f' {last} '.join(part for part in (', '.join(names[:-1]), names[-1]) if part) if names else ''
+
+
+def a(noun):
+    """A noun with its article."""
+    return f'{"an" if noun[0].lower() in "aeiou" else "a"} {noun}'
+
+
+def takers(kind):
+    """The commands that take a kind of input."""
+    return [name for name, command in COMMANDS.items() if command['reads'] == kind]
+
+
+# ---- refused words
+
+
+def of_unknown_option(word, command):
+    """Why a word is no option of a command."""
+    name, equals, value = word.partition('=')
+    names, reads = [option['name'] for option in COMMANDS[command]['options']], COMMANDS[command]['reads']
+    if equals and name in names:
+        return f'{shown(word)}: a value stands behind its option, as {name} {shown(value)}'
+    if word.startswith('--') or not reads:
+        return f'{shown(word)}: {command} has ' + (f'the options {listed(names)}' if names else 'no options')
+    return f'{shown(word)}: input comes by <, as {command} < {shown(word)}'
+
+
+def of_word(at, words):
+    """Why the word at a place is refused."""
+    if at >= len(words) and at % 2 or not words:
+        return None
+    if at == 0:
+        return f'{shown(words[0])} is no command; the commands are {listed(list(COMMANDS))}, and --help says more'
+    command = words[0]
+    options = {option['name']: option for option in COMMANDS[command]['options']}
+    if at % 2:
+        option = options.get(words[at])
+        if option is None:
+            return of_unknown_option(words[at], command)
+        other = next(name for name in words[1:at:2] if options[name]['choice'] == option['choice'])
+        return f'{words[at]} stands twice' if other == words[at] else f'{words[at]}: not with {other}'
+    option = options[words[at - 1]]
+    if at == len(words):
+        return f'{option["name"]} wants a value: {option["values"]}'
+    return of_value(words[at], option, COMMANDS[command]['rule'])
+
+
+def of_value(word, option, rule):
+    """Why a word is no value of an option. A number in its range is against the command's rule."""
+    if option['names']:
+        return f'{shown(word)}: {option["name"]} is {option["values"]}'
+    if not (word.isascii() and word.isdecimal()):
+        return f'{shown(word)}: {option["name"]} is a number, {option["values"]}'
+    if word != str(int(word)):
+        return f'{shown(word)}: {option["name"]} is {option["values"]}, without leading zeros'
+    if option['first'] <= int(word) <= option['last']:
+        return f'{shown(word)}: {rule}'.rstrip('.')
+    return f'{shown(word)}: {option["name"]} is {option["values"]}'
+
+
+# ---- refused inputs
+
+
+TITLES = {b'ALEWIFE TRACE': 'trace', b'ALEWIFE CLAIM': 'claim', b'ALEWIFE SAVE': 'checkpoint', b'ALEWIFE REPORT': 'report', b'ALEWIFE ROUTE': 'load of wires',
+          b'{"contexts"': 'report in JSON', b'\x7fELF': 'ELF file', b'ALEW': 'image'}
+AT_THE_START = ('image byte 0: magic', 'image byte 0: short', 'text line 1: syntax')
+LISTING = re.compile(rb'[0-9a-f]{8} [0-9a-f]{8} [0-9]+$', re.M)
+LABELS = re.compile(r'\s*(?:[A-Za-z_]\w*\s*:\s*)*')
+STATEMENT = re.compile(r'\.?[A-Za-z_]\w*')
+
+
+def first_statement(text):
+    """The first word of a source that is no label, or None."""
+    for line in text.splitlines():
+        match = STATEMENT.match(line.partition('!')[0], LABELS.match(line.partition('!')[0]).end())
+        if match:
+            return match[0]
+    return None
+
+
+def kind_of(data, command):
+    """What an input looks like, or None. What asm refuses may be a source of which no line is known."""
+    if not data:
+        return 'empty'
+    for title, kind in TITLES.items():
+        if data.startswith(title):
+            return kind
+    if LISTING.match(data):
+        return 'listing'
+    is_text = command == 'asm' and b'\0' not in data
+    return 'source' if is_text or first_statement(data[:1 << 16].decode(errors='replace')) in STATEMENTS else None
+
+
+def taken(command):
+    """What a command takes, and how one comes by it."""
+    wanted = COMMANDS[command]['reads']
+    return f'{command} takes {a(wanted)}: {MAKERS[wanted]}'
+
+
+def of_kind(kind, command):
+    """That an input isn't what a command takes."""
+    takes = taken(command)
+    if kind == 'empty':
+        return f'the input is empty; {takes}'
+    others = takers(kind)
+    if others:
+        return f'this is {a(kind)}, for {listed(others)}; {takes}'
+    return f'this is {a(kind)}; {takes}' if kind else f'this is none of the inputs that alewife has; {takes}'
+
+
+def of_limit(number, most, words, data):
+    """The greatest limit: the refused number is nodes times the limit."""
+    params = re.search(rb'^params .* limit (\d+)$', data or b'', re.M)
+    limit = next((option['default'] for option in COMMANDS[words[0]]['options'] if option['name'] == '--limit'), params and params[1].decode())
+    if '--limit' in words:
+        limit = words[words.index('--limit') + 1]
+    if limit is None:
+        return f'the limit times the nodes is at most {most}'
+    nodes = number // int(limit)
+    return f'the limit is {limit}, and at most {most // nodes} with {nodes} nodes'
+
+
+def of_entry(number, data):
+    """The refused entry of a trace."""
+    lines = data.decode(errors='replace').split('\n')
+    start = next((at for at, line in enumerate(lines, 1) if line.startswith('entries ')), None)
+    return f'entry {number} stands on line {start + 1 + number}: {shown(lines[start + number])}' if start and start + number < len(lines) else None
+
+
+def of_line(number, data):
+    """A line of a text, with its number."""
+    lines = data.decode(errors='replace').replace('\r\n', '\n').split('\n')
+    return f'{number} | {shown(lines[number - 1].expandtabs())}' if 0 < number <= len(lines) else None
+
+
+# ---- faults of a source
+
+
+TOKEN = re.compile(r'[A-Za-z_]\w*|\.[A-Za-z]*|0x[0-9A-Fa-f]{1,8}|[0-9]+|%[A-Za-z0-9]+|[,:+\-\[\]()]|[ \t\r]+', re.A)
+REGISTER = re.compile(r'%(?:[goli][0-7]|r(?:[0-9]|[12][0-9]|3[01])|sp|fp|y|hi|lo)')
+NAME = re.compile(r'(?<![\w%.])[A-Za-z_]\w*', re.A)
+
+
+def unknown_part(code):
+    """What of a line of a source is no part of the language, where a look at the names tells."""
+    word, at = STATEMENT.match(code, LABELS.match(code).end()), 0
+    if word and word[0] not in STATEMENTS:
+        small = '; names are in small letters' if word[0].lower() in STATEMENTS else ''
+        return f'{word[0]} is no {"directive" if word[0][0] == "." else "instruction"}{small}'
+    while at < len(code):
+        token = TOKEN.match(code, at)
+        if not token:
+            return f'{shown(code[at])} begins nothing' + ('; a comment begins with !' if code[at] in '#/;*' else '')
+        if token[0][0] == '%' and not REGISTER.fullmatch(token[0]):
+            return f'{token[0]} is no register'
+        at = token.end()
+    return None
+
+
+def undefined_names(code, source):
+    """The names of a line that the source doesn't define."""
+    labels = set(re.findall(r'([A-Za-z_]\w*)\s*:', source, re.A)) | set(re.findall(r'\.equ\s+([A-Za-z_]\w*)', source, re.A))
+    word = STATEMENT.match(code, LABELS.match(code).end())
+    return [name for name in NAME.findall(code[word.end():] if word else '') if name not in labels and name != 'a']
+
+
+def of_source(number, fault, data):
+    """The line of a source, and what of it isn't known."""
+    source = '\n'.join(line.partition('!')[0] for line in data.decode('latin-1').split('\n'))
+    if number == 0 and first_statement(source) is None:
+        yield 'the source has no instruction'
+    if not of_line(number, data):
+        return
+    yield of_line(number, data)
+    line, code = data.split(b'\n')[number - 1], source.split('\n')[number - 1]
+    part = None
+    if fault == 'syntax':
+        strange = next((byte for byte in line if byte > 126 or byte < 32 and byte not in b'\t\r'), None)
+        part = f'the byte 0x{strange:02x} is no character of a source' if strange is not None else unknown_part(code)
+        part = f'a line has at most {MOST_LINE} characters' if len(line) > MOST_LINE else part
+    if fault == 'unknown name' and (names := undefined_names(code, source)):
+        part = f'{listed(names)} {"is" if len(names) == 1 else "are"} not defined'
+    if part:
+        yield part
+
+
+def of_input(reason, words, data):
+    """What can be said of a refused input, `data` being None where it can't be read again."""
+    number = int(next(iter(re.findall(r'\d+', reason)), 0))
+    if excess := re.fullmatch(r'(limit|workers) (\d+) above (\d+)', reason):
+        of, most = int(excess[2]), int(excess[3])
+        yield of_limit(of, most, words, data) if excess[1] == 'limit' else f'--workers is at most the number of nodes, {most}'
+    elif reason == 'not finished':
+        yield 'the run goes on behind the last entry: run writes whole traces'
+    elif data is None:
+        if reason in AT_THE_START:
+            yield taken(words[0])
+    elif kind_of(data, words[0]) != COMMANDS[words[0]]['reads']:
+        yield of_kind(kind_of(data, words[0]), words[0])
+    elif source := re.fullmatch(r'source line \d+: (.*)', reason):
+        yield from of_source(number, source[1], data)
+    elif reason.startswith('text line '):
+        yield of_line(number, data)
+    elif reason.endswith(' not legal'):
+        yield of_entry(number, data)
+
+
+# ---- the call
+
+
+def read_again(place):
+    """What standard input had from a place on, where it is a regular file and the place is known."""
+    if not place.isdecimal() or not stat.S_ISREG(os.fstat(0).st_mode):
+        return None
+    with open(0, 'rb', closefd=False) as source:
+        source.seek(int(place))
+        data = source.read(MOST_READ)
+        return data if len(data) < MOST_READ else data[:data.rfind(b'\n') + 1]
+
+
+def explanations(status, line, place, words):
+    """The lines that say more."""
+    word = re.fullmatch(r'alewife: word (\d+) refused', line)
+    if status == '2' and word:
+        yield of_word(int(word[1]), words)
+    reason = re.fullmatch(r'alewife: input refused: (.*)', line)
+    if status == '3' and reason and words:
+        yield from of_input(reason[1], words, read_again(place))
+
+
+def main(status, line, place, *words):
+    """Writes the lines."""
+    for text in filter(None, explanations(status, line, place, list(words))):
+        print(f'alewife: {text}')
+
+
+if __name__ == '__main__':
+    try:
+        main(*sys.argv[1:])
+    except (OSError, LookupError, StopIteration, ValueError):
+        sys.exit(1)

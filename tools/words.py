@@ -1,0 +1,374 @@
+#!/usr/bin/env python3
+"""Writes all that says the command words, from the table of options that the program has.
+
+    tools/words.py           writes what isn't current
+    tools/words.py --check   names what isn't current, and ends with 1 where something isn't
+
+The options of each command, their ranges and defaults are read from crates/alw_config/src/rows.rt, and the names of instructions and directives from
+crates/sparc_asm/src/mnemonics.rt. What is written: the launcher's help, the options of docs/alewife.1, docs/completions, and tools/words.json, by which
+tools/explain.py explains refusals. What an option is for stands below, in a phrase.
+"""
+import json
+import math
+import re
+import sys
+from dataclasses import asdict, dataclass, field
+from pathlib import Path
+
+ROOT = Path(__file__).resolve().parent.parent
+ROWS = ROOT / 'crates' / 'alw_config' / 'src' / 'rows.rt'
+LOOKUPS = ROOT / 'crates' / 'alw_config' / 'src' / 'lookups.rt'
+DECLARING = ('alw_num', 'alw_image', 'alw_config')
+MNEMONICS = ROOT / 'crates' / 'sparc_asm' / 'src' / 'mnemonics.rt'
+LAUNCHER = ROOT / 'alewife'
+MANUAL = ROOT / 'docs' / 'alewife.1'
+BASH = ROOT / 'docs' / 'completions' / 'alewife.bash'
+ZSH = ROOT / 'docs' / 'completions' / '_alewife'
+TABLE = ROOT / 'tools' / 'words.json'
+
+MOST_LISTED = 16
+GREATEST = {'u64::MAX': 2**64 - 1, 'u32::MAX': 2**32 - 1}
+FORMS = {'AsmForm': 'ASM_FORMS', 'Form': 'FORMS'}
+
+# Of each command what it reads, and what it does.
+COMMANDS = {
+    'asm': ('source', 'assembles a source: its image, or a listing'),
+    'run': ('image', 'runs an image: its run'),
+    'replay': ('trace', 'takes the events of a trace again: its run'),
+    'audit': ('claim', 'checks a claim on one flat memory: a verdict'),
+    'gen': ('', 'makes a workload: its image'),
+    'route': ('trace', 'carries the messages of a trace hop by hop: the load of each wire'),
+    'save': ('trace', 'cuts a trace at a stamp: a checkpoint'),
+    'resume': ('checkpoint', 'goes on from a checkpoint: the whole run'),
+}
+ORDER, FORM, EVICT = 'the number that the order of events is drawn from', 'what is written', 'how often of 256 an eviction is tried'
+PHRASES = {
+    'asm': {'--write': FORM},
+    'run': {'--seed': ORDER, '--workers': 'workers on threads, in place of the schedule of a seed', '--pointers': 'hardware pointers of a directory entry',
+            '--sets': "sets of a node's cache", '--limit': 'the greatest stamp of an event before all contexts have halted', '--evict': EVICT, '--write': FORM},
+    'replay': {'--write': FORM},
+    'audit': {},
+    'gen': {'--seed': 'the number that the operations are drawn from', '--width': 'columns of the mesh', '--height': 'rows of the mesh',
+            '--size': 'operations of each node'},
+    'route': {'--seed': 'the number that the order of hops is drawn from'},
+    'save': {'--at': 'the greatest stamp that is kept'},
+    'resume': {'--seed': ORDER, '--evict': EVICT, '--write': FORM},
+}
+OWN = {
+    '--unproved': ('WORDS..', 'the same by a build that nothing is proved of'),
+    '--build': ('', 'proves and builds the program anew, and says so'),
+    '--install': ('PREFIX', 'puts program, manual and completions below a folder'),
+    '--help': ('', 'says the words in short; so do -h, help and no words, and COMMAND --help those of one command'),
+    '--version': ('', 'says the version, and the commit of the checkout'),
+}
+
+
+# ---- the table
+
+
+@dataclass(frozen=True)
+class Option:
+    """An option: its name, the choice that it makes, what it is for, the values that it takes, and the default, None where it is never chosen unasked."""
+    name: str
+    choice: int
+    phrase: str
+    first: int = 0
+    last: int = 0
+    names: tuple = ()
+    default: str = None
+
+    def value(self):
+        """What stands for its value."""
+        return 'FORM' if self.names and not self.names[0].isdecimal() else 'N'
+
+    def few(self):
+        """Its values, where they are few enough to list."""
+        return self.names or tuple(map(str, range(self.first, self.last + 1 if self.last - self.first < MOST_LISTED else self.first)))
+
+    def values(self):
+        """Which values it takes, in words."""
+        if not self.names:
+            return f'{self.first} to {self.last}'
+        if self.value() == 'N':
+            return f'a power of two from {self.names[0]} to {self.names[-1]}'
+        return ' or '.join([', '.join(self.names[:-1]), self.names[-1]])
+
+    def told(self):
+        """What it is for, with its values, and the default in brackets."""
+        return f'{self.phrase}: {self.values()}' + (f' ({self.default})' if self.default is not None else '')
+
+
+@dataclass(frozen=True)
+class Command:
+    """A command: what it reads, what it does, its options, and its rule over three numbers."""
+    reads: str
+    does: str
+    options: tuple = ()
+    rule: dict = field(default_factory=dict)
+
+    def rule_told(self):
+        """The rule, in words."""
+        named = {option.choice: option.name for option in self.options}
+        one, other, third = (named[self.rule[each]] for each in ('one', 'other', 'third'))
+        return f'{third} is at most {self.rule["most"]} where {one} or {other} is above {self.rule["above"]}.'
+
+
+def declared(name):
+    """What stands behind the equals sign of a constant."""
+    texts = (file.read_text() for crate in DECLARING for file in sorted((ROOT / 'crates' / crate / 'src').glob('*.rt')))
+    return next(found[1] for found in (re.search(rf'const {name}: [^=]+= (.*?);', text, re.S) for text in texts) if found)
+
+
+def constant(text):
+    """A number as the sources write it: in digits, as the greatest of a type, as a constant, or as a product of these."""
+    bare = re.sub(r'u64::from\((.*)\)|(.*?) as u\d+', r'\1\2', text).strip()
+    if '*' in bare:
+        return math.prod(map(constant, bare.split('*')))
+    if bare in GREATEST:
+        return GREATEST[bare]
+    digits = bare.replace('_', '')
+    return int(digits) if digits.isdecimal() else constant(declared(bare))
+
+
+def names_in(text, table):
+    """The names of a table of rows."""
+    body = re.search(rf'const {table}: \[[^=]*\] = \[(.*?)\];', text, re.S)[1]
+    return tuple(re.findall(r'b"([^"]+)"', body))
+
+
+def kind_of(text, rows):
+    """What a kind of values comes to, as fields of an option."""
+    between = re.match(r'Between\((.*), (.*)\)', text)
+    if between:
+        return {'first': constant(between[1]), 'last': constant(between[2])}
+    if text == 'SetCount':
+        return {'names': tuple(str(constant(count)) for count in declared('SET_COUNTS').strip('[]').split(','))}
+    if text in FORMS:
+        return {'names': names_in(rows, FORMS[text])}
+    first, last = re.search(rf'Kind::{text} => .*?number_between\(word, (.*?), (.*)\)\?', LOOKUPS.read_text(), re.S).groups()
+    return {'first': constant(first), 'last': constant(last.partition(')?')[0])}
+
+
+def default_of(text):
+    """A default, as a word: Value::Number(4), Value::How(How::Seed(0)) or Value::Form(Form::Report)."""
+    inner = re.search(r'\((?:\w+::\w+\()?(?:\w+::(?!MAX))?([\w:]+(?: as u64)?)\)', text)[1]
+    return inner.lower() if inner.isalpha() else str(constant(inner))
+
+
+def options_of(rows, command):
+    """The options of a command. A default is that of the first option that makes its choice."""
+    name = command.upper()
+    body = re.search(rf'const {name}_OPTIONS: [^=]*= \[(.*?)\];', rows, re.S)[1]
+    defaults = re.findall(r'Value::\w+\((?:[^()]|\([^()]*\))*\)', re.search(rf'const {name}_DEFAULTS: [^=]*= \[(.*?)\];', rows, re.S)[1])
+    made, seen = [], set()
+    for option, choice, kind in re.findall(r'b"(--\w+)",\s*Meaning \{\s*choice: (\d+),\s*kind: Kind::(\w+(?:\([^)]*\))?),', body):
+        default = None if choice in seen else default_of(defaults[int(choice)])
+        seen.add(choice)
+        made.append(Option(option, int(choice), PHRASES[command][option], default=default, **kind_of(kind, rows)))
+    return tuple(made)
+
+
+def rule_of(rows, command):
+    """The rule of a command over its numbers, where it has one."""
+    body = re.search(rf'const {command.upper()}_RULE: Rule = Rule \{{(.*?)\}};', rows, re.S)
+    return {name: int(number) for name, number in re.findall(r'(\w+): (\d+)', body[1])} if body else {}
+
+
+def read_table():
+    """The commands, in their order."""
+    rows = ROWS.read_text()
+    return {name: Command(*COMMANDS[name], options_of(rows, name), rule_of(rows, name)) for name in names_in(rows, 'COMMANDS')}
+
+
+def read_names():
+    """The names of instructions and of directives."""
+    text = MNEMONICS.read_text()
+    return names_in(text, 'MNEMONICS'), names_in(text, 'DIRECTIVES')
+
+
+# ---- what is written
+
+
+def table_page(commands):
+    """tools/words.json: the table for what reads it as data."""
+    mnemonics, directives = read_names()
+    data = {'mnemonics': mnemonics, 'directives': directives, 'commands': {}}
+    for name, command in commands.items():
+        options = [{**asdict(option), 'values': option.values()} for option in command.options]
+        data['commands'][name] = {'reads': command.reads, 'options': options, 'rule': command.rule_told() if command.rule else ''}
+    return '{\n' + ',\n'.join(f'"{name}": ' + json.dumps(value) for name, value in data.items()) + '\n}\n'
+
+
+WIDTH = 50
+
+
+def help_page(commands):
+    """The lines of the help: of each command what it reads and does, and a line for each of its options; then the launcher's own words."""
+    lines = []
+    for name, command in commands.items():
+        call = f'  alewife {name}' + (' [OPTION VALUE]..' if command.options else '') + (f' < {command.reads.upper()}' if command.reads else '')
+        lines.append(f'{call:<{WIDTH}} {command.does}')
+        lines += [f'      {option.name + " " + option.value():<15} {option.told()}' for option in command.options]
+    lines += [f'{f"  alewife {name} {value}":<{WIDTH}} {phrase}' for name, (value, phrase) in OWN.items()]
+    return '\n'.join(lines) + '\n'
+
+
+def bold(text):
+    """A text in bold letters, for the manual."""
+    return f'\\fB{text}\\fR'.replace('-', '\\-')
+
+
+def synopsis(commands):
+    """How the commands are called, for the manual: options in brackets, with | between those that make one choice."""
+    calls = []
+    for name, command in commands.items():
+        alike = {}
+        for option in command.options:
+            alike.setdefault(option.choice, []).append(f'{bold(option.name)} \\fI{option.value().lower()}\\fR')
+        words = [bold(f'alewife {name}'), *(f'[{" | ".join(options)}]' for options in alike.values())]
+        calls.append(' '.join(words + ([f'< \\fI{command.reads}\\fR'] if command.reads else [])))
+    calls += [' '.join([bold(f'alewife {name}'), *([f'\\fI{value.lower()}\\fR'] if value else [])]) for name, (value, _) in OWN.items()]
+    return '\n.br\n'.join(calls) + '\n'
+
+
+def manual_page(commands):
+    """The options of the manual."""
+    lines = []
+    for name, command in commands.items():
+        if not command.options:
+            continue
+        lines += [f'.SH OPTIONS OF {name.upper()}']
+        for option in command.options:
+            phrase = option.phrase[0].upper() + option.phrase[1:]
+            default = f' Default {option.default}.' if option.default is not None else ''
+            value = option.value().lower()
+            lines += ['.TP', f'.BI \\-\\-{option.name[2:]} " {value}"', f'{phrase}: {option.values()}.{default}']
+        if command.rule:
+            lines += ['.PP', command.rule_told().replace('-', '\\-')]
+    return '\n'.join(lines) + '\n'
+
+
+BASH_HEAD = '''# Completions of alewife for bash: source this file. tools/words.py writes it.
+
+_alewife() {
+    local word=${COMP_WORDS[COMP_CWORD]} before=${COMP_WORDS[COMP_CWORD-1]} at=1 words=
+    [ "${COMP_WORDS[1]}" = --unproved ] && at=2
+    case $COMP_CWORD:$before in
+    *:[\\<\\>]*) ;;
+    "$at":*)
+        words='%(commands)s'
+        [ "$at" = 1 ] && words="$words help %(own)s"
+        ;;
+    *)
+        case ${COMP_WORDS[at]}:$before in
+'''
+BASH_TAIL = '''        esac
+        ;;
+    esac
+    mapfile -t COMPREPLY < <(compgen -W "$words" -- "$word")
+}
+
+complete -o default -F _alewife alewife ./alewife
+'''
+
+
+def bash_page(commands):
+    """The completions for bash. Where they have nothing, as behind < and >, files are completed, but for numbers."""
+    lines = []
+    for name, command in commands.items():
+        names = [option.name for option in command.options]
+        numbers = [f'{name}:{option.name}' for option in command.options if not option.few()]
+        lines.append(f"        {name}:{name}) words='{' '.join([*names, '--help'])}' ;;")
+        lines += [f"        {name}:{option.name}) words='{' '.join(option.few())}' ;;" for option in command.options if option.few()]
+        lines += [f'        {" | ".join(numbers)}) compopt +o default ;;'] if numbers else []
+        lines += [f"        {name}:*) words='{' '.join(names)}' ;;"] if names else []
+    return BASH_HEAD % {'commands': ' '.join(commands), 'own': ' '.join(OWN)} + '\n'.join(lines) + '\n' + BASH_TAIL
+
+
+ZSH_PAGE = '''#compdef alewife
+# Completions of alewife for zsh: put this folder on fpath, before compinit. tools/words.py writes it.
+
+_alewife_command() {
+    case $words[1] in
+%(cases)s    *)
+        _files
+        ;;
+    esac
+}
+
+_alewife() {
+    local -a commands=(
+%(commands)s    )
+    local -a own=(
+%(own)s    )
+    if (( CURRENT == 2 )); then
+        _describe 'what to do' commands -- own
+    elif [[ $words[2] == --unproved ]] && (( CURRENT == 3 )); then
+        _describe 'what to do' commands
+    else
+        [[ $words[2] == --unproved ]] && shift words && (( CURRENT-- ))
+        shift words && (( CURRENT-- ))
+        _alewife_command
+    fi
+}
+
+_alewife "$@"
+'''
+
+
+def zsh_option(option, others):
+    """An option for _arguments: the others that make the same choice, its phrase, and its values."""
+    apart, phrase = f'({" ".join(others)})' if others else '', option.phrase.replace("'", "'\\''")
+    values = f'{option.name[2:]}:({" ".join(option.few())})' if option.few() else f'{option.values()}: '
+    return f"'{apart}{option.name}[{phrase}]:{values}'"
+
+
+def zsh_page(commands):
+    """The completions for zsh."""
+    cases = ''
+    for name, command in commands.items():
+        words = [zsh_option(option, [other.name for other in command.options if other != option and other.choice == option.choice]) for option in command.options]
+        cases += f'    {name})\n        _arguments ' + ' \\\n            '.join([*words, "'--help[say the words of this command]'"]) + '\n        ;;\n'
+    described = ''.join(f"        '{name}:{command.does.replace(':', chr(92) + ':')}'\n" for name, command in commands.items())
+    own = ''.join(f"        '{name}:{phrase}'\n" for name, (_, phrase) in OWN.items())
+    return ZSH_PAGE % {'cases': cases, 'commands': described, 'own': own}
+
+
+def between(text, first, last, middle):
+    """A text with another middle between two marks, of which the first stays before it and the last behind it."""
+    before, mark, rest = text.partition(first)
+    _, end, behind = rest.partition(last)
+    return before + mark + middle + end + behind
+
+
+def manual(commands):
+    """The manual, with how the commands are called and with their options."""
+    called = between(MANUAL.read_text(), '.SH SYNOPSIS\n', '.SH DESCRIPTION', synopsis(commands))
+    return between(called, '.\\" tools/words.py writes the synopsis and the options.\n', '.SH WORDS OF THE LAUNCHER', manual_page(commands))
+
+
+def pages():
+    """All that is written: each file with its text."""
+    commands = read_table()
+    return {
+        LAUNCHER: between(LAUNCHER.read_text(), 'multiprocessor, proved\n\n', '\nThe first run', help_page(commands)),
+        MANUAL: manual(commands),
+        BASH: bash_page(commands),
+        ZSH: zsh_page(commands),
+        TABLE: table_page(commands),
+    }
+
+
+def main(arguments):
+    """Writes the files that aren't current, or names them."""
+    stale = {file: text for file, text in pages().items() if not file.exists() or file.read_text() != text}
+    for file, text in stale.items():
+        if arguments == ['--check']:
+            print(f"{file.relative_to(ROOT)}: isn't what tools/words.py writes")
+        else:
+            file.write_text(text)
+    return 1 if stale and arguments == ['--check'] else 0
+
+
+if __name__ == '__main__':
+    sys.exit(main(sys.argv[1:]))
