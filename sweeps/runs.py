@@ -13,10 +13,11 @@ from pathlib import Path
 from alewife import RAN, SUMMARY_NAMES, ProgramError, called, digest_of, summary_of
 
 MOST = 1_000_000
-OPTIONS = ('seed', 'pointers', 'sets', 'limit', 'evict')
+OPTIONS = ('seed', 'workers', 'pointers', 'sets', 'limit', 'evict')
 KEY = ('image', *OPTIONS)
+OF_IMAGE = ('name', 'image', 'width', 'height', 'contexts', 'lines')
 COUNTS = SUMMARY_NAMES[SUMMARY_NAMES.index('ended'):]
-COLUMNS = ('image', 'width', 'height', 'contexts', 'lines', *OPTIONS, *COUNTS)
+COLUMNS = (*OF_IMAGE, *OPTIONS, *COUNTS)
 
 
 class SweepError(Exception):
@@ -44,15 +45,16 @@ def numbers(text):
 
 @dataclass(frozen=True)
 class Image:
-    """An image, and the first 16 digits of its SHA-256, by which rows name it."""
+    """An image, the first 16 digits of its SHA-256, by which rows name it, and the name of what it runs."""
     data: bytes
     digest: str
+    name: str
 
 
-def read_image(path):
-    """The image in a file."""
+def read_image(path, name=None):
+    """The image in a file, called by a name, or else by the file's."""
     data = read(path)
-    return Image(data, digest_of(data))
+    return Image(data, digest_of(data), name or Path(path).stem)
 
 
 def read(path):
@@ -73,17 +75,42 @@ def runs_of(lists, part, parts):
         yield {name: str(value) for name, value in zip(order, chosen)}
 
 
-def row_of(binary, image, options):
-    """Runs an image: its row, by the program's summary."""
-    words = ['run', *(word for name in OPTIONS for word in (f'--{name}', options[name])), '--write', 'summary']
+def asked(binary, words, data):
+    """What the program writes. Refuses a status that no run has."""
     try:
-        ran = called(binary, words, image.data)
+        ran = called(binary, words, data)
     except ProgramError as error:
         raise SweepError(str(error)) from error
-    summary = summary_of(ran.out.decode(errors='replace'))
-    if ran.status not in RAN or not summary:
-        raise SweepError(f'refused: {" ".join(words)}: status {ran.status}, {ran.line() or "what it wrote is no summary"}')
-    return {'image': image.digest, **options, **summary}
+    if ran.status not in RAN:
+        raise SweepError(f'refused: {" ".join(words)}: status {ran.status}, {ran.line()}')
+    return ran.out
+
+
+def summary_by_workers(binary, words, image):
+    """The summary of a run by workers, whose claim is audited: its trace says which run it was, for another call is another run."""
+    trace = asked(binary, [*words, '--write', 'trace'], image.data)
+    if asked(binary, ['audit'], asked(binary, ['replay', '--write', 'claim'], trace)) != b'sound\n':
+        raise SweepError(f'{" ".join(words)}: the claim of the run is not sound')
+    return asked(binary, ['replay', '--write', 'summary'], trace)
+
+
+def words_of(options):
+    """The words of a run. The seed of a run by workers is the number of a try."""
+    without = 'workers' if options['workers'] == '0' else 'seed'
+    return ['run', *(word for name in OPTIONS if name != without for word in (f'--{name}', options[name]))]
+
+
+def row_of(binary, image, options):
+    """Runs an image: its row, by the program's summary."""
+    words = words_of(options)
+    if options['workers'] == '0':
+        text = asked(binary, [*words, '--write', 'summary'], image.data)
+    else:
+        text = summary_by_workers(binary, words, image)
+    summary = summary_of(text.decode(errors='replace'))
+    if not summary:
+        raise SweepError(f'{" ".join(words)}: what the program wrote is no summary')
+    return {'name': image.name, 'image': image.digest, **options, **summary}
 
 
 # ---- rows in files
@@ -236,6 +263,6 @@ def gather(parts):
             place, other = found.setdefault(key_of(row), (f'{path}: line {number}', row))
             if other != row:
                 raise SweepError(f'{path}: line {number} and {place} differ on one run')
-    order = ('image', 'pointers', 'sets', 'limit', 'evict', 'seed')
+    order = ('name', *(name for name in KEY if name != 'seed'), 'seed')
     rows = [row for _, row in found.values()]
     return first, sorted(rows, key=lambda row: [row[name].zfill(20) for name in order])

@@ -1,19 +1,8 @@
-"""What a gathered sweep says: medians, quartiles and ends of a count for each value of an option, as a table or a plot."""
-import math
-import re
+"""What a gathered sweep says: medians, quartiles and ends of a count for each value of a column, as a table."""
 import statistics
-import subprocess
-from collections.abc import Callable
 from dataclasses import dataclass
 
 import runs
-
-AXES = {
-    'pointers': 'hardware pointers of a directory entry',
-    'sets': 'sets of a cache (lines)',
-    'limit': 'limit (greatest stamp)',
-    'evict': 'evictions tried (of 256 draws)',
-}
 
 
 @dataclass(frozen=True)
@@ -32,6 +21,11 @@ def spread_of(values):
     return Spread(min(values), lower, median, upper, max(values))
 
 
+def with_nodes(rows):
+    """The rows with a column nodes, the product of width and height."""
+    return [{**row, 'nodes': str(int(row['width']) * int(row['height']))} for row in rows]
+
+
 def chosen(rows, conditions):
     """The rows that meet each condition, as sets=256."""
     for condition in conditions:
@@ -44,16 +38,41 @@ def chosen(rows, conditions):
     return rows
 
 
-def grouped(rows, by):
-    """The rows by the value of an option, ascending. Refuses rows that differ in another option than the seed."""
-    for name in runs.KEY:
-        values = {row[name] for row in rows}
-        if name not in (by, 'seed') and len(values) > 1:
-            raise runs.SweepError(f'the rows differ in {name} too: choose with --where {name}={min(values)}, say')
+def place_of(value):
+    """Where a value of a column stands: numbers by size, and before them names."""
+    return (1, int(value), '') if value.isdecimal() else (0, 0, value)
+
+
+def groups_of(rows, columns):
+    """The rows by their values of some columns, in order."""
     groups = {}
     for row in rows:
-        groups.setdefault(int(row[by]), []).append(row)
-    return dict(sorted(groups.items()))
+        groups.setdefault(tuple(row[column] for column in columns), []).append(row)
+    return dict(sorted(groups.items(), key=lambda group: [place_of(value) for value in group[0]]))
+
+
+def refuse_mixed(rows, names, of=''):
+    """Refuses rows that differ in one of these columns."""
+    for name in names:
+        values = {row[name] for row in rows}
+        if len(values) > 1:
+            raise runs.SweepError(f'the rows{of} differ in {name} too: choose with --where {name}={min(values)}, say')
+
+
+def grouped(rows, by, series=None):
+    """The rows by the value of a column, for each value of another one where a series is asked for. Refuses rows that differ otherwise than
+    by the seed: in an option, in the image within a group, or in the image at all where neither column is the image's. The limit may differ
+    where all runs halted."""
+    for name in filter(None, (by, series)):
+        if name not in rows[0]:
+            raise runs.SweepError(f'there is no column {name}')
+    chosen = {by, series, 'seed', *(['limit'] if all(row['ended'] == 'halted' for row in rows) else [])}
+    of_images = chosen & {*runs.OF_IMAGE, 'nodes'}
+    refuse_mixed(rows, [name for name in runs.KEY if name not in chosen and not (of_images and name == 'image')])
+    groups = groups_of(rows, [series, by] if series else [by])
+    for values, group in groups.items():
+        refuse_mixed(group, ['image'], f' of {" ".join(values)}')
+    return groups
 
 
 def spreads(groups, column):
@@ -69,97 +88,13 @@ def told(number):
     return f'{number:,.0f}' if number >= 100 or number == int(number) else f'{number:,.1f}'
 
 
-def table(groups, by, columns):
+def table(groups, by, series, columns):
     """A table in Markdown: of each value its runs, those that halted, and of each column the median and quartiles."""
-    lines = [[by, 'runs', 'halted', *columns], ['---:'] * (3 + len(columns))]
+    heads = [series, by] if series else [by]
+    lines = [[*heads, 'runs', 'halted', *columns], ['---:'] * (len(heads) + 2 + len(columns))]
     cells = [spreads(groups, column) for column in columns]
-    for at, (value, group) in enumerate(groups.items()):
+    for at, (values, group) in enumerate(groups.items()):
         halted = sum(row['ended'] == 'halted' for row in group)
         each = [column[at] for column in cells]
-        lines.append([str(value), str(len(group)), str(halted), *(f'{told(s.median)} ({told(s.lower)} to {told(s.upper)})' for s in each)])
+        lines.append([*values, str(len(group)), str(halted), *(f'{told(s.median)} ({told(s.lower)} to {told(s.upper)})' for s in each)])
     return ''.join('| ' + ' | '.join(line) + ' |\n' for line in lines)
-
-
-# ---- a plot
-
-HEAD = '''set terminal svg size 800,{height} font 'sans-serif,14' background '#ffffff'
-set multiplot layout {rows},2 margins 0.125,0.98,{bottom},0.97 spacing 0.14,{gap}
-unset key
-set border 3
-set tics nomirror out scale 0.5
-set grid ytics lc rgb '#bbbbbb' lw 0.5 dt solid
-set boxwidth 0.5
-set xlabel '{axis}' offset 0,0.3
-'''
-PANEL = '''set xrange [-0.6:{last}.6]
-set yrange [{bottom}:{top}]
-set xtics ({tics})
-set ytics {marks}
-set ylabel '{label}'
-$data << END
-{data}
-END
-plot $data using 1:4 with lines lc rgb '#777777' lw 1 dt 2, \\
-     '' using 1:3:2:6:5 with candlesticks lc rgb '#000000' lw 1 dt solid fs solid 0.25 border whiskerbars 0.6, \\
-     '' using 1:4:4:4:4 with candlesticks lc rgb '#000000' lw 3 dt solid
-'''
-
-
-@dataclass(frozen=True)
-class Axis:
-    """An axis of counts: what it is called, where a count stands on it, its lowest place, and its marks for gnuplot."""
-    label: str
-    place: Callable[[float], float]
-    bottom: float
-    marks: str
-
-
-def logarithmic(column, top):
-    """An axis of the logarithm of a count plus 1, on which 0 has a place, marked at 0 and at the powers of ten."""
-    def place(count):
-        """The logarithm."""
-        return math.log10(count + 1)
-    marks = [0, *(10 ** power for power in range(len(str(int(top)))))]
-    return Axis(f'{column} a run (logarithmic)', place, -0.15, '(' + ', '.join(f"'{mark:,}' {place(mark):.4f}" for mark in marks) + ')')
-
-
-def axis_of(column, each):
-    """The axis of a count: from 0, or logarithmic where medians are more than 30-fold apart."""
-    medians, top = [s.median for s in each], max(s.highest for s in each)
-    if max(medians) > 30 * (min(medians) + 1):
-        return logarithmic(column, top)
-    if top >= 10000:
-        return Axis(f'{column} a run (thousands)', lambda count: count / 1000, 0, 'auto')
-    return Axis(f'{column} a run', lambda count: count, 0, 'auto')
-
-
-def panel(groups, column):
-    """The part of gnuplot's script that draws one count: boxes between quartiles, whiskers to the ends, a bar at the median."""
-    each = spreads(groups, column)
-    axis, top = axis_of(column, each), max(s.highest for s in each) or 1
-    rows = ((s.lowest, s.lower, s.median, s.upper, s.highest) for s in each)
-    data = '\n'.join(' '.join([str(at), *(f'{axis.place(value):.6g}' for value in row)]) for at, row in enumerate(rows))
-    tics = ', '.join(f"'{value}' {at}" for at, value in enumerate(groups))
-    top = f'{axis.place(top) * 1.08:g}'
-    return PANEL.format(last=len(groups) - 1, bottom=axis.bottom, top=top, tics=tics, marks=axis.marks, label=axis.label, data=data)
-
-
-def smaller(picture):
-    """An SVG picture of gnuplot's without what draws nothing: names, symbols, attributes that are the default anyway, and empty groups."""
-    for nothing in (r'\t*<title>.*?</title>\n', r'<defs>.*?</defs>\n', ' stroke-linecap="butt" stroke-linejoin="miter"', r'<g [^>]*>\s*</g>\n'):
-        picture = re.sub(nothing, '', picture, flags=re.S)
-    return picture
-
-
-def plot(groups, by, columns):
-    """An SVG picture by gnuplot, a panel for each column, two in a row."""
-    rows = (len(columns) + 1) // 2
-    head = HEAD.format(height=280 * rows, rows=rows, bottom=0.23 / rows, gap=0.29 / rows, axis=AXES[by])
-    script = head + ''.join(panel(groups, column) for column in columns) + 'unset multiplot\n'
-    try:
-        ran = subprocess.run(['gnuplot', '-'], input=script, stdout=subprocess.PIPE, stderr=subprocess.PIPE, text=True)
-    except OSError as fault:
-        raise runs.SweepError(f"gnuplot can't be run: {fault.strerror}. On Debian it is in gnuplot-nox") from fault
-    if ran.returncode or not ran.stdout.rstrip().endswith('</svg>'):
-        raise runs.SweepError(f'gnuplot drew nothing: {ran.stderr.strip() or ran.returncode}')
-    return smaller(ran.stdout)
