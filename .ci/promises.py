@@ -25,9 +25,9 @@ lines and files of `specs/` that its clauses reach: a reader must believe these.
 
 To read a promise, open its crate's README, then the function in `src/`, then the definitions that the clause names in
 `specs/`. The headline stands in `alewife` of `crates/alw_cli/src/top.rt`; in `Runs` and `IsTold` of
-`crates/alw_cli/specs/Running.antt`, `Replays` beside it; in `IsSeededRun` of `crates/alw_sched/specs/Schedules.antt`; in
-`IsCoherentRun` and `IsScheduled` of `crates/alw_model/specs/Headline.antt`; and in the words of `crates/alw_model/specs`,
-which `docs/DEFINITIONS.md` reads aloud.
+`crates/alw_cli/specs/Running.antt`, `Replays` beside it; in `IsSeededRun` of `crates/alw_sched/specs/Schedules.antt`;
+in `IsCoherentRun` and `IsScheduled` of `crates/alw_model/specs/Headline.antt`; and in the words of
+`crates/alw_model/specs`, which `docs/DEFINITIONS.md` reads aloud.
 
 ## Index
 

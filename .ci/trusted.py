@@ -227,9 +227,9 @@ HEAD = """# What must be believed
 A clause says what its definitions say. This page lists, for each named promise of `docs/PROMISES.md`, the definitions
 that its clauses reach: those that they name, those that these name, and so on. They are what a reader must believe of
 it, besides the clause itself and the toolchain's own words. The checker holds code and proofs to them; all other
-definitions of `specs/` play no part. Lines are without comments and imports. Types are those of Rust that definitions or
-signatures name: a reader believes their fields, or what contracts see of them, too. `.ci/trusted.py` writes this page,
-and the gate refuses one that isn't current.
+definitions of `specs/` play no part. Lines are without comments and imports. Types are those of Rust that definitions
+or signatures name: a reader believes their fields, or what contracts see of them, too. `.ci/trusted.py` writes this
+page, and the gate refuses one that isn't current.
 """
 
 
