@@ -1,3 +1,4 @@
 pub mod Seeded
 pub mod Picking
 pub mod GoingOn
+pub mod Bounded

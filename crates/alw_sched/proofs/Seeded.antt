@@ -85,6 +85,10 @@ at_place [] k event all got = absurd (cc)
 at_place (x ∷ xs) zero event all got = subst IsMain (some_is x event got) all.0
 at_place (x ∷ xs) (suc k) event all got = at_place xs k event all.1 got
 
+-- a main event that may be next is no eviction
+pub main_at : (h : History) (k : ℕ) (event : Event) → slice_get (next_events h) k ≡ Some event → IsMain event
+main_at h k event got = at_place (next_events h) k event (all_kept (may_be_next h) (main_events h.image) (all_main h.image)) got
+
 never : (n : ℕ) (more : Bool) → (nat_lt n 0 && more) ≡ false
 never n more = grind (arith, nat_tests)
 
@@ -92,7 +96,7 @@ pub main_picked : (h : History) (number : ℕ) (event : Event) → h.parameters.
 main_picked h number event none pick =
     let kept = not (all_halted (node_in h (asked_node h number)).slots) && may_be_next h (asked_eviction h number) in
     let no : is_evicted h number ≡ false = ap (λ (evict : ℕ). nat_lt (number % 256) evict && kept) none ∙ never (number % 256) kept in
-    at_place (next_events h) (number % length (next_events h)) event (all_kept (may_be_next h) (main_events h.image) (all_main h.image))
+    main_at h (number % length (next_events h)) event
     (subst (λ (b : Bool). cond b (Some (asked_eviction h number)) (slice_get (next_events h) (number % length (next_events h))) ≡ Some event) no pick)
 
 -- ---- no end before the last entry

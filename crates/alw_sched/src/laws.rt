@@ -1,8 +1,9 @@
-ghost use Rattle.std.specs.Prelude.{◌≡◌, ◌≢◌, ◌-◌, ℕ, None, List, length};
+ghost use Rattle.std.specs.Prelude.{◌≡◌, ◌≢◌, ◌≤◌, ◌+◌, ◌-◌, ◌*◌, ℕ, None, List, length};
 ghost use Rattle.alw_num.specs.Draws.{drawn_times};
 ghost use Rattle.alw_msg.specs.declared.events.Entry.{Entry};
 ghost use Rattle.alw_image.specs.declared.parts.Parts.{Parts};
-ghost use Rattle.alw_image.specs.Parameters.{Parameters};
+ghost use Rattle.alw_image.specs.Images.{IsImage, node_count};
+ghost use Rattle.alw_image.specs.Parameters.{Parameters, AreParameters};
 ghost use Rattle.alw_model.specs.Headline.{IsScheduled};
 ghost use Rattle.alw_mesh.specs.Histories.{History};
 ghost use Rattle.alw_sched.specs.Schedules.{end_in, MachineIsSeeded, IsSeededRun};
@@ -20,6 +21,13 @@ pub fn one_run_a_seed()
 #[tactic(auto, using(crate::proofs::Seeded::seeded_scheduled))]
 pub fn seeded_runs_are_scheduled()
     ensures { (image : Parts) → (parameters : Parameters) → (seed : ℕ) → (journal : List Entry) → IsSeededRun image parameters seed journal → IsScheduled image parameters journal }
+{}
+
+/// The run of a seed has at most N * L + 2 * N * K entries, evictions included (N nodes, limit L, K lines a node): it evicts
+/// only at a node with a context that hasn't halted, so that once all have halted no eviction comes.
+pub fn seeded_runs_are_bounded()
+    ensures { (image : Parts) → IsImage image → (parameters : Parameters) → AreParameters parameters → (seed : ℕ) → (journal : List Entry) →
+        IsSeededRun image parameters seed journal → length journal ≤ node_count image * parameters.limit + 2 * (node_count image * image.per_node) }
 {}
 
 /// A run that was refused memory goes on: with the state that its draws left as the seed, of which each
