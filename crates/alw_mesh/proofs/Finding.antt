@@ -1,5 +1,5 @@
 -- The first of some messages that brings the bytes of a line.
-use Rattle.std.proofs.Common.{◌≡◌, ℕ, suc, ◌<◌, ◌==◌, cond, Option, Some, None, List, [], ◌∷◌, ◌++◌, take, drop, length, get_or, slice_get, option_to_list, refl, sym, ap, subst, ◌∙◌, append_assoc}
+use Rattle.std.proofs.Common.{◌≡◌, ℕ, suc, ◌<◌, ◌==◌, cond, Some, List, [], ◌∷◌, ◌++◌, take, drop, length, get_or, sym, ap, ◌∙◌, append_assoc}
 use Rattle.std.proofs.lemmas.List.{take-append-drop}
 use Rattle.std.proofs.lemmas.List.Concat.{flat_map-append}
 use Rattle.std.proofs.Math.Seq.{drop-cons}
@@ -37,12 +37,3 @@ module _ (one : Msg → List Line) (each : List Msg → List Line) (nothing : ea
       let last : each (msg ∷ behind) ≡ body ∷ each behind = more msg behind ∙ ap (λ bodies. bodies ++ each behind) brings in
       let split : each msgs ≡ body ∷ each behind = sym (ap each parts) ∙ (together (take k msgs) (msg ∷ behind) ∙ (λ i. none i ++ last i)) in
       sym (ap front split)
-
--- the first of two lists, or else of the other
-pub front_of_first : {X : Type 0} (x : X) (xs ys : List X) → Some x ≡ front xs → Some x ≡ front (xs ++ ys)
-front_of_first x [] ys e = absurd (cc)
-front_of_first x (y ∷ rest) ys e = e
-
-pub front_of_other : {X : Type 0} (xs ys : List X) → None ≡ front xs → front (xs ++ ys) ≡ front ys
-front_of_other [] ys e = refl
-front_of_other (y ∷ rest) ys e = absurd (cc)

@@ -5,16 +5,14 @@ use Rattle.std.proofs.lemmas.List.{drop-append-le, length-append}
 use Rattle.alw_msg.specs.declared.messages.Msg.{Msg}
 use Rattle.alw_msg.specs.declared.events.Event.{Event}
 use Rattle.alw_msg.specs.declared.events.Entry.{Entry}
-use Rattle.alw_msg.specs.Events.{node_of}
 use Rattle.alw_msg.specs.Sending.{Sending}
 use Rattle.alw_image.specs.declared.parts.Parts.{Parts}
 use Rattle.alw_image.specs.Images.{IsImage, node_count}
 use Rattle.alw_image.specs.Parameters.{Parameters, AreParameters}
-use Rattle.alw_model.specs.Machine.{MachineState, machine_start, state, has_halted, taken_by, node_at, stamp_at, is_enabled, is_within_limit, step, stepped_by, main_events, IsNext, IsLegal}
+use Rattle.alw_model.specs.Machine.{MachineState, machine_start, state, has_halted, stamp_at, is_enabled, is_within_limit, step, stepped_by, main_events, IsNext, IsLegal}
 use Rattle.alw_model.specs.Runs.{Moment, moment_of, moments_from, moments}
 use Rattle.alw_model.proofs.Journals.{and_parts, state_push, legal_push, moments_push}
 use Rattle.law_lines.specs.Links.{GoBelow}
-use Rattle.law_lines.proofs.Steps.{enabled_is}
 use Rattle.law_order.proofs.Aimed.{sends_below}
 use Rattle.law_order.proofs.Reached.{state_aimed}
 use Rattle.law_machine.proofs.Bound.{sets_range}
@@ -107,24 +105,12 @@ module _ {grid : Grid} {journal : List Entry} {joined : ℕ} {sent : Sending} {t
     next_is : IsNext grid.image grid.parameters (state_of here) (entry_of here event)
     next_is = record { enabled = may_here.0; within = may_here.1; stamp = refl }
 
-    pub event_here : node_of event < length ready
-    event_here = rw is.rows.counted (enabled_is grid.image grid.parameters (state_of here) event may_here.0).here
-
     module _ {room : ℕ} {after : Grid} {sent' : Sending} {happening : Happening} (happens : Happens (record grid { room = room }) after event sent' happening) where
       machine_next : after.machine ≡ step grid.image grid.parameters (state_of here) event
       machine_next = happens.machine ∙ ap (λ m. step grid.image grid.parameters m event) is.state_is
 
       sends_next : sent'.messages ≡ (stepped_by grid.image grid.parameters (state_of here) event).sends
       sends_next = (happens.told 0).sends_are ∙ ap (λ m. (stepped_by grid.image grid.parameters m event).sends) is.state_is
-
-      pub sends_few : length sent'.messages ≤ 256
-      sends_few = omega (arith, happens.few, few_nodes grid.image is.run.image)
-
-      pub rows_counted : length ready ≡ node_count after.image
-      rows_counted = is.rows.counted ∙ ap node_count (sym happens.image)
-
-      pub nodes_few : node_count after.image ≤ 256
-      nodes_few = rw happens.image (few_nodes grid.image is.run.image)
 
       pub sends_below_rows : GoBelow (length ready) sent'.messages
       sends_below_rows = rw (is.rows.counted, sends_next)

@@ -2,7 +2,6 @@ ghost use Rattle.std.specs.Prelude.{◌≡◌};
 ghost use Rattle.alw_image.specs.Parameters.{AreParameters};
 ghost use Rattle.alw_mesh.specs.Histories.{Fits};
 
-use crate::stepping::count_nodes;
 use alw_image::{Image, Params};
 use alw_num::NoMemory;
 
@@ -33,7 +32,7 @@ pub fn fit(image: &Image, params: &Params) -> Result<(), FitErr>
     ensures fits { Fits image.now params.now result }
     ensures allowed { AreParameters params.now }
 {
-    let number = u64::from(count_nodes(image)) * u64::from(params.limit());
+    let number = u64::from(image.nodes()) * u64::from(params.limit());
     if number > MOST_STEPS {
         return Err(FitErr::DoesNotFit {
             number,

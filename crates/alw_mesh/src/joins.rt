@@ -11,7 +11,6 @@ use crate::errors::{FitErr, MOST_STEPS};
 use crate::joining::LinkLists;
 use crate::machines::Machine;
 use crate::meshes::Mesh;
-use crate::stepping::count_nodes;
 use alw_image::{Image, Params};
 use alw_model::{Counts, TrapAt};
 use alw_msg::{Journal, Prints, Sends, Turns};
@@ -46,8 +45,8 @@ impl Machine {
         requires counts { counts ≡ counts_of image.now (moments image.now params.now journal) }
         ensures { IfOk result (λ machine. machine ≡ joined_of image.now params.now journal) }
     {
-        let _exists = count_nodes(image);
-        let _allowed = params.limit();
+        let _exists = image.nodes(); // for its clause
+        let _allowed = params.limit(); // for its clause
         let mesh = Mesh::joined(alloc, image, params, nodes, &links)?;
         let trap = trap_of(alloc, image, params, &journal, &mesh)?;
         let tally = Tally::of(alloc, turns.members(), prints.members(), counts, trap)?;

@@ -4,7 +4,6 @@ ghost use Rattle.alw_mesh.specs.Histories.{Starts, Takes, Steps, may_be_next, en
 use crate::errors::{FitErr, StepErr, fit};
 use crate::meshes::Mesh;
 use crate::parts::MachineParts;
-use crate::stepping::count_nodes;
 use alw_image::{Image, Params};
 use alw_model::Did;
 use alw_msg::{Entry, Event, Journal, Sends};
@@ -45,7 +44,7 @@ impl Machine {
         ensures { Starts image.now params.now result }
     {
         fit(image, params)?;
-        let nodes = u32::from(count_nodes(image));
+        let nodes = u32::from(image.nodes());
         let mesh = Mesh::start(alloc, image, params)?;
         let mut ready = Ready::start(alloc, nodes)?;
         ready.renew_all(&mesh);

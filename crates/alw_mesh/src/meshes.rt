@@ -15,12 +15,12 @@ ghost use Rattle.alw_mesh.specs.Keeping.{machine_of, AreNodes};
 ghost use Rattle.alw_mesh.specs.Joins.{IsGridOf};
 
 use crate::joining::{LinkLists, links_of, nodes_of, remains_at};
-use crate::stepping::{Happening, act, count_nodes, is_in_time, nodes_start, take, uses_hold};
+use crate::stepping::{Happening, act, is_in_time, nodes_start, take, uses_hold};
 use alw_image::{Image, Params};
 use alw_links::Links;
 use alw_msg::{Event, Msg, Sends};
 use alw_node::{HomeView, Node, Nodes};
-use alw_num::{LineNo, NoMemory, NodeNo, NodeSet, home_of};
+use alw_num::{LineNo, MOST_LINES, NoMemory, NodeNo, NodeSet, home_of};
 use alw_tally::{Happened, Remains};
 use std::alloc::Global;
 use std::collections::LinkedList;
@@ -54,7 +54,7 @@ impl Mesh {
     pub fn start(alloc: Global, image: &Image, params: &Params) -> Result<Mesh, NoMemory>
         ensures { IfOk result (λ mesh. mesh ≡ grid_start image.now params.now) }
     {
-        let count = count_nodes(image);
+        let count = image.nodes();
         let code = Arc::new(alloc, image.code().copy()?)?;
         Ok(Mesh {
             image: image.copy()?,
@@ -77,7 +77,7 @@ impl Mesh {
         requires aimed { IsAimed image.now (machine_of nodes links.now) }
         ensures { IfOk result (λ mesh. IsGridOf image.now params.now (machine_of nodes links.now) mesh) }
     {
-        let count = count_nodes(image);
+        let count = image.nodes();
         let nodes = nodes_of(alloc, nodes)?;
         let remains = remains_at(&nodes);
         Ok(Mesh {
@@ -122,15 +122,15 @@ impl Mesh {
     pub fn count(&self) -> u16
         ensures { result ≡ node_count self.now.image }
     {
-        count_nodes(&self.image)
+        self.image.nodes()
     }
 
     /// The number of lines of shared data.
     pub fn lines(&self) -> u32
         ensures lines { result ≡ line_count self.now.image }
-        ensures most { result ≤ 2 ^ 20 }
+        ensures most { result ≤ MOST_LINES }
     {
-        u32::from(self.count()) * u32::from(self.image.per_node())
+        self.image.lines()
     }
 
     /// The messages on the link of two nodes, its head first.
@@ -210,7 +210,7 @@ impl Mesh {
         ensures ok { OnOk result (self.new ≡ record self.old { room = max self.old.room (node_count self.old.image) }) }
         ensures err { OnErr result (self.new ≡ self.old) }
     {
-        let count = count_nodes(&self.image);
+        let count = self.image.nodes();
         self.links.reserve(u32::from(count))
     }
 

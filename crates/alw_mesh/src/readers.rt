@@ -23,7 +23,7 @@ use alw_image::{Image, Params};
 use alw_model::Counts;
 use alw_msg::{Journal, Msg, Sends, Status};
 use alw_node::HomeView;
-use alw_num::{Line, LineNo, Mode, NodeNo, SHARED_BASE, Width, lane};
+use alw_num::{LINE_BYTES, Line, LineNo, MOST_LINES, Mode, NodeNo, SHARED_BASE, Width, lane};
 use sparc_table::Regs;
 use std::collections::LinkedList;
 
@@ -42,7 +42,7 @@ impl Machine {
         self.mesh.params()
     }
 
-    /// The number of nodes, 1 to 256.
+    /// The number of nodes, 1 to `MOST_NODES`.
     pub fn nodes(&self) -> u16
         ensures nodes { result ≡ node_count self.now.image }
         ensures some { 1 ≤ result }
@@ -53,7 +53,7 @@ impl Machine {
     /// The number of lines of shared data, at most 2^20.
     pub fn lines(&self) -> u32
         ensures lines { result ≡ line_count self.now.image }
-        ensures most { result ≤ 2 ^ 20 }
+        ensures most { result ≤ MOST_LINES }
     {
         self.mesh.lines()
     }
@@ -157,10 +157,10 @@ impl Machine {
     pub fn word(&self, addr: u32) -> u32
         requires { IsSharedWord self.now addr }
         ensures word { result ≡ word_in self.now addr }
-        ensures flat { result ≡ lane_of (line_at (flat_in self.now) (line_of addr)) (addr % 16) Word }
+        ensures flat { result ≡ lane_of (line_at (flat_in self.now) (line_of addr)) (addr % LINE_BYTES) Word }
     {
-        let value = self.value(LineNo((addr - SHARED_BASE) / 16));
-        lane(&value, addr % 16, Width::Word)
+        let value = self.value(LineNo((addr - SHARED_BASE) / LINE_BYTES));
+        lane(&value, addr % LINE_BYTES, Width::Word)
     }
 
     /// The node of a line's home.

@@ -1,7 +1,7 @@
 ghost use Rattle.std.specs.Prelude.{◌≡◌, ◌<◌, ◌≤◌, ◌==◌, ◌&&◌, not, true, length, nat_le, map, option_copied, None, IfOk};
 ghost use Rattle.std.specs.List.{range_with_len};
 ghost use Rattle.std.specs.Arc.{arc_value};
-ghost use Rattle.alw_image.specs.Images.{IsImage, node_count};
+ghost use Rattle.alw_image.specs.Images.{node_count};
 ghost use Rattle.alw_model.specs.NodeStates.{stamp_of};
 ghost use Rattle.alw_model.specs.Counts.{is_turn};
 ghost use Rattle.alw_ready.specs.Changes.{hold_count};
@@ -18,15 +18,6 @@ use alw_tally::Happened;
 use sparc_table::Outcome;
 use std::alloc::Global;
 use std::sync::Arc;
-
-/// The number of nodes of an image.
-pub fn count_nodes(image: &Image) -> u16
-    ensures count { result ≡ node_count image.now }
-    ensures image { IsImage image.now }
-{
-    let parts = image.parts();
-    u16::from(parts.width) * u16::from(parts.height)
-}
 
 /// All nodes of an image at the start, with one code.
 pub fn nodes_start(
@@ -119,7 +110,7 @@ pub fn act(
     let node = &mut nodes[at];
     let holds = node.holds();
     let did = node.local(event, taken, sent);
-    let _fits = sent.free();
+    let _fits = sent.free(); // for its clause
     Acted {
         did,
         changes_holds: changes_holds(node, did, holds),

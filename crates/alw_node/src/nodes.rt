@@ -140,7 +140,7 @@ impl Node {
         ensures number { result.0 ≡ self.now.number }
         ensures stands { IsNode self.now }
     {
-        let _stands = self.memory.number();
+        let _stands = self.memory.number(); // for its clause
         self.proc.number()
     }
 

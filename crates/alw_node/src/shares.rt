@@ -121,6 +121,6 @@ fn own<T: Copy>(alloc: Global, table: &Sequence<T>, members: &[T]) -> Result<Seq
     requires { length members.now ≤ length table.now }
     ensures { IfOk result (λ kept. kept ≡ members.now) }
 {
-    let _most = table.len();
+    let _most = table.len(); // for its clause
     Sequence::from_slice(alloc, members)
 }

@@ -2,8 +2,9 @@ ghost use Rattle.std.specs.Prelude.{◌≡◌, ◌<◌, ◌≤◌, length, repli
 ghost use Rattle.alw_ready.specs.Rows.{events_of, no_row, row_at};
 
 use crate::rows::Row;
+use crate::tallies::Tally;
 use alw_msg::Event;
-use alw_num::{NoMemory, NodeNo, PlaceCounts};
+use alw_num::{MOST_NODES, NoMemory, NodeNo};
 use std::alloc::Global;
 use std::marker::Model;
 
@@ -11,7 +12,7 @@ use std::marker::Model;
 #[derive(Debug, Drop)]
 pub struct Ready {
     rows: Vec<Row>,
-    tally: PlaceCounts,
+    tally: Tally,
 }
 
 impl Model for Ready {
@@ -29,10 +30,10 @@ impl Model for Ready {
 impl Ready {
     /// Rows without events, for so many nodes. It takes all memory that is ever needed.
     pub fn start(alloc: Global, nodes: u32) -> Result<Ready, NoMemory>
-        requires { nodes ≤ 256 }
+        requires { nodes ≤ MOST_NODES }
         ensures { IfOk result (λ ready. ready ≡ replicate nodes no_row) }
     {
-        let tally = PlaceCounts::zeros(alloc, nodes)?;
+        let tally = Tally::zeros(alloc, nodes)?;
         let mut rows = Vec::with_capacity(alloc, nodes as usize)?;
         for _node in 0..nodes {
             rows.push_reserved(Row::none());

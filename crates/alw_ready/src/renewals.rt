@@ -15,13 +15,13 @@ use crate::ready::Ready;
 use crate::rows::Row;
 use crate::views::View;
 use alw_msg::{Event, Sends};
-use alw_num::{NodeNo, NodeSet};
+use alw_num::{MOST_NODES, NodeNo, NodeSet};
 
 impl Ready {
     /// Every row is made anew: each node, and each message at the head of a link, is looked at once.
     pub fn renew_all<V: View>(&mut self, view: &V)
         requires counted { length self.old ≡ node_count (V.image view.now) }
-        requires few { node_count (V.image view.now) ≤ 256 }
+        requires few { node_count (V.image view.now) ≤ MOST_NODES }
         ensures { RowsFit (V.image view.now) (V.parameters view.now) (V.state view.now) self.new }
     {
         for at in 0..self.nodes() {
@@ -36,7 +36,7 @@ impl Ready {
     /// context has halted at all nodes.
     pub fn renew<V: View>(&mut self, view: &V, happened: &Happened, sends: &Sends)
         requires counted { length self.old ≡ node_count (V.image view.now) }
-        requires few { node_count (V.image view.now) ≤ 256 }
+        requires few { node_count (V.image view.now) ≤ MOST_NODES }
         requires here { node_of happened.now.event < length self.old }
         requires below { GoBelow (length self.old) sends.now.messages }
         ensures { (journal : List Entry) → IsLegal (V.image view.now) (V.parameters view.now) journal →
@@ -55,7 +55,7 @@ impl Ready {
     // Looks again at the row of an event's own node.
     fn renew_own<V: View>(&mut self, view: &V, happened: &Happened)
         requires counted { length self.old ≡ node_count (V.image view.now) }
-        requires few { node_count (V.image view.now) ≤ 256 }
+        requires few { node_count (V.image view.now) ≤ MOST_NODES }
         requires here { node_of happened.now.event < length self.old }
         ensures { OwnRowIsRenewed (V.image view.now) (V.parameters view.now) (V.state view.now) happened.now self.old self.new }
     {
@@ -71,7 +71,7 @@ impl Ready {
     // Looks again at the heads of the links that a node sent to.
     fn renew_sent<V: View>(&mut self, view: &V, from: NodeNo, sends: &Sends)
         requires counted { length self.old ≡ node_count (V.image view.now) }
-        requires few { node_count (V.image view.now) ≤ 256 }
+        requires few { node_count (V.image view.now) ≤ MOST_NODES }
         requires below { GoBelow (length self.old) sends.now.messages }
         ensures { RowsFitBut (V.image view.now) (V.parameters view.now) (V.state view.now) from.0 sends.now.messages self.old →
             RowsFit (V.image view.now) (V.parameters view.now) (V.state view.now) self.new }
@@ -87,7 +87,7 @@ impl Ready {
 
 // The row of a node.
 fn row_of<V: View>(view: &V, node: NodeNo) -> Row
-    requires few { node_count (V.image view.now) ≤ 256 }
+    requires few { node_count (V.image view.now) ≤ MOST_NODES }
     requires here { node.0 < node_count (V.image view.now) }
     ensures { RowFits (V.image view.now) (V.parameters view.now) (V.state view.now) node.0 result }
 {
@@ -96,7 +96,7 @@ fn row_of<V: View>(view: &V, node: NodeNo) -> Row
 
 // The row of an event's own node after it, from the one before it.
 fn own_row<V: View>(view: &V, happened: &Happened, row: Row) -> Row
-    requires few { node_count (V.image view.now) ≤ 256 }
+    requires few { node_count (V.image view.now) ≤ MOST_NODES }
     requires here { node_of happened.now.event < node_count (V.image view.now) }
     ensures in_time { result.in_time ≡ is_in_time (V.parameters view.now) (V.state view.now) (node_of happened.now.event) }
     ensures renewed { RowIsRenewed (may_happen (V.image view.now) (V.parameters view.now) (V.state view.now)) (node_of happened.now.event)
@@ -132,7 +132,7 @@ fn keeps_senders(happened: &Happened) -> bool
 
 // The nodes from which a delivery to an event's own node may happen after it, from those before it.
 fn own_senders<V: View>(view: &V, happened: &Happened, senders: NodeSet) -> NodeSet
-    requires few { node_count (V.image view.now) ≤ 256 }
+    requires few { node_count (V.image view.now) ≤ MOST_NODES }
     requires here { node_of happened.now.event < node_count (V.image view.now) }
     ensures { (from : ℕ) → has_node (nodes_of result) from ≡ cond (happened.now.wide || takes_from happened.now.event from (node_of happened.now.event))
         (may_happen (V.image view.now) (V.parameters view.now) (V.state view.now) (delivery from (node_of happened.now.event))) (has_node (nodes_of senders) from) }
@@ -149,7 +149,7 @@ fn own_senders<V: View>(view: &V, happened: &Happened, senders: NodeSet) -> Node
 // The nodes from which a delivery to this one may happen. It looks at those alone that have something on
 // their link.
 fn deliverable<V: View>(view: &V, to: NodeNo) -> NodeSet
-    requires few { node_count (V.image view.now) ≤ 256 }
+    requires few { node_count (V.image view.now) ≤ MOST_NODES }
     requires here { to.0 < node_count (V.image view.now) }
     ensures { (from : ℕ) → has_node (nodes_of result) from ≡ may_happen (V.image view.now) (V.parameters view.now) (V.state view.now) (delivery from to.0) }
 {
@@ -164,7 +164,7 @@ fn deliverable<V: View>(view: &V, to: NodeNo) -> NodeSet
 
 // The set with or without a sender, as a delivery from it may happen or not.
 fn looked_at<V: View>(view: &V, senders: NodeSet, from: NodeNo, to: NodeNo) -> NodeSet
-    requires { node_count (V.image view.now) ≤ 256 }
+    requires { node_count (V.image view.now) ≤ MOST_NODES }
     ensures { (k : ℕ) → has_node (nodes_of result) k ≡ cond (k == from.0)
         (may_happen (V.image view.now) (V.parameters view.now) (V.state view.now) (delivery from.0 to.0)) (has_node (nodes_of senders) k) }
 {

@@ -15,13 +15,13 @@ trap_of-requires-clause-machine c = c.in_ok-mesh.ensures.machine_is ∙ c.requir
 
 pub of-requires : goal.of-requires
 of-requires c =
-    let run = run_joined c.args.image.now c.args.params.now c.args.journal c.count_nodes-exists.ensures.image c.limit-allowed.ensures.allowed c.requires.fits c.requires.legal in
+    let run = run_joined c.args.image.now c.args.params.now c.args.journal c.nodes-exists.ensures.allowed c.limit-allowed.ensures.allowed c.requires.fits c.requires.legal in
     within_joined c.args.image.now c.args.params.now c.args.journal run c.members.result.now c.members-2.result.now c.args.counts c.in_ok-trap.trap (c.members.ensures ∙ c.requires.turns) (c.members-2.ensures ∙ c.requires.prints)
     c.requires.counts c.in_ok-trap.ensures
 
 pub of-requires-2 : goal.of-requires-2
 of-requires-2 c =
-    let run = run_joined c.args.image.now c.args.params.now c.args.journal c.count_nodes-exists.ensures.image c.limit-allowed.ensures.allowed c.requires.fits c.requires.legal in
+    let run = run_joined c.args.image.now c.args.params.now c.args.journal c.nodes-exists.ensures.allowed c.limit-allowed.ensures.allowed c.requires.fits c.requires.legal in
     let told = told_joined c.args.image.now c.args.params.now c.args.journal run c.members.result.now c.members-2.result.now c.args.counts c.in_ok-trap.trap (c.members.ensures ∙ c.requires.turns) (c.members-2.ensures ∙ c.requires.prints)
     c.requires.counts c.in_ok-trap.ensures in
     parts_joined c.args.image.now c.args.params.now c.args.journal (machine_of c.args.nodes c.args.links) c.in_ok-mesh.ensures run c.requires.state (c.in_ok-tally.ensures ∙ told)
