@@ -1,7 +1,8 @@
 ghost use Rattle.std.specs.Prelude.{◌≡◌, ◌<◌, ◌≤◌, length, replicate, slice_index, slice_set, IfOk};
-ghost use Rattle.alw_ready.specs.Tallies.{total, IsPlace};
+ghost use Rattle.alw_num.specs.PlaceCounts.{total, IsPlace};
 
-use alw_num::{MOST_NODES, NoMemory};
+use crate::memory::NoMemory;
+use crate::node_sets::MOST_NODES;
 use std::alloc::Global;
 use std::marker::Model;
 
@@ -11,15 +12,15 @@ const GROUP: usize = 16;
 /// Counts by place, at most 256, with their sums by groups of 16 places and in all: a number of what
 /// they count is found by two short scans.
 #[derive(Debug, Drop)]
-pub struct Tally {
+pub struct PlaceCounts {
     counts: Vec<u32>,
     groups: [u32; 16],
     total: u32,
 }
 
-impl Model for Tally {
+impl Model for PlaceCounts {
     ghost use Rattle.std.specs.Prelude.{List, ℕ};
-    ghost use Rattle.alw_ready.specs.Tallies.{AreSummed};
+    ghost use Rattle.alw_num.specs.PlaceCounts.{AreSummed};
 
     ghost Value = { List ℕ };
 
@@ -28,17 +29,17 @@ impl Model for Tally {
     ghost invariant = { λ t. AreSummed t.counts.items t.groups t.total };
 }
 
-impl Tally {
+impl PlaceCounts {
     /// So many counts of 0.
-    pub fn zeros(alloc: Global, places: u32) -> Result<Tally, NoMemory>
+    pub fn zeros(alloc: Global, places: u32) -> Result<PlaceCounts, NoMemory>
         requires { places ≤ MOST_NODES }
-        ensures { IfOk result (λ tally. tally ≡ replicate places 0) }
+        ensures { IfOk result (λ counts. counts ≡ replicate places 0) }
     {
         let mut counts = Vec::with_capacity(alloc, places as usize)?;
         for _place in 0..places {
             counts.push_reserved(0);
         }
-        Ok(Tally {
+        Ok(PlaceCounts {
             counts,
             groups: [0; 16],
             total: 0,

@@ -2,9 +2,8 @@ ghost use Rattle.std.specs.Prelude.{◌≡◌, ◌<◌, ◌≤◌, length, repli
 ghost use Rattle.alw_ready.specs.Rows.{events_of, no_row, row_at};
 
 use crate::rows::Row;
-use crate::tallies::Tally;
 use alw_msg::Event;
-use alw_num::{MOST_NODES, NoMemory, NodeNo};
+use alw_num::{MOST_NODES, NoMemory, NodeNo, PlaceCounts};
 use std::alloc::Global;
 use std::marker::Model;
 
@@ -12,7 +11,7 @@ use std::marker::Model;
 #[derive(Debug, Drop)]
 pub struct Ready {
     rows: Vec<Row>,
-    tally: Tally,
+    tally: PlaceCounts,
 }
 
 impl Model for Ready {
@@ -33,7 +32,7 @@ impl Ready {
         requires { nodes ≤ MOST_NODES }
         ensures { IfOk result (λ ready. ready ≡ replicate nodes no_row) }
     {
-        let tally = Tally::zeros(alloc, nodes)?;
+        let tally = PlaceCounts::zeros(alloc, nodes)?;
         let mut rows = Vec::with_capacity(alloc, nodes as usize)?;
         for _node in 0..nodes {
             rows.push_reserved(Row::none());
