@@ -28,13 +28,13 @@ pub record HasSizes (raw : RawClaim) (contexts shared at : ℕ) : Type 0 where
   pub lines_are : shared ≡ line_count (image_in raw.image)
   pub place : at ≡ behind_image raw.image
 
-pub sizes : (bytes : List ℕ) (raw : RawClaim) (image one two : Parts) (contexts shared at : ℕ) → bytes ≡ raw.image → IsImageOf bytes image → one ≡ image
-    → contexts ≡ context_count one → two ≡ image → shared ≡ line_count two
+pub sizes : (bytes : List ℕ) (raw : RawClaim) (image : Parts) (contexts shared at : ℕ) → bytes ≡ raw.image → IsImageOf bytes image
+    → contexts ≡ context_count image → shared ≡ line_count image
     → at ≡ behind_image raw.image → HasSizes raw contexts shared at
-sizes bytes raw image one two contexts shared at e is first counted second lined here = record {
+sizes bytes raw image contexts shared at e is counted lined here = record {
   accepted = no_fault bytes raw.image image e is;
-  contexts_are = counted ∙ ap context_count (first ∙ is.parts ∙ ap image_in e);
-  lines_are = lined ∙ ap line_count (second ∙ is.parts ∙ ap image_in e);
+  contexts_are = counted ∙ ap context_count (is.parts ∙ ap image_in e);
+  lines_are = lined ∙ ap line_count (is.parts ∙ ap image_in e);
   place = here;
 }
 
@@ -123,16 +123,14 @@ wrong_word raw contexts shared at behind last runs turns lines prints words NoMe
 
 -- ---- the claim
 
-pub found : (bytes : List ℕ) (raw : RawClaim) (image one two : Parts) (contexts shared at behind last : ℕ) (runs : List (ℕ × ℕ)) (turns : List ℕ)
+pub found : (bytes : List ℕ) (raw : RawClaim) (image : Parts) (contexts shared at behind last : ℕ) (runs : List (ℕ × ℕ)) (turns : List ℕ)
     (lines prints list words : List (ℕ × ℕ)) → bytes ≡ raw.image → IsImageOf bytes image → IsImage image
-    → one ≡ image → contexts ≡ context_count one → two ≡ image → shared ≡ line_count two → runs ≡ raw.runs.items → AreTurns contexts at runs turns
+    → contexts ≡ context_count image → shared ≡ line_count image → runs ≡ raw.runs.items → AreTurns contexts at runs turns
     → lines ≡ raw.prints.items → ArePrints contexts behind lines prints
     → list ≡ raw.memory.items → AreWords shared last list words
     → IsClaimOf (claim_of raw) (record { image = image; turns = turns; prints = prints; memory = words })
-found bytes raw image one two contexts shared at behind last runs turns lines prints list words e is allowed first counted second lined same are
+found bytes raw image contexts shared at behind last runs turns lines prints list words e is allowed number size same are
     all listed whole kept =
-    let number : contexts ≡ context_count image = counted ∙ ap context_count first in
-    let size : shared ≡ line_count image = lined ∙ ap line_count second in
     let fit = runs_fit contexts (at + 1) 0 None runs (omega arith) (head_fits (is_short runs) at (run_tests contexts (at + 1) 0 None runs) are.fits).1 in
     let shown = prints_fit contexts (behind + 1) lines (head_fits (is_short lines) behind (tested (fits_print contexts) (behind + 1) lines) listed.fits).1 in
     let tests : first_unfit (word_tests (line_count image) (last + 1) None list) ≡ None =

@@ -1,5 +1,5 @@
 -- A number is read digit by digit: what it grows by, and what no number goes on with.
-use Rattle.std.proofs.Common.{◌≡◌, ◌≢◌, ℕ, zero, suc, ◌+◌, ◌-◌, ◌*◌, ◌/◌, ◌%◌, ◌^◌, ◌<◌, ◌≤◌, Option, Some, None, List, [], ◌∷◌, ◌++◌, length, take, drop, get_or, refl, sym, ap, subst, ◌∙◌, arith, length-append, append_assoc}
+use Rattle.std.proofs.Common.{◌≡◌, ◌≢◌, ℕ, zero, suc, ◌+◌, ◌-◌, ◌*◌, ◌/◌, ◌%◌, ◌^◌, ◌<◌, ◌≤◌, Option, Some, None, List, [], ◌∷◌, ◌++◌, length, take, drop, get_or, refl, sym, ap, subst, ◌∙◌, arith, length-append}
 use Rattle.std.specs.Prelude.{IfSome, IfNone, SomeIff}
 use Rattle.std.proofs.lemmas.List.{take_at, get_or-append_right, append-nil}
 use Rattle.std.proofs.lemmas.Int.Digits.{digits_value_more}
@@ -99,9 +99,6 @@ begins (d ∷ ds) stop first x y some all e = subst (λ (k : ℕ). digit_value k
 abbrev NoNumber : ℕ → List ℕ → Type 0
 NoNumber stop text = (n : ℕ) → (rest : List ℕ) → n < 2 ^ 64 → text ≢ decimal n ++ stop ∷ rest
 
-pub none_in_nothing : (text : List ℕ) (stop : ℕ) → text ≡ [] → NoNumber stop text
-none_in_nothing text stop empty n rest l e = absurd (omega (arith, ap length (sym empty ∙ e), length-append (decimal n) (stop ∷ rest)))
-
 pub none_at_first : (text behind : List ℕ) (first stop : ℕ) → text ≡ first ∷ behind → IsNoDigit first → NoNumber stop text
 none_at_first text behind first stop split none n rest l e =
     let numeral = (decimal_is_IsNumeral n l).0 in
@@ -121,7 +118,3 @@ none_at_end text (byte ∷ rest) number stop small low read empty n left l e = a
 
 pub first_read : (text behind : List ℕ) (first digit : ℕ) → text ≡ first ∷ behind → first ≡ 48 + digit → digit < 10 → text ≡ decimal digit ++ behind
 first_read text behind first digit split is low = split ∙ rw (decimal_digit digit low, is) refl
-
-pub next_read : (text rest behind : List ℕ) (number byte more : ℕ) → text ≡ decimal number ++ rest → rest ≡ byte ∷ behind → decimal more ≡ decimal number ++ byte ∷ [] → text ≡ decimal more ++ behind
-next_read text rest behind number byte more read split is =
-    read ∙ ap (λ (t : List ℕ). decimal number ++ t) split ∙ sym (append_assoc (decimal number) (byte ∷ []) behind) ∙ ap (λ (t : List ℕ). t ++ behind) (sym is)

@@ -101,12 +101,12 @@ wrong_count bytes raw image line e is here fit long =
     let many : is_short (map entry_of raw.entries.items) ≡ false = grind (arith, nat_tests) in
     (no_fault bytes raw.image image e is, count_unfit (node_count (image_in raw.image)) line (lines_of raw) here fit many)
 
-pub wrong_entry : (bytes : List ℕ) (raw : RawTrace) (image parts : Parts) (params : Parameters) (line nodes sets : ℕ) (entries : List RawEntry)
+pub wrong_entry : (bytes : List ℕ) (raw : RawTrace) (image : Parts) (params : Parameters) (line nodes sets : ℕ) (entries : List RawEntry)
     (fault : TextErr) → bytes ≡ raw.image → IsImageOf bytes image
-    → line ≡ behind_image raw.image → are_parameters (lines_of raw).params ≡ true → length raw.entries.items ≤ 4294967295 → parts ≡ image
-    → nodes ≡ node_count parts → params ≡ (lines_of raw).params → sets ≡ params.sets → entries ≡ raw.entries.items
+    → line ≡ behind_image raw.image → are_parameters (lines_of raw).params ≡ true → length raw.entries.items ≤ 4294967295
+    → nodes ≡ node_count image → params ≡ (lines_of raw).params → sets ≡ params.sets → entries ≡ raw.entries.items
     → IsRangeFault (λ at. first_unfit (tested (fits_entry nodes sets) (line + 2) (map entry_of entries)) ≡ Some at) fault → IsNoTrace (lines_of raw) fault
-wrong_entry bytes raw image parts params line nodes sets entries fault e is here fit few same count three set all = go fault
+wrong_entry bytes raw image params line nodes sets entries fault e is here fit few count three set all = go fault
   where
     size : length (map entry_of raw.entries.items) ≡ length raw.entries.items
     size = length-map raw.entries.items entry_of
@@ -115,7 +115,7 @@ wrong_entry bytes raw image parts params line nodes sets entries fault e is here
     short = let count = size in let most = few in grind (arith, nat_tests)
 
     number : nodes ≡ node_count (image_in raw.image)
-    number = count ∙ ap node_count (same ∙ is.parts ∙ ap image_in e)
+    number = count ∙ ap node_count (is.parts ∙ ap image_in e)
 
     lines : TraceLines
     lines = lines_of raw

@@ -8,7 +8,7 @@ ghost use Rattle.alw_trace.specs.Lists.{ArePrints, AreTurns, AreWords};
 
 use crate::faults::TextErr;
 use alw_msg::{Prints, Turns, Words};
-use alw_num::{NoMemory, SHARED_BASE};
+use alw_num::{LINE_BYTES, MOST_LINES, NoMemory, SHARED_BASE};
 use std::alloc::Global;
 
 // The most turns of a claim.
@@ -102,7 +102,7 @@ pub fn prints_of(
 // The words of lines behind a heading, which is the line of this number.
 pub fn words_of(alloc: Global, lines: &[(u64, u64)], shared: u32, at: u64) -> Result<Words, TextErr>
     requires at { at ≤ 2 ^ 61 }
-    requires shared { shared ≤ 2 ^ 20 }
+    requires shared { shared ≤ MOST_LINES }
     requires words { AllByRecursion IsMemoryWord lines.now }
     ensures ok { IfOk result (λ words. AreWords shared at lines.now words) }
     ensures err { IfErr result (IsRangeFault (λ line. first_unfit (memory_tests shared at lines.now) ≡ Some line)) }
@@ -127,7 +127,7 @@ pub fn words_of(alloc: Global, lines: &[(u64, u64)], shared: u32, at: u64) -> Re
 
 // A word of shared data of so many lines that isn't 0, above the one before.
 fn fits_word(shared: u32, before: Option<u64>, word: (u64, u64)) -> bool
-    requires { shared ≤ 2 ^ 20 }
+    requires { shared ≤ MOST_LINES }
     ensures { result ≡ fits_word shared before word }
 {
     let (address, value) = word;
@@ -145,9 +145,11 @@ fn is_above(before: Option<u64>, address: u64) -> bool
 
 // The address is one of a word of so many lines of shared data.
 fn is_shared(shared: u32, address: u64) -> bool
-    requires { shared ≤ 2 ^ 20 }
+    requires { shared ≤ MOST_LINES }
     ensures { result ≡ is_shared shared address }
 {
     let base = u64::from(SHARED_BASE);
-    address % 4 == 0 && base <= address && address < base + 16 * u64::from(shared)
+    address % 4 == 0
+        && base <= address
+        && address < base + u64::from(LINE_BYTES) * u64::from(shared)
 }

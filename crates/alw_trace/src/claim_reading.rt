@@ -1,5 +1,4 @@
 ghost use Rattle.std.specs.Prelude.{◌≡◌, ◌≤◌, ◌^◌, IfOk, IfErr};
-ghost use Rattle.alw_image.specs.Images.{IsImage, context_count, line_count};
 ghost use Rattle.alw_trace.specs.Lines.{AreClaimLines};
 ghost use Rattle.alw_trace.specs.Readings.{HasClaimTypes, ReadsClaim};
 ghost use Rattle.alw_trace.specs.Lists.{IsClaimOf, IsNoClaim, claim_of};
@@ -11,7 +10,6 @@ use crate::image_lines::line_behind;
 use crate::raw::RawClaim;
 use crate::reading::image_of;
 use crate::values::Claim;
-use alw_image::Parts;
 use std::alloc::Global;
 
 /// The claim that a text spells. It fails by the first of the checks that the text doesn't pass (see
@@ -32,8 +30,8 @@ fn claim_of(alloc: Global, lines: &RawClaim) -> Result<Claim, TextErr>
     ensures err { IfErr result (IsNoClaim (claim_of lines.now)) }
 {
     let image = image_of(alloc, lines.image.bytes())?;
-    let contexts = context_count(image.parts());
-    let shared = line_count(image.parts());
+    let contexts = image.all_contexts();
+    let shared = image.lines();
     let at = line_behind(&lines.image);
     let turns = turns_of(alloc, &lines.runs, contexts, at)?;
     let at = at + 1 + lines.runs.len() as u64;
@@ -46,21 +44,4 @@ fn claim_of(alloc: Global, lines: &RawClaim) -> Result<Claim, TextErr>
         prints,
         memory,
     })
-}
-
-// The number of contexts.
-fn context_count(parts: &Parts) -> u32
-    requires { IsImage parts.now }
-    ensures count { result ≡ context_count parts.now }
-{
-    u32::from(parts.width) * u32::from(parts.height) * u32::from(parts.contexts)
-}
-
-// The number of lines of shared data.
-fn line_count(parts: &Parts) -> u32
-    requires { IsImage parts.now }
-    ensures count { result ≡ line_count parts.now }
-    ensures range { result ≤ 2 ^ 20 }
-{
-    u32::from(parts.width) * u32::from(parts.height) * u32::from(parts.per_node)
 }

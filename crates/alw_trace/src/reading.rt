@@ -1,5 +1,4 @@
 ghost use Rattle.std.specs.Prelude.{◌≡◌, ◌≤◌, IfOk, IfErr};
-ghost use Rattle.alw_image.specs.Images.{IsImage, node_count};
 ghost use Rattle.alw_trace.specs.Readings.{HasTraceTypes, ReadsTrace};
 ghost use Rattle.alw_trace.specs.Raw.{IsImageFault, IsImageOf, IsTraceOf, IsNoTrace, lines_of};
 
@@ -9,7 +8,7 @@ use crate::ranges::{journal_of, params_of};
 use crate::raw::RawTrace;
 use crate::trace_lines::read_lines;
 use crate::values::Trace;
-use alw_image::{Image, ImageErr, Parts, read_image};
+use alw_image::{Image, ImageErr, read_image};
 use std::alloc::Global;
 
 /// The trace that a text spells, with 0 for how often evictions are tried: the text doesn't say it.
@@ -36,7 +35,7 @@ pub fn trace_of(alloc: Global, lines: &RawTrace) -> Result<Trace, TextErr>
     if lines.entries.len() as u64 > u64::from(u32::MAX) {
         return Err(TextErr::Range { line: line + 1 });
     }
-    let nodes = node_count(image.parts());
+    let nodes = u32::from(image.nodes());
     let journal = journal_of(alloc, &lines.entries, nodes, params.sets(), line + 2)?;
     Ok(Trace {
         image,
@@ -55,13 +54,4 @@ pub fn image_of(alloc: Global, bytes: &[u8]) -> Result<Image, TextErr>
         Err(ImageErr::NoMemory) => Err(TextErr::NoMemory),
         Err(fault) => Err(TextErr::Image { fault }),
     }
-}
-
-// The number of nodes.
-fn node_count(parts: &Parts) -> u32
-    requires { IsImage parts.now }
-    ensures nodes { result ≡ node_count parts.now }
-    ensures range { result ≤ 256 }
-{
-    u32::from(parts.width) * u32::from(parts.height)
 }
