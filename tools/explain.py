@@ -103,14 +103,14 @@ TITLES = {b'ALEWIFE TRACE': 'trace', b'ALEWIFE CLAIM': 'claim', b'ALEWIFE SAVE':
           b'{"contexts"': 'report in JSON', b'\x7fELF': 'ELF file', b'ALEW': 'image'}
 AT_THE_START = ('image byte 0: magic', 'image byte 0: short', 'text line 1: syntax')
 LISTING = re.compile(rb'[0-9a-f]{8} [0-9a-f]{8} [0-9]+$', re.M)
-LABELS = re.compile(r'\s*(?:[A-Za-z_]\w*\s*:\s*)*')
+LABEL = re.compile(r'\s*(?:[A-Za-z_]\w*\s*:)?\s*')
 STATEMENT = re.compile(r'\.?[A-Za-z_]\w*')
 
 
 def first_statement(text):
     """The first word of a source that is no label, or None."""
     for line in text.splitlines():
-        match = STATEMENT.match(line.partition('!')[0], LABELS.match(line.partition('!')[0]).end())
+        match = STATEMENT.match(line.partition('!')[0], LABEL.match(line.partition('!')[0]).end())
         if match:
             return match[0]
     return None
@@ -177,11 +177,12 @@ def of_line(number, data):
 TOKEN = re.compile(r'[A-Za-z_]\w*|\.[A-Za-z]*|0x[0-9A-Fa-f]{1,8}|[0-9]+|%[A-Za-z0-9]+|[,:+\-\[\]()]|[ \t\r]+', re.A)
 REGISTER = re.compile(r'%(?:[goli][0-7]|r(?:[0-9]|[12][0-9]|3[01])|sp|fp|y|hi|lo)')
 NAME = re.compile(r'(?<![\w%.])[A-Za-z_]\w*', re.A)
+NUMBER = re.compile(r'(?<![\w%])-?(?:0x[0-9A-Fa-f]+|[0-9]+)', re.A)
 
 
 def unknown_part(code):
     """What of a line of a source is no part of the language, where a look at the names tells."""
-    word, at = STATEMENT.match(code, LABELS.match(code).end()), 0
+    word, at = STATEMENT.match(code, LABEL.match(code).end()), 0
     if word and word[0] not in STATEMENTS:
         small = '; names are in small letters' if word[0].lower() in STATEMENTS else ''
         return f'{word[0]} is no {"directive" if word[0][0] == "." else "instruction"}{small}'
@@ -195,31 +196,58 @@ def unknown_part(code):
     return None
 
 
-def undefined_names(code, source):
+def defined_in(code):
+    """The names that a line defines."""
+    return re.findall(r'([A-Za-z_]\w*)\s*:', code, re.A) + re.findall(r'\.equ\s+([A-Za-z_]\w*)', code, re.A)
+
+
+def names_behind(code):
+    """The names behind the word of a line, without the `a` of a branch."""
+    word = STATEMENT.match(code, LABEL.match(code).end())
+    return [name for name in NAME.findall(code[word.end():]) if name != 'a'] if word else []
+
+
+def of_syntax(line, code):
+    """What of a line of a source is no part of the language."""
+    strange = next((byte for byte in line if byte > 126 or byte < 32 and byte not in b'\t\r'), None)
+    if len(line) > MOST_LINE:
+        return f'a line has at most {MOST_LINE} characters'
+    return f'the byte 0x{strange:02x} is no character of a source' if strange is not None else unknown_part(code)
+
+
+def of_unknown_name(code, lines):
     """The names of a line that the source doesn't define."""
-    labels = set(re.findall(r'([A-Za-z_]\w*)\s*:', source, re.A)) | set(re.findall(r'\.equ\s+([A-Za-z_]\w*)', source, re.A))
-    word = STATEMENT.match(code, LABELS.match(code).end())
-    return [name for name in NAME.findall(code[word.end():] if word else '') if name not in labels and name != 'a']
+    defined = {name for other in lines for name in defined_in(other)}
+    names = [name for name in names_behind(code) if name not in defined]
+    return f'{listed(names)} {"is" if len(names) == 1 else "are"} not defined' if names else None
+
+
+def of_redefined(code, lines):
+    """The name of a line that a line before it defines too."""
+    names = defined_in(code)
+    before = ((name, number) for number, other in enumerate(lines, 1) if other is not code for name in defined_in(other) if name in names)
+    name, number = next(before, (None, 0))
+    return f'{name} is defined on line {number}' if name else None
+
+
+def of_range(code):
+    """The one number of a line without names."""
+    word = STATEMENT.match(code, LABEL.match(code).end())
+    numbers = NUMBER.findall(code[word.end():]) if word else []
+    return f'{numbers[0]} is out of range here' if len(numbers) == 1 and not names_behind(code) else None
 
 
 def of_source(number, fault, data):
     """The line of a source, and what of it isn't known."""
-    source = '\n'.join(line.partition('!')[0] for line in data.decode('latin-1').split('\n'))
-    if number == 0 and first_statement(source) is None:
+    lines = [line.partition('!')[0] for line in data.decode('latin-1').split('\n')]
+    if number == 0 and first_statement('\n'.join(lines)) is None:
         yield 'the source has no instruction'
     if not of_line(number, data):
         return
+    code = lines[number - 1]
     yield of_line(number, data)
-    line, code = data.split(b'\n')[number - 1], source.split('\n')[number - 1]
-    part = None
-    if fault == 'syntax':
-        strange = next((byte for byte in line if byte > 126 or byte < 32 and byte not in b'\t\r'), None)
-        part = f'the byte 0x{strange:02x} is no character of a source' if strange is not None else unknown_part(code)
-        part = f'a line has at most {MOST_LINE} characters' if len(line) > MOST_LINE else part
-    if fault == 'unknown name' and (names := undefined_names(code, source)):
-        part = f'{listed(names)} {"is" if len(names) == 1 else "are"} not defined'
-    if part:
-        yield part
+    yield {'syntax': lambda: of_syntax(data.split(b'\n')[number - 1], code), 'unknown name': lambda: of_unknown_name(code, lines),
+           'redefined': lambda: of_redefined(code, lines), 'range': lambda: of_range(code)}.get(fault, lambda: None)()
 
 
 def of_input(reason, words, data):

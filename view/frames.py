@@ -1,6 +1,7 @@
 """The frames of a run: the states that the program writes at the stamps of a trace, each as what differs from the one before."""
 import itertools
 import re
+import sys
 from concurrent.futures import ThreadPoolExecutor
 from dataclasses import dataclass
 from pathlib import Path
@@ -56,9 +57,9 @@ class Program:
 
 
 def read_trace(path):
-    """The bytes of a trace."""
+    """The bytes of a trace, in a file or, where the path is -, on standard input."""
     try:
-        return Path(path).read_bytes()
+        return sys.stdin.buffer.read() if path == '-' else Path(path).read_bytes()
     except OSError as fault:
         raise ViewError(f"can't read {path}: {fault.strerror}") from fault
 
