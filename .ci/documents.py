@@ -434,8 +434,9 @@ def check_words(findings):
         findings.say(file, 0, f'its table of commands has {", ".join(rows)}, and the program {", ".join(commands)}')
     for name, row in rows.items():
         wanted = {option.name for option in commands[name].options} if name in commands else set()
-        for option in sorted(set(re.findall(r'--\w+', row.cells[3])) ^ wanted):
-            findings.say(file, row.line, f'{option} is said of {name} or is its option, and not both')
+        said = set(re.findall(r'--\w+', row.cells[3]))
+        for option in sorted(said ^ wanted):
+            findings.say(file, row.line, f"says {option} of {name}, which hasn't it" if option in said else f"doesn't say {option} of {name}")
     spelled = {word for span in SPAN.findall(file.read_text()) for word in span.split()}
     for form in sorted({form for command in commands.values() for option in command.options if option.value() == 'FORM' for form in option.names} - spelled):
         findings.say(file, 0, f"doesn't say the form {form}")

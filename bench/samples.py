@@ -1,42 +1,11 @@
 """Good inputs of every format, small ones: sources, and the images, traces, claims and checkpoints that a program makes of them."""
 from dataclasses import dataclass
+from pathlib import Path
 
+EXAMPLES = Path(__file__).resolve().parent.parent / 'examples'
 SOURCES = {
-    'print': '        mov     7,%o0\n        ta      1               ! print %o0\n        ta      0\n',
+    **{name: (EXAMPLES / f'{name}.s').read_text() for name in ('print', 'crossing', 'lock')},
     'smallest': ' ta 0',
-    'crossing': """        .mesh 2,1
-        set     0x40000000,%g1
-        set     0x40000010,%g2
-        mov     1,%g3
-        tst     %o0
-        bne     other
-        nop
-        st      %g3,[%g1]
-        ld      [%g2],%o0
-        ta      1
-        ta      0
-other:  st      %g3,[%g2]
-        ld      [%g1],%o0
-        ta      1
-        ta      0
-""",
-    'lock': """        .mesh 2,2
-        set     0x40000000,%g1
-        set     0x40000010,%g2
-        mov     2,%g3
-take:   ldstub  [%g1],%g4
-        tst     %g4
-        bne     take
-        nop
-        ld      [%g2],%g5
-        add     %g5,1,%g5
-        st      %g5,[%g2]
-        stb     %g0,[%g1]
-        subcc   %g3,1,%g3
-        bne,a   take
-        nop
-        ta      0
-""",
     'data': """        .mesh 3,1
         .contexts 2
         .lines 4

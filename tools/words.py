@@ -145,8 +145,17 @@ def kind_of(text, rows):
         return {'names': tuple(str(constant(count)) for count in declared('SET_COUNTS').strip('[]').split(','))}
     if text in FORMS:
         return {'names': names_in(rows, FORMS[text])}
-    first, last = re.search(rf'Kind::{text} => .*?number_between\(word, (.*?), (.*)\)\?', LOOKUPS.read_text(), re.S).groups()
-    return {'first': constant(first), 'last': constant(last.partition(')?')[0])}
+    bounds = re.search(rf'Kind::{text} => [^;]*?number_between\(word, (.*?), (.*?)\)\?', LOOKUPS.read_text(), re.S)
+    if not bounds:
+        sys.exit(f'words: {LOOKUPS.relative_to(ROOT)} has no bounds for the kind {text}')
+    return {'first': constant(bounds[1]), 'last': constant(bounds[2])}
+
+
+def said_of(phrases, name):
+    """What this script says of a command or an option."""
+    if name not in phrases:
+        sys.exit(f'words: {ROWS.relative_to(ROOT)} has {name}, of which tools/words.py says nothing')
+    return phrases[name]
 
 
 def default_of(text):
@@ -164,7 +173,7 @@ def options_of(rows, command):
     for option, choice, kind in re.findall(r'b"(--\w+)",\s*Meaning \{\s*choice: (\d+),\s*kind: Kind::(\w+(?:\([^)]*\))?),', body):
         default = None if choice in seen else default_of(defaults[int(choice)])
         seen.add(choice)
-        made.append(Option(option, int(choice), PHRASES[command][option], default=default, **kind_of(kind, rows)))
+        made.append(Option(option, int(choice), said_of(PHRASES.get(command, {}), option), default=default, **kind_of(kind, rows)))
     return tuple(made)
 
 
@@ -177,7 +186,7 @@ def rule_of(rows, command):
 def read_table():
     """The commands, in their order."""
     rows = ROWS.read_text()
-    return {name: Command(*COMMANDS[name], options_of(rows, name), rule_of(rows, name)) for name in names_in(rows, 'COMMANDS')}
+    return {name: Command(*said_of(COMMANDS, name), options_of(rows, name), rule_of(rows, name)) for name in names_in(rows, 'COMMANDS')}
 
 
 def read_names():
