@@ -70,137 +70,216 @@ fn are_sent(sent: &Sends, wanted: &[(u16, Kind, u32)]) -> bool {
     true
 }
 
-// Nothing changes and nothing is sent for any of these kinds of a node's message.
-fn stays(alloc: Global, entry: &mut FullMap, kinds: &[Kind], node: u16) -> Result<bool, Fail>
-    requires { node < MOST_NODES }
-{
+// A message to memory: its kind, its node and the first word of its line. Then the entry: state, P, counter and first word; and what it sends.
+type Row = (
+    (Kind, u16, u32),
+    (State, &'static [u16], u32, u32),
+    &'static [(u16, Kind, u32)],
+);
+
+// An entry acts on messages one after another, and stands and sends as each row says.
+fn plays(alloc: Global, rows: &[Row]) -> Result<bool, Fail> {
     let mut sent = Sends::room(alloc, 256)?;
-    for kind in kinds {
-        let (state, pointers) = (entry.state(), entry.pointers());
-        let (acks, body) = (entry.acks(), entry.body());
-        if kind.is_to_memory() {
-            acts(entry, *kind, node, 77, &mut sent);
+    let mut entry = FullMap::start(line_of(6));
+    for row in rows {
+        let ((kind, node, word), (state, nodes, acks, first), wanted) = *row;
+        if !kind.is_to_memory() || node >= MOST_NODES {
+            return Ok(false);
         }
-        let same = entry.state() == state && entry.pointers() == pointers;
-        if !same || entry.acks() != acks || entry.body() != body || !sent.is_empty() {
+        acts(&mut entry, kind, node, word, &mut sent);
+        if !stands(&entry, state, nodes, acks, first) || !are_sent(&sent, wanted) {
             return Ok(false);
         }
     }
     Ok(true)
 }
 
-// Read-Only: readers join; a writer that is alone gets the line, and one that isn't has the others
-// invalidated in ascending order. What a Read-Only line can't get changes nothing.
-#[test]
-fn read_only(rt: HostRuntime) -> Result<(), Fail> {
-    let mut sent = Sends::room(rt.alloc(), 256)?;
-    let mut entry = FullMap::start(line_of(6));
-    assert!(rt; stands(&entry, State::RO, &[], 0, 6));
-    assert_eq!(rt;
-        acts(&mut entry, Kind::RREQ, 255, 0, &mut sent),
-        Keeping::Joined
-    );
-    assert!(rt; stands(&entry, State::RO, &[255], 0, 6));
-    assert!(rt; are_sent(&sent, &[(255, Kind::RDATA, 6)]));
-    acts(&mut entry, Kind::RREQ, 0, 0, &mut sent);
-    acts(&mut entry, Kind::RREQ, 64, 0, &mut sent);
-    assert!(rt; stands(&entry, State::RO, &[0, 64, 255], 0, 6));
-    let unlisted = [Kind::REPM, Kind::UPDATE, Kind::ACKC];
-    assert!(rt; stays(rt.alloc(), &mut entry, &unlisted, 64)?);
-    assert_eq!(rt;
-        acts(&mut entry, Kind::WREQ, 64, 0, &mut sent),
-        Keeping::Alone
-    );
-    assert!(rt; stands(&entry, State::WT, &[64], 2, 6));
-    assert!(rt; are_sent(&sent, &[(0, Kind::INV, 0), (255, Kind::INV, 0)]));
-    let mut alone = FullMap::start(line_of(6));
-    acts(&mut alone, Kind::RREQ, 1, 0, &mut sent);
-    acts(&mut alone, Kind::WREQ, 1, 0, &mut sent);
-    assert!(rt; stands(&alone, State::RW, &[1], 0, 6));
-    assert!(rt; are_sent(&sent, &[(1, Kind::WDATA, 6)]));
-    Ok(())
-}
+// Readers join, what a Read-Only line can't get changes nothing, and a writer has the others invalidated in ascending order.
+const READERS: [Row; 7] = [
+    (
+        (Kind::RREQ, 255, 0),
+        (State::RO, &[255], 0, 6),
+        &[(255, Kind::RDATA, 6)],
+    ),
+    (
+        (Kind::RREQ, 0, 0),
+        (State::RO, &[0, 255], 0, 6),
+        &[(0, Kind::RDATA, 6)],
+    ),
+    (
+        (Kind::RREQ, 64, 0),
+        (State::RO, &[0, 64, 255], 0, 6),
+        &[(64, Kind::RDATA, 6)],
+    ),
+    ((Kind::REPM, 64, 77), (State::RO, &[0, 64, 255], 0, 6), &[]),
+    (
+        (Kind::UPDATE, 64, 77),
+        (State::RO, &[0, 64, 255], 0, 6),
+        &[],
+    ),
+    ((Kind::ACKC, 64, 77), (State::RO, &[0, 64, 255], 0, 6), &[]),
+    (
+        (Kind::WREQ, 64, 0),
+        (State::WT, &[64], 2, 6),
+        &[(0, Kind::INV, 0), (255, Kind::INV, 0)],
+    ),
+];
 
-// Read-Write: the owner gives the line back, or is sent INV for another node.
-#[test]
-fn read_write(rt: HostRuntime) -> Result<(), Fail> {
-    let mut sent = Sends::room(rt.alloc(), 256)?;
-    let mut entry = FullMap::start(line_of(6));
-    acts(&mut entry, Kind::WREQ, 1, 0, &mut sent);
-    assert!(rt; stands(&entry, State::RW, &[1], 0, 6));
-    assert!(rt; are_sent(&sent, &[(1, Kind::WDATA, 6)]));
-    let unlisted = [Kind::RREQ, Kind::WREQ, Kind::UPDATE, Kind::ACKC];
-    assert!(rt; stays(rt.alloc(), &mut entry, &unlisted, 1)?);
-    assert!(rt; stays(rt.alloc(), &mut entry, &[Kind::REPM], 2)?);
-    assert_eq!(rt;
-        acts(&mut entry, Kind::REPM, 1, 7, &mut sent),
-        Keeping::Emptied
-    );
-    assert!(rt; stands(&entry, State::RO, &[], 0, 7));
-    assert!(rt; sent.is_empty());
-    for (kind, state) in [(Kind::RREQ, State::RT), (Kind::WREQ, State::WT)] {
-        let mut owned = FullMap::start(line_of(6));
-        acts(&mut owned, Kind::WREQ, 1, 0, &mut sent);
-        if kind.is_to_memory() {
-            acts(&mut owned, kind, 2, 0, &mut sent);
-        }
-        assert!(rt; stands(&owned, state, &[2], 1, 6));
-        assert!(rt; are_sent(&sent, &[(1, Kind::INV, 0)]));
-    }
-    Ok(())
-}
+// A writer that is alone gets the line.
+const LONE_READER: [Row; 2] = [
+    (
+        (Kind::RREQ, 1, 0),
+        (State::RO, &[1], 0, 6),
+        &[(1, Kind::RDATA, 6)],
+    ),
+    (
+        (Kind::WREQ, 1, 0),
+        (State::RW, &[1], 0, 6),
+        &[(1, Kind::WDATA, 6)],
+    ),
+];
+
+// The owner alone gives the line back, and what a Read-Write line can't get changes nothing.
+const OWNER: [Row; 7] = [
+    (
+        (Kind::WREQ, 1, 0),
+        (State::RW, &[1], 0, 6),
+        &[(1, Kind::WDATA, 6)],
+    ),
+    ((Kind::RREQ, 1, 77), (State::RW, &[1], 0, 6), &[]),
+    ((Kind::WREQ, 1, 77), (State::RW, &[1], 0, 6), &[]),
+    ((Kind::UPDATE, 1, 77), (State::RW, &[1], 0, 6), &[]),
+    ((Kind::ACKC, 1, 77), (State::RW, &[1], 0, 6), &[]),
+    ((Kind::REPM, 2, 77), (State::RW, &[1], 0, 6), &[]),
+    ((Kind::REPM, 1, 7), (State::RO, &[], 0, 7), &[]),
+];
 
 // Read-Transaction: a further request is refused, REPM brings the bytes, and the last answer ends it.
+const READ_TRANSACTION: [Row; 6] = [
+    (
+        (Kind::WREQ, 1, 0),
+        (State::RW, &[1], 0, 6),
+        &[(1, Kind::WDATA, 6)],
+    ),
+    (
+        (Kind::RREQ, 2, 0),
+        (State::RT, &[2], 1, 6),
+        &[(1, Kind::INV, 0)],
+    ),
+    (
+        (Kind::RREQ, 3, 0),
+        (State::RT, &[2], 1, 6),
+        &[(3, Kind::BUSY, 0)],
+    ),
+    (
+        (Kind::WREQ, 1, 0),
+        (State::RT, &[2], 1, 6),
+        &[(1, Kind::BUSY, 0)],
+    ),
+    ((Kind::REPM, 1, 7), (State::RT, &[2], 1, 7), &[]),
+    (
+        (Kind::ACKC, 1, 0),
+        (State::RO, &[2], 0, 7),
+        &[(2, Kind::RDATA, 7)],
+    ),
+];
+
+// UPDATE brings the bytes and is the last answer.
+const READ_UPDATE: [Row; 3] = [
+    (
+        (Kind::WREQ, 1, 0),
+        (State::RW, &[1], 0, 6),
+        &[(1, Kind::WDATA, 6)],
+    ),
+    (
+        (Kind::RREQ, 2, 0),
+        (State::RT, &[2], 1, 6),
+        &[(1, Kind::INV, 0)],
+    ),
+    (
+        (Kind::UPDATE, 1, 8),
+        (State::RO, &[2], 0, 8),
+        &[(2, Kind::RDATA, 8)],
+    ),
+];
+
+// Write-Transaction: answers are counted, a further request is refused, and the last answer ends it; a second writer's begins with INV to the owner.
+const WRITE_TRANSACTION: [Row; 9] = [
+    (
+        (Kind::RREQ, 1, 0),
+        (State::RO, &[1], 0, 6),
+        &[(1, Kind::RDATA, 6)],
+    ),
+    (
+        (Kind::RREQ, 2, 0),
+        (State::RO, &[1, 2], 0, 6),
+        &[(2, Kind::RDATA, 6)],
+    ),
+    (
+        (Kind::WREQ, 3, 0),
+        (State::WT, &[3], 2, 6),
+        &[(1, Kind::INV, 0), (2, Kind::INV, 0)],
+    ),
+    ((Kind::ACKC, 2, 0), (State::WT, &[3], 1, 6), &[]),
+    (
+        (Kind::RREQ, 2, 0),
+        (State::WT, &[3], 1, 6),
+        &[(2, Kind::BUSY, 0)],
+    ),
+    (
+        (Kind::ACKC, 1, 0),
+        (State::RW, &[3], 0, 6),
+        &[(3, Kind::WDATA, 6)],
+    ),
+    (
+        (Kind::WREQ, 4, 0),
+        (State::WT, &[4], 1, 6),
+        &[(3, Kind::INV, 0)],
+    ),
+    ((Kind::REPM, 3, 7), (State::WT, &[4], 1, 7), &[]),
+    (
+        (Kind::UPDATE, 3, 8),
+        (State::RW, &[4], 0, 8),
+        &[(4, Kind::WDATA, 8)],
+    ),
+];
+
 #[test]
-fn read_transaction(rt: HostRuntime) -> Result<(), Fail> {
-    let mut sent = Sends::room(rt.alloc(), 256)?;
-    let mut entry = FullMap::start(line_of(6));
-    acts(&mut entry, Kind::WREQ, 1, 0, &mut sent);
-    acts(&mut entry, Kind::RREQ, 2, 0, &mut sent);
-    acts(&mut entry, Kind::RREQ, 3, 0, &mut sent);
-    assert!(rt; stands(&entry, State::RT, &[2], 1, 6));
-    assert!(rt; are_sent(&sent, &[(3, Kind::BUSY, 0)]));
-    acts(&mut entry, Kind::WREQ, 1, 0, &mut sent);
-    assert!(rt; are_sent(&sent, &[(1, Kind::BUSY, 0)]));
-    acts(&mut entry, Kind::REPM, 1, 7, &mut sent);
-    assert!(rt; stands(&entry, State::RT, &[2], 1, 7));
-    assert!(rt; sent.is_empty());
-    acts(&mut entry, Kind::ACKC, 1, 0, &mut sent);
-    assert!(rt; stands(&entry, State::RO, &[2], 0, 7));
-    assert!(rt; are_sent(&sent, &[(2, Kind::RDATA, 7)]));
-    let mut answered = FullMap::start(line_of(6));
-    acts(&mut answered, Kind::WREQ, 1, 0, &mut sent);
-    acts(&mut answered, Kind::RREQ, 2, 0, &mut sent);
-    acts(&mut answered, Kind::UPDATE, 1, 8, &mut sent);
-    assert!(rt; stands(&answered, State::RO, &[2], 0, 8));
-    assert!(rt; are_sent(&sent, &[(2, Kind::RDATA, 8)]));
+fn read_only(rt: HostRuntime) -> Result<(), Fail> {
+    assert!(rt; plays(rt.alloc(), &READERS)?);
+    assert!(rt; plays(rt.alloc(), &LONE_READER)?);
     Ok(())
 }
 
-// Write-Transaction: answers are counted, a further request is refused, and the last answer ends it.
+#[test]
+fn read_write(rt: HostRuntime) -> Result<(), Fail> {
+    assert!(rt; plays(rt.alloc(), &OWNER)?);
+    Ok(())
+}
+
+#[test]
+fn read_transaction(rt: HostRuntime) -> Result<(), Fail> {
+    assert!(rt; plays(rt.alloc(), &READ_TRANSACTION)?);
+    assert!(rt; plays(rt.alloc(), &READ_UPDATE)?);
+    Ok(())
+}
+
 #[test]
 fn write_transaction(rt: HostRuntime) -> Result<(), Fail> {
+    assert!(rt; plays(rt.alloc(), &WRITE_TRANSACTION)?);
+    Ok(())
+}
+
+// What an action does to P is told: a reader joined, a writer is alone, and the owner left.
+#[test]
+fn keepings(rt: HostRuntime) -> Result<(), Fail> {
     let mut sent = Sends::room(rt.alloc(), 256)?;
     let mut entry = FullMap::start(line_of(6));
-    acts(&mut entry, Kind::RREQ, 1, 0, &mut sent);
-    acts(&mut entry, Kind::RREQ, 2, 0, &mut sent);
-    acts(&mut entry, Kind::WREQ, 3, 0, &mut sent);
-    assert!(rt; stands(&entry, State::WT, &[3], 2, 6));
-    assert!(rt; are_sent(&sent, &[(1, Kind::INV, 0), (2, Kind::INV, 0)]));
-    acts(&mut entry, Kind::ACKC, 2, 0, &mut sent);
-    assert!(rt; stands(&entry, State::WT, &[3], 1, 6));
-    assert!(rt; sent.is_empty());
-    acts(&mut entry, Kind::RREQ, 2, 0, &mut sent);
-    assert!(rt; are_sent(&sent, &[(2, Kind::BUSY, 0)]));
-    acts(&mut entry, Kind::ACKC, 1, 0, &mut sent);
-    assert!(rt; stands(&entry, State::RW, &[3], 0, 6));
-    assert!(rt; are_sent(&sent, &[(3, Kind::WDATA, 6)]));
-    acts(&mut entry, Kind::WREQ, 4, 0, &mut sent);
-    acts(&mut entry, Kind::REPM, 3, 7, &mut sent);
-    assert!(rt; stands(&entry, State::WT, &[4], 1, 7));
-    acts(&mut entry, Kind::UPDATE, 3, 8, &mut sent);
-    assert!(rt; stands(&entry, State::RW, &[4], 0, 8));
-    assert!(rt; are_sent(&sent, &[(4, Kind::WDATA, 8)]));
+    let joined = acts(&mut entry, Kind::RREQ, 255, 0, &mut sent);
+    let alone = acts(&mut entry, Kind::WREQ, 255, 0, &mut sent);
+    let emptied = acts(&mut entry, Kind::REPM, 255, 7, &mut sent);
+    let told = [joined, alone, emptied];
+    assert_eq!(rt; told, [Keeping::Joined, Keeping::Alone, Keeping::Emptied]);
     Ok(())
 }
 
