@@ -1,5 +1,5 @@
 -- Links that agree: what was taken is a front of what was sent, event by event and link by link.
-use Rattle.std.proofs.Common.{◌≡◌, ◌↔◌, ℕ, zero, suc, Option, Some, None, List, [], ◌∷◌, ◌++◌, slice_get, refl, sym, subst, ap, ◌∙◌, append_assoc}
+use Rattle.std.proofs.Common.{◌≡◌, ◌↔◌, ℕ, zero, suc, Option, Some, List, [], ◌∷◌, ◌++◌, slice_get, sym, subst, ap, ◌∙◌, append_assoc}
 use Rattle.std.specs.Option.{option_map}
 use Rattle.std.proofs.lemmas.Option.{same_Some}
 use Rattle.alw_msg.specs.declared.messages.Msg.{Msg}
@@ -57,15 +57,6 @@ pub goes_wrong : (Whole : Type 0) (number : ℕ) (before after : Reading) (entry
 goes_wrong Whole number before after entry taken sent so_far entry_is after_is taken_is other whole =
     other (took_from number after.left) (subst (λ (xs : List Msg). IsFront xs sent) (took_next number before after entry taken entry_is after_is taken_is)
     (so_far.0 whole))
-
--- nothing is a front of anything
-pub nothing_front : (number : ℕ) (reading : Reading) (sent : List Msg) → None ≡ option_map entry_of (front reading.left)
-    → IsFront (took_from number reading.left) sent
-nothing_front number reading sent none = go reading.left none
-  where
-    go : (left : List Logged) → None ≡ option_map entry_of (front left) → IsFront (took_from number left) sent
-    go [] none = (sent, refl)
-    go (first ∷ rest) none = absurd (cc)
 
 -- ---- link by link
 

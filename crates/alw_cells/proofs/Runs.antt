@@ -145,9 +145,6 @@ module _ (cell : Cell) (event : Event) (is : may_happen cell event ≡ true) whe
     sent = refl;
   }
 
-pub given_event : (come : List (List Msg)) (event : Event) → MessageIsGiven event (taken_by come event)
-given_event come event = given come event
-
 -- ---- runs by a share
 
 module _ (parts : Parts) (parameters : Parameters) (number : ℕ) where

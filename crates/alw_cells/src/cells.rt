@@ -92,9 +92,8 @@ impl NodeCell {
         requires code { arc_value code.now ≡ image.now.code }
         ensures { IfOk result (λ c. c ≡ cell_start image.now params.now node.0) }
     {
-        let count = u16::from(image.width()) * u16::from(image.height());
+        let count = image.nodes();
         let started = Node::start_shared(alloc, image, params, node, code)?;
-        let _exists = started.number();
         Ok(NodeCell {
             node: started,
             log: Log::empty(alloc, node),
@@ -241,9 +240,9 @@ impl NodeCell {
         ensures idle { result ≡ Stepped.Idle }
         ensures spent { IsSpent self.now.node.parameters self.now.node.state }
     {
-        let _number = self.node.number();
-        let _last = self.node.last();
-        let _limit = self.node.params().limit();
+        let _number = self.node.number(); // for its clause
+        let _last = self.node.last(); // for its clause
+        let _limit = self.node.params().limit(); // for its clause
         Stepped::Idle
     }
 
@@ -329,7 +328,7 @@ impl NodeCell {
         self.dids.reserve(1)?;
         let taken = take(&mut self.come, &mut self.senders, event);
         let did = self.node.local(event, &taken, &mut self.sent);
-        let _fits = self.sent.free();
+        let _fits = self.sent.free(); // for its clause
         let entry = Entry {
             stamp: self.node.clock(),
             event,
