@@ -4,7 +4,7 @@ use Rattle.std.specs.Fmt.{decimal}
 use Rattle.std.specs.Char.{digit_value}
 use Rattle.std.specs.Str.Parse.{AllDigits, IsNumeral, digits_value}
 use Rattle.std.proofs.Math.ListN.{get_or-append}
-use Rattle.std.proofs.Math.Nat.{pow-suc, pow-le-pow_right}
+use Rattle.std.proofs.Math.Nat.{pow-suc}
 use Rattle.std.proofs.lemmas.Bool.{cases_lt}
 use Rattle.std.proofs.lemmas.Bool.Decides.{nat_tests}
 use Rattle.std.proofs.lemmas.List.{append-nil, drop_all, take_more, take_all, drop-set, get_or-append_right}
@@ -114,9 +114,6 @@ shorter n ten l = omega (arith, ap length (decimal_step n ten l), length-append 
 
 pub next_power : (word d i : ℕ) → word < 16 ^ i → d < 16 → word * 16 + d < 16 ^ (i + 1)
 next_power word d i l m = let e : 16 ^ (i + 1) ≡ 16 ^ i * 16 = rw add-one (pow-suc 16 i) in omega arith
-
-pub word_fits : (word d i : ℕ) → word < 16 ^ i → d < 16 → i < 8 → word * 16 + d < 2 ^ 32
-word_fits word d i l m n = let some : zero < 16 = omega arith in let within : i + 1 ≤ 8 = omega arith in let high : 16 ^ (i + 1) ≤ 16 ^ 8 = pow-le-pow_right some within in omega (arith, next_power word d i l m)
 
 pub found : (bytes : List ℕ) (n : ℕ) → ((IsNumeral 10 bytes × (digits_value 10 bytes < 2 ^ 64)) × (n ≡ digits_value 10 bytes)) → ¬ ((1 < length bytes) × (get_or bytes 0 0 ≡ 48)) → bytes ≡ decimal n
 found bytes n read plain = spelled bytes read.0.0 read.0.1 (λ z. ⊎_elim (λ one. absurd (plain (one, z))) (λ few. let one : length bytes ≡ 1 = omega (arith, read.0.0.0) in one) (cases_lt 1 (length bytes))) ∙ ap decimal (sym read.1)

@@ -1,8 +1,6 @@
 -- An event at a node that leaves its home lines as they are: for a line, one node's part changes.
-use Rattle.std.proofs.Common.{◌≡◌, ◌≢◌, ℕ, ◌*◌, ◌<◌, ◌==◌, Bool, true, false, cond, Option, List, [], ◌++◌, length, get_or, refl, sym, ap, ◌∙◌, append-nil, append_assoc}
+use Rattle.std.proofs.Common.{◌≡◌, ◌≢◌, ℕ, ◌*◌, ◌<◌, ◌==◌, Bool, true, false, cond, List, [], ◌++◌, length, get_or, refl, sym, ap, ◌∙◌, append-nil, append_assoc}
 use Rattle.std.proofs.lemmas.Bool.{eq-eqb, ne_eqb, lt-ltb}
-use Rattle.alw_num.specs.declared.addresses.Line.{Line}
-use Rattle.alw_num.specs.declared.states.Mode.{Mode}
 use Rattle.alw_num.proofs.Weigh.{at_nodes}
 use Rattle.alw_msg.specs.declared.messages.Msg.{Msg}
 use Rattle.alw_image.specs.declared.parts.Parts.{Parts}
@@ -20,9 +18,6 @@ use Rattle.law_line.specs.Protocol.{changed}
 use Rattle.law_lines.specs.Links.{msgs_to, asked, GoBelow}
 use Rattle.law_lines.proofs.Contents.{ups-append, downs-append, ups_asked, downs_asked}
 use Rattle.law_lines.proofs.Views.{seen_copy, seen_transaction, below_same, next_machine, next_node, next_line, next_line_is}
-
-pub same_part : (v : LineNode) (copy : Option (Mode × Line)) (transaction : Option Mode) (up : List ToMemory) (down : List ToCache) → v.copy ≡ copy → v.transaction ≡ transaction → v.up ≡ up → v.down ≡ down → v ≡ record { copy = copy; transaction = transaction; up = up; down = down }
-same_part v copy transaction up down c t u d = λ x. record { copy = c x; transaction = t x; up = u x; down = d x }
 
 -- a part of a node that an event keeps, read at any node
 pub kept_part : {X : Type 0} (part : NodeState → X) (f : ℕ → NodeState) (n : ℕ) (v : NodeState) (h : ℕ) → part v ≡ part (f n) → part (cond (h == n) v (f h)) ≡ part (f h)

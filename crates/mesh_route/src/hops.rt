@@ -10,7 +10,7 @@ use crate::ports::{Hop, Port};
 use crate::queues::{Packet, Queue, arrive, pass};
 use crate::routes::{port_from, route_next};
 use alw_msg::{Msg, MsgList};
-use alw_num::{NoMemory, NodeNo};
+use alw_num::{MOST_SIDE, NoMemory, NodeNo};
 use std::alloc::Global;
 use std::marker::Model;
 
@@ -61,9 +61,9 @@ impl Hops {
     /// The routers of a mesh without a message.
     pub fn start(alloc: Global, width: u8, height: u8) -> Result<Hops, NoMemory>
         requires narrow { 1 ≤ width }
-        requires wide { width ≤ 16 }
+        requires wide { width ≤ MOST_SIDE }
         requires low { 1 ≤ height }
-        requires high { height ≤ 16 }
+        requires high { height ≤ MOST_SIDE }
         ensures { IfOk result (λ hops. hops ≡ mesh_start width height) }
     {
         let count = usize::from(width) * usize::from(height);

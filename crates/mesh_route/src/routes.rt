@@ -3,13 +3,13 @@ ghost use Rattle.std.specs.Option.{option_map};
 ghost use Rattle.mesh_route.specs.Routes.{next_on, port_from};
 
 use crate::ports::Port;
-use alw_num::{MOST_NODES, NodeNo};
+use alw_num::{MOST_NODES, MOST_SIDE, NodeNo};
 
 /// The node behind `at` on the route to `to`, in a mesh of this width: along the row to the right
 /// column, and then along that column. None exactly where `at` is `to`.
 pub fn route_next(at: NodeNo, to: NodeNo, width: u8) -> Option<NodeNo>
     requires narrow { 1 ≤ width }
-    requires wide { width ≤ 16 }
+    requires wide { width ≤ MOST_SIDE }
     requires at { at.0 < MOST_NODES }
     requires to { to.0 < MOST_NODES }
     ensures next { option_map (λ node. node.0) result ≡ next_on width at.0 to.0 }
