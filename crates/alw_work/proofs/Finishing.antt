@@ -1,5 +1,5 @@
 -- Cells that are stepped one after the other, each until it is spent, and cells that stand in their places.
-use Rattle.std.proofs.Common.{◌≡◌, ◌≢◌, ◌⊎◌, inl, inr, ⊎_elim, ℕ, zero, suc, ◌+◌, ◌-◌, ◌<◌, ◌≤◌, Bool, true, false, cond, ◌||◌, Option, Some, None, List, [], ◌∷◌, ◌++◌, length, slice_get, slice_set, replicate, flat_map, refl, sym, ap, subst, ◌∙◌, arith}
+use Rattle.std.proofs.Common.{◌≡◌, ◌≢◌, ◌⊎◌, inl, inr, ⊎_elim, ℕ, zero, suc, ◌+◌, ◌-◌, ◌<◌, ◌≤◌, Bool, true, false, cond, ◌||◌, Option, Some, None, List, [], ◌∷◌, ◌++◌, length, slice_get, slice_set, replicate, refl, sym, ap, subst, ◌∙◌, arith}
 use Rattle.std.specs.Prelude.{option_to_list}
 use Rattle.std.proofs.lemmas.List.Concat.{flat_map-append}
 use Rattle.std.proofs.lemmas.Option.{same_Some}
@@ -150,9 +150,6 @@ pub record AreSoFar (parts : Parts) (parameters : Parameters) (cells : List Cell
   pub each : EachAt (StandsAt parts parameters) cells
   pub marked : trapped ≡ true → (k : ℕ) × ((cell : Cell) × ((slice_get cells k ≡ Some cell) × HasTrapped cell))
 
-pub so_far_none : (parts : Parts) (parameters : Parameters) → AreSoFar parts parameters [] false
-so_far_none parts parameters = record { each = λ k cell is. absurd (cc); marked = λ is. absurd (cc) }
-
 pub so_far_push : (parts : Parts) (parameters : Parameters) (cells : List Cell) (trapped : Bool) (number : ℕ) (cell : Cell) (has : Bool)
     → AreSoFar parts parameters cells trapped → number ≡ length cells → StandsAt parts parameters number cell → TrapIsMarked has cell
     → AreSoFar parts parameters (cells ++ cell ∷ []) (trapped || has)
@@ -173,9 +170,6 @@ pub record AreFinishedTo (n : ℕ) (before after : List Cell) : Type 0 where
   pub count : length after ≡ length before
   pub done : (k : ℕ) (cell : Cell) → k < n → slice_get after k ≡ Some cell → (was : Cell) × ((slice_get before k ≡ Some was) × Finishes was cell)
   pub rest : (k : ℕ) → n ≤ k → slice_get after k ≡ slice_get before k
-
-pub finished_none : (cells : List Cell) → AreFinishedTo 0 cells cells
-finished_none cells = record { count = refl; done = λ k cell below is. absurd (omega (arith, below)); rest = λ k more. refl }
 
 pub finished_next : (n : ℕ) (before after : List Cell) (old new : Cell) → slice_get after n ≡ Some old → AreFinishedTo n before after → Finishes old new
     → AreFinishedTo (n + 1) before (slice_set after n new)

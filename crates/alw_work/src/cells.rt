@@ -1,5 +1,4 @@
 ghost use Rattle.std.specs.Prelude.{◌≡◌, ◌<◌, ◌^◌, vec_len, IfOk, OnOk};
-ghost use Rattle.alw_image.specs.Images.{node_count};
 ghost use Rattle.alw_work.specs.Seats.{AreCells, CellsAreAlone, CellsAreSplit, Finishes, CellsAreFinished};
 
 use alw_cells::{CellParts, DidLists, Logs, NodeCell, Stepped, Worked};
@@ -9,26 +8,17 @@ use alw_num::{Draws, NoMemory, NodeNo};
 use std::alloc::Global;
 use std::sync::Arc;
 
-/// The number of nodes of an image.
-pub fn count_nodes(image: &Image) -> u16
-    ensures count { result ≡ node_count image.now }
-    ensures some { 0 < result }
-{
-    let parts = image.parts();
-    u16::from(parts.width) * u16::from(parts.height)
-}
-
 /// The cells of all nodes at the start of an image.
 pub fn start_all(alloc: Global, image: &Image, params: &Params) -> Result<Vec<NodeCell>, NoMemory>
     ensures cells { IfOk result (λ cells. AreCells image.now params.now cells.items) }
     ensures alone { IfOk result (λ cells. CellsAreAlone cells.items) }
 {
     let code = Arc::new(alloc, image.code().copy()?)?;
-    let count = count_nodes(image);
+    let count = image.nodes();
     let mut cells = Vec::with_capacity(alloc, usize::from(count))?;
     for n in 0..count {
         let cell = NodeCell::start_shared(alloc, image, params, NodeNo(n), &code)?;
-        let _stands = cell.log();
+        let _stands = cell.log(); // for its clause
         cells.push_reserved(cell);
     }
     Ok(cells)
@@ -71,7 +61,7 @@ fn finish(cell: &mut NodeCell, draws: &mut Draws) -> Result<(), NoMemory>
     ensures { OnOk result (Finishes cell.old cell.new) }
 {
     loop {
-        let _stands = cell.log();
+        let _stands = cell.log(); // for its clause
         match cell.step(draws.draw())? {
             Stepped::Did { .. } => {}
             Stepped::Idle => return Ok(()),

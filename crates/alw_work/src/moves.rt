@@ -97,7 +97,7 @@ fn fetch_one<R: Wait>(
     requires link { come.old.end.link ≡ link.now }
     ensures { Fetches from.0 cell.old cell.new come.old come.new }
 {
-    let _stands = cell.log();
+    let _stands = cell.log(); // for its clause
     let Some(msg) = come.receive(rt, link) else {
         return Ok(false);
     };

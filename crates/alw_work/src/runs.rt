@@ -5,7 +5,7 @@ ghost use Rattle.alw_cells.specs.Leaving.{LogsAreWorked};
 ghost use Rattle.alw_work.specs.Works.{AreSpent, WorkIsLeft};
 ghost use Rattle.alw_work.specs.Ties.{AreNewOuts, AreNewIns, LinksAreLaid};
 
-use crate::cells::{count_nodes, finish_all, split_all, start_all};
+use crate::cells::{finish_all, split_all, start_all};
 use crate::closing::{cells_of, close_all, gather};
 use crate::ends::{In, Out};
 use crate::gates::Gate;
@@ -37,7 +37,7 @@ pub fn run_workers<R: Threads + Wait + Sync, G: Gate>(
     ensures worked { IfOk result (λ worked. LogsAreWorked image.now params.now worked) }
     ensures spent { IfOk result (λ worked. AreSpent image.now params.now (logged worked.logs)) }
 {
-    let laid = lay_links(rt, alloc, count_nodes(image))?;
+    let laid = lay_links(rt, alloc, image.nodes())?;
     run_named::<Brand, R, G>(rt, alloc, image, params, laid, workers, gate)
 }
 
@@ -60,7 +60,7 @@ fn run_named<I: Naming + Counting + Send + Sync, R: Threads + Wait + Sync, G: Ga
 {
     let Laid { links, outs, ins } = laid;
     let locks = lock_each(alloc, start_seats::<I>(alloc, image, params, outs, ins)?)?;
-    work::<I, R, G>(rt, alloc, &locks, &links, count_nodes(image), workers, gate)?;
+    work::<I, R, G>(rt, alloc, &locks, &links, image.nodes(), workers, gate)?;
     take_over::<I, R>(rt, alloc, image, params, links, locks, workers)
 }
 
@@ -80,7 +80,7 @@ fn start_seats<I: Naming>(
     requires columns { length ins.items ≡ node_count image.now }
 {
     let code = Arc::new(alloc, image.code().copy()?)?;
-    let nodes = count_nodes(image);
+    let nodes = image.nodes();
     let mut seats = Vec::new(alloc);
     for n in 0..nodes {
         let number = NodeNo(n);
@@ -122,7 +122,7 @@ fn take_over<I: Naming, R: Wait>(
     requires all { length links.items ≡ node_count image.now * node_count image.now }
     ensures { IfOk result (λ worked. WorkIsLeft image.now params.now worked) }
 {
-    let nodes = count_nodes(image);
+    let nodes = image.nodes();
     let Some((mut lefts, trapped)) = gather(alloc, nodes, locks)? else {
         return run_apart(alloc, image, params, workers);
     };

@@ -164,7 +164,7 @@ impl<I: Naming> Locked<I> {
             trapped,
             of: _,
         } = self;
-        let _stands = cell.log();
+        let _stands = cell.log(); // for its clause
         (number, cell, trapped, outs, ins)
     }
 }
@@ -188,7 +188,7 @@ fn step(cell: &mut NodeCell, trapped: &mut bool, pick: u32) -> Result<bool, NoMe
     ensures marked { TrapIsMarked trapped.old cell.old → TrapIsMarked trapped.new cell.new }
     ensures works { Works cell.old cell.new }
 {
-    let _stands = cell.log();
+    let _stands = cell.log(); // for its clause
     match cell.step(pick)? {
         Stepped::Did { did, .. } => {
             *trapped |= is_trap(did);

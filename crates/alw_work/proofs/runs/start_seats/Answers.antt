@@ -15,13 +15,13 @@ pub of-requires-clause-outs : goal.of-requires-clause-outs
 of-requires-clause-outs g c =
     let outs = c.loop-n.outs.items in
     let row = c.index_mut.result.now in
-    let below : c.from.result < length outs = omega (arith, c.from.ensures, c.loop-n-test.true, c.loop-n.invariant.rows, c.count_nodes-nodes.ensures.count) in
+    let below : c.from.result < length outs = omega (arith, c.from.ensures, c.loop-n-test.true, c.loop-n.invariant.rows, c.nodes-nodes.ensures.count) in
     let here = subst (λ k. slice_get outs k ≡ Some row) c.from.ensures (slice_get_read outs _ c.from.result row refl below c.index_mut.ensures.value) in
     let new = c.loop-n.invariant.outs c.loop-n.n row here in
     let all = outs_start g.I.Naming.links (node_count c.args.image.now) c.loop-n.n c.args.image.now c.args.params.now c.in_ok-cell.cell row.items
     c.in_ok-cell.ensures new in
-    let named = subst (λ k. AreTiedOuts g.I.Naming.links k c.loop-n.n c.in_ok-cell.cell row.items) (sym c.count_nodes-nodes.ensures.count) all in
-    subst (λ (v : Vec Out). AreTiedOuts g.I.Naming.links c.count_nodes-nodes.result c.loop-n.n c.in_ok-cell.cell v.items) (sym c.replace-row.ensures.value)
+    let named = subst (λ k. AreTiedOuts g.I.Naming.links k c.loop-n.n c.in_ok-cell.cell row.items) (sym c.nodes-nodes.ensures.count) all in
+    subst (λ (v : Vec Out). AreTiedOuts g.I.Naming.links c.nodes-nodes.result c.loop-n.n c.in_ok-cell.cell v.items) (sym c.replace-row.ensures.value)
     named
 
 pub of-requires-clause-ins : goal.of-requires-clause-ins
@@ -29,14 +29,14 @@ of-requires-clause-ins g c =
     let ins = c.loop-n.ins.items in
     let column = c.index_mut-in-loop-n.result.now in
     let below : c.from-in-loop-n.result < length ins = omega
-    (arith, c.from-in-loop-n.ensures, c.loop-n-test.true, c.loop-n.invariant.columns, c.count_nodes-nodes.ensures.count) in
+    (arith, c.from-in-loop-n.ensures, c.loop-n-test.true, c.loop-n.invariant.columns, c.nodes-nodes.ensures.count) in
     let here = subst (λ k. slice_get ins k ≡ Some column) c.from-in-loop-n.ensures
     (slice_get_read ins _ c.from-in-loop-n.result column refl below c.index_mut-in-loop-n.ensures.value) in
     let new = c.loop-n.invariant.ins c.loop-n.n column here in
     let all = ins_start g.I.Naming.links (node_count c.args.image.now) c.loop-n.n c.args.image.now c.args.params.now c.in_ok-cell.cell column.items
     c.in_ok-cell.ensures new in
-    let named = subst (λ k. AreTiedIns g.I.Naming.links k c.loop-n.n c.in_ok-cell.cell column.items) (sym c.count_nodes-nodes.ensures.count) all in
-    subst (λ (v : Vec In). AreTiedIns g.I.Naming.links c.count_nodes-nodes.result c.loop-n.n c.in_ok-cell.cell v.items) (sym c.replace-column.ensures.value)
+    let named = subst (λ k. AreTiedIns g.I.Naming.links k c.loop-n.n c.in_ok-cell.cell column.items) (sym c.nodes-nodes.ensures.count) all in
+    subst (λ (v : Vec In). AreTiedIns g.I.Naming.links c.nodes-nodes.result c.loop-n.n c.in_ok-cell.cell v.items) (sym c.replace-column.ensures.value)
     named
 
 pub loop-n-preserved : goal.loop-n-preserved

@@ -11,7 +11,7 @@ use Rattle.alw_work.proofs.runs.take_over.Goals as goal
 pub close_all-requires-clause-tied : goal.close_all-requires-clause-tied
 close_all-requires-clause-tied g c =
     let tied = rw c.in-Some.is at c.in_ok-lefts.ensures.tied in
-    let count : c.count_nodes-nodes.result ≡ node_count g.I.Naming.image = c.count_nodes-nodes.ensures.count ∙ ap node_count c.requires.image in
+    let count : c.nodes-nodes.result ≡ node_count g.I.Naming.image = c.nodes-nodes.ensures.count ∙ ap node_count c.requires.image in
     subst (λ (y : List LinkName × ℕ). EndsAreTied y.0 y.1 c.in-Some.lefts.items) (λ i. (sym c.requires.links i, sym count i)) tied
 
 pub close_all-requires-clause-plain : goal.close_all-requires-clause-plain
@@ -22,9 +22,9 @@ returns-then-trapped g c =
     let image = g.I.Naming.image in
     let parameters = g.I.Naming.parameters in
     let cells = c.in_ok-cells.cells.items in
-    let over = taken image parameters c.count_nodes-nodes.result (cells_in c.in-Some.lefts.items) (cells_in c.close_all.new.lefts.items) cells
+    let over = taken image parameters c.nodes-nodes.result (cells_in c.in-Some.lefts.items) (cells_in c.close_all.new.lefts.items) cells
     c.in-Some.trapped
-    (rw c.in-Some.is at c.in_ok-lefts.ensures.cells) (c.count_nodes-nodes.ensures.count ∙ ap node_count c.requires.image) c.close_all.ensures.cells
+    (rw c.in-Some.is at c.in_ok-lefts.ensures.cells) (c.nodes-nodes.ensures.count ∙ ap node_count c.requires.image) c.close_all.ensures.cells
     (c.close_all.ensures.agree c.if-not-close_all.false) c.in_ok-cells.ensures in
     rw (c.requires.image, c.requires.parameters)
     (IfOk-weaker c.split_all.result _ _ (λ worked are. left_at_trap image parameters cells c.in-Some.trapped over worked c.if-trapped.true are)
@@ -35,9 +35,9 @@ returns g c =
     let image = g.I.Naming.image in
     let parameters = g.I.Naming.parameters in
     let cells = c.in_ok-cells.cells.items in
-    let over = taken image parameters c.count_nodes-nodes.result (cells_in c.in-Some.lefts.items) (cells_in c.close_all.new.lefts.items) cells
+    let over = taken image parameters c.nodes-nodes.result (cells_in c.in-Some.lefts.items) (cells_in c.close_all.new.lefts.items) cells
     c.in-Some.trapped
-    (rw c.in-Some.is at c.in_ok-lefts.ensures.cells) (c.count_nodes-nodes.ensures.count ∙ ap node_count c.requires.image) c.close_all.ensures.cells
+    (rw c.in-Some.is at c.in_ok-lefts.ensures.cells) (c.nodes-nodes.ensures.count ∙ ap node_count c.requires.image) c.close_all.ensures.cells
     (c.close_all.ensures.agree c.if-not-close_all.false) c.in_ok-cells.ensures in
     rw (c.requires.image, c.requires.parameters)
     (IfOk-weaker c.split_all-2.result _ _
