@@ -6,4 +6,3 @@ mod places;
 
 pub use caches::Cache;
 pub use places::Evicted;
-

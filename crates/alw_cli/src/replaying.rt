@@ -9,10 +9,10 @@ use crate::answers::{Cause, Done, InputErr};
 use crate::runs::{Run, told, write_run};
 use alw_config::Form;
 use alw_io::Sink;
-use alw_replay::{Replayed, replay};
 use alw_mesh::{FitErr, Machine};
 use alw_model::Ended;
 use alw_num::NoMemory;
+use alw_replay::{Replayed, replay};
 use alw_trace::{TextErr, Trace, read_trace};
 use std::alloc::Global;
 

@@ -9,4 +9,3 @@ mod words;
 
 pub use commands::{AsmForm, Command, Form, How, WordErr};
 pub use words::command;
-

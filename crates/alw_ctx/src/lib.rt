@@ -7,4 +7,3 @@ mod starts;
 
 pub use alw_msg::Status;
 pub use contexts::Contexts;
-

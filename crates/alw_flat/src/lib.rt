@@ -6,4 +6,3 @@ mod memory;
 
 pub use machines::Flat;
 pub use memory::Memory;
-

@@ -5,4 +5,3 @@ mod operations;
 mod workloads;
 
 pub use workloads::{most_operations, workload};
-

@@ -6,4 +6,3 @@ mod reactions;
 
 pub use deliveries::{Acted, deliver};
 pub use reactions::react;
-

@@ -21,4 +21,3 @@ pub use parameters::{MOST_LIMIT, MOST_POINTERS, Params, SET_COUNTS};
 pub use parts::{Bodies, Code, LineList, Parts, Starts};
 pub use reading::read_image;
 pub use writing::write_image;
-

@@ -6,4 +6,3 @@ mod views;
 
 pub use memories::Memory;
 pub use views::HomeView;
-

@@ -12,4 +12,3 @@ pub use events::{Entry, Event, Journal, Prints, Words};
 pub use messages::{Kind, Msg, MsgList};
 pub use sends::Sends;
 pub use turns::{Stretches, Turns, stretches, stretches_are_longest};
-

@@ -23,4 +23,3 @@ pub use place_counts::PlaceCounts;
 pub use roomy::Roomy;
 pub use sequences::Sequence;
 pub use states::{Meta, Mode, State};
-

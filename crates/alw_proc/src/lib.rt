@@ -8,4 +8,3 @@ mod processors;
 mod shared;
 
 pub use processors::Proc;
-

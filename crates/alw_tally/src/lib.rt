@@ -11,4 +11,3 @@ pub use happenings::Happened;
 pub use laws::{remains_by_event, told_event_by_event};
 pub use remains::Remains;
 pub use tallies::Tally;
-

@@ -10,4 +10,3 @@ pub use lines::{Span, line_at};
 pub use numbers::{decimal, digits, hex_value, hex32};
 pub use pieces::{put_nodes, put_number};
 pub use texts::{Spell, Text, digit_of};
-

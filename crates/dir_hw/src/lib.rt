@@ -6,4 +6,3 @@ mod pointers;
 
 pub use entries::HomeEntry;
 pub use pointers::{MOST_POINTERS, Pointers};
-

@@ -42,9 +42,14 @@ pub fn need(code: &[u32], regs: &Regs, lines: u32) -> Need
     ensures { result ≡ need_of code.now regs.now lines }
 {
     match fetch(code, regs.pc) {
-        Ok(Instr::Memory {
-            op3, rs1, operand, ..
-        }) => need_at(op3, address(rs1, operand, regs), lines),
+        Ok(
+            Instr::Memory {
+                op3,
+                rs1,
+                operand,
+                ..
+            },
+        ) => need_at(op3, address(rs1, operand, regs), lines),
         Ok(_) => Need::Nothing,
         Err(tt) => Need::Trap { tt },
     }
@@ -67,7 +72,11 @@ fn need_at(op3: u8, address: u32, lines: u32) -> Need
 fn mode_for(op3: u8) -> Mode
     ensures { result ≡ mode_of op3 }
 {
-    if is_load(op3) { Mode::Read } else { Mode::Write }
+    if is_load(op3) {
+        Mode::Read
+    } else {
+        Mode::Write
+    }
 }
 
 // The instruction at an address, or the type of the trap that fetching it gives.

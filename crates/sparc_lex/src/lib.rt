@@ -7,4 +7,3 @@ mod kinds;
 
 pub use cut::{line_tokens, tokens};
 pub use kinds::{LexErr, Token, TokenKind, Tokens};
-

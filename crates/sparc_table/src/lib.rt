@@ -12,4 +12,3 @@ pub use laws::{one_table, orderly_effects, orderly_turns};
 pub use outcomes::{Need, Outcome};
 pub use registers::Regs;
 pub use words::{decode, encode};
-
