@@ -95,10 +95,3 @@ has_words seed width height size mesh = record {
   code = code_words (4 * (width * height)) size (width * height) seed (omega (arith, some_nodes width height mesh.width.0 mesh.height.0)) (omega (arith, few_nodes width height mesh.width.1 mesh.height.1));
   bodies = tt;
 }
-
-pub some_lines : (width height size : ℕ) → IsMesh (width, height) size → (1 ≤ width * height) × (width * height ≤ 256) × (size ≤ 255)
-some_lines width height size mesh = (some_nodes width height mesh.width.0 mesh.height.0, few_nodes width height mesh.width.1 mesh.height.1, few (nat_le width 8 && nat_le height 8) mesh.operations.1)
-  where
-    few : (b : Bool) → size ≤ (if b then 255 else 63) → size ≤ 255
-    few true l = l
-    few false l = omega arith

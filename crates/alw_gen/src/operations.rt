@@ -3,7 +3,7 @@ ghost use Rattle.sparc_table.specs.declared.instructions.Operand.TheVariants.{Re
 ghost use Rattle.sparc_table.specs.declared.instructions.Instr.TheVariants.{Arith, TrapOn, Memory};
 ghost use Rattle.alw_gen.specs.Workloads.{address_drawn, access, operation, ending};
 
-use alw_num::SHARED_BASE;
+use alw_num::{LINE_BYTES, SHARED_BASE};
 use sparc_table::{Instr, Operand};
 
 const G0: u8 = 0;
@@ -24,7 +24,7 @@ pub fn operation(lines: u32, number: u32) -> [Instr; 4]
     requires few { lines ≤ 1024 }
     ensures { result ≡ operation lines number }
 {
-    let address = SHARED_BASE + 16 * (number % lines) + 4 * (number >> 26 & 3);
+    let address = SHARED_BASE + LINE_BYTES * (number % lines) + 4 * (number >> 26 & 3);
     let [first, second] = access(number >> 24 & 3);
     [
         Instr::Sethi {

@@ -8,7 +8,7 @@ ghost use Rattle.alw_gen.specs.Workloads.{block, block_length, blocks, start_of_
 
 use crate::operations::{ending, operation};
 use alw_image::{Bodies, Code, Image, LineList, Parts, Starts};
-use alw_num::{Draws, NoMemory, NodeNo};
+use alw_num::{Draws, MOST_NODES, NoMemory, NodeNo};
 use sparc_asm::instr_word;
 use sparc_table::Instr;
 use std::alloc::Global;
@@ -67,7 +67,7 @@ fn parts_of(alloc: Global, seed: u64, width: u8, height: u8, size: u32) -> Resul
 // The code of so many nodes.
 fn code_of(alloc: Global, seed: u64, nodes: u32, size: u32) -> Result<Code, NoMemory>
     requires some { 1 ≤ nodes }
-    requires few { nodes ≤ 256 }
+    requires few { nodes ≤ MOST_NODES }
     requires size { size ≤ 255 }
     requires room { length (blocks (4 * nodes) size nodes seed) ≤ 65536 }
     ensures { IfOk result (λ code. code ≡ map instr_word (blocks (4 * nodes) size nodes seed)) }
@@ -109,7 +109,7 @@ fn put(code: &mut Code, instructions: &[Instr]) -> Result<(), NoMemory>
 
 // The starts of so many nodes, each at its own block.
 fn starts_of(alloc: Global, nodes: u32, size: u32) -> Result<Starts, NoMemory>
-    requires nodes { nodes ≤ 256 }
+    requires nodes { nodes ≤ MOST_NODES }
     requires size { size ≤ 255 }
     ensures { IfOk result (λ starts. starts ≡ map (start_of_node size) (range_with_len 0 nodes)) }
 {

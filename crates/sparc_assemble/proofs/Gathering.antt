@@ -12,9 +12,6 @@ gathered_more found n = rw add-one
 pub with_more : {A : Type 0} (found : ℕ → List A) (n : ℕ) (old new : List A) → old ≡ gathered found n → new ≡ old ++ found n → new ≡ gathered found (n + 1)
 with_more found n old new before next = next ∙ ap (λ xs. xs ++ found n) before ∙ sym (gathered_more found n)
 
-pub with_none : {A : Type 0} (found : ℕ → List A) (n : ℕ) (old : List A) → old ≡ gathered found n → found n ≡ [] → old ≡ gathered found (n + 1)
-with_none found n old before none = with_more found n old old before (sym (append-nil old) ∙ ap (λ xs. old ++ xs) (sym none))
-
 -- the same behind others
 pub more_behind : {A : Type 0} (found : ℕ → List A) (n : ℕ) (first old new : List A) → old ≡ first ++ gathered found n → new ≡ old ++ found n → new ≡ first ++ gathered found (n + 1)
 more_behind found n first old new before next = next ∙ ap (λ xs. xs ++ found n) before ∙ append_assoc first (gathered found n) (found n) ∙ ap (λ xs. first ++ xs) (sym (gathered_more found n))

@@ -19,9 +19,6 @@ spelled_size Byte value = refl
 spelled_size Half value = refl
 spelled_size Word value = refl
 
-pub spelled_byte : (value : ℕ) → spelled_as Byte (value % 256) ≡ spelled_as Byte value
-spelled_byte value = let e : value % 256 % 256 ≡ value % 256 = omega arith in rw e
-
 flat_map-append : (f : ℕ → List ℕ) (xs ys : List ℕ) → flat_map f (xs ++ ys) ≡ flat_map f xs ++ flat_map f ys
 flat_map-append f [] ys = refl
 flat_map-append f (x ∷ xs) ys = ap (λ rest. f x ++ rest) (flat_map-append f xs ys) ∙ sym (append_assoc (f x) (flat_map f xs) (flat_map f ys))

@@ -1,5 +1,5 @@
 -- Tables of addresses and bytes.
-use Rattle.std.proofs.Common.{◌≡◌, true, false, Bool, ℕ, zero, suc, ◌+◌, ◌-◌, ◌*◌, ◌<◌, ◌==◌, ◌&&◌, if◌then◌else◌, nat_lt, nat_le, List, [], ◌∷◌, ◌++◌, length, slice_index, slice_index_or, slice_set, Option, Some, None, refl, arith}
+use Rattle.std.proofs.Common.{◌≡◌, true, false, Bool, ℕ, zero, suc, ◌+◌, ◌-◌, ◌*◌, ◌<◌, ◌==◌, ◌&&◌, if◌then◌else◌, nat_lt, nat_le, List, [], ◌∷◌, ◌++◌, length, slice_index, slice_index_or, Option, Some, None, refl, arith}
 use Rattle.std.specs.Prelude.{replicate}
 use Rattle.std.proofs.lemmas.Bool.Decides.{nat_tests}
 use Rattle.std.proofs.lemmas.Grind.{common_steps}
@@ -40,12 +40,6 @@ more_addresses old new node slot address n s small few set = grind (arith, nat_t
 -- the first bytes, of so many
 abbrev pub written_upto : ℕ → ℕ → List ℕ → (ℕ → ℕ) → ℕ → ℕ
 written_upto from count bytes memory place = if nat_le from place && nat_lt place (from + count) then slice_index bytes (place - from) else memory place
-
-pub none_written : (from place : ℕ) (bytes : List ℕ) (memory : ℕ → ℕ) → memory place ≡ written_upto from 0 bytes memory place
-none_written from place bytes memory = grind (arith, nat_tests)
-
-pub one_written : (items : List ℕ) (from i place : ℕ) (bytes : List ℕ) (memory : ℕ → ℕ) → i < length bytes → from + i < length items → slice_index items place ≡ written_upto from i bytes memory place → slice_index (slice_set items (from + i) (slice_index bytes i)) place ≡ written_upto from (i + 1) bytes memory place
-one_written items from i place bytes memory l room before = grind (arith, nat_tests, common_steps)
 
 -- bytes behind bytes
 pub written_behind : (a b c : ℕ → ℕ) (from place : ℕ) (xs ys : List ℕ) → b place ≡ written_over from xs a place → c place ≡ written_over (from + length xs) ys b place → c place ≡ written_over from (xs ++ ys) a place

@@ -7,7 +7,6 @@ use Rattle.sparc_asm.specs.declared.statements.Line.{Line}
 use Rattle.sparc_asm.specs.Sources.{read_source, AnswersLines}
 use Rattle.sparc_place.specs.declared.cursors.Place.{Place}
 use Rattle.sparc_place.specs.Places.{Layout, nothing_laid, places, places_of}
-use Rattle.sparc_place.specs.Plans.{AnswersPlaces}
 use Rattle.sparc_assemble.specs.declared.assembling.Assembled.{Assembled}
 use Rattle.sparc_assemble.specs.Assembly.{Filled, nothing_filled, values_fault, all_filled, parts_of, whole_of, after_values, after_places, after_lines, assembled, Answers}
 use Rattle.sparc_assemble.specs.Fillings.{FillsAll}
@@ -31,15 +30,6 @@ lines_err wanted (Unaligned n) h not = h
 lines_err wanted (Overlap n) h not = h
 lines_err wanted NoMemory h not = absurd (not refl)
 
-places_err : (wanted : Result Layout AsmErr) (ps : List Place) (e : AsmErr) → AnswersPlaces wanted ps (Err e) → e ≢ NoMemory → wanted ≡ Err e
-places_err wanted ps (Syntax n) h not = h
-places_err wanted ps (UnknownName n) h not = h
-places_err wanted ps (Redefined n) h not = h
-places_err wanted ps (Range n) h not = h
-places_err wanted ps (Unaligned n) h not = h
-places_err wanted ps (Overlap n) h not = h
-places_err wanted ps NoMemory h not = absurd (not refl)
-
 fills_err : (found : Option AsmErr) (wanted : Filled) (e : AsmErr) → FillsAll found wanted (Err e) → e ≢ NoMemory → found ≡ Some e
 fills_err found wanted (Syntax n) h not = h
 fills_err found wanted (UnknownName n) h not = h
@@ -58,15 +48,9 @@ behind_lines : (text : List ℕ) (lines : List Line) → read_source text ≡ Ok
 unfolding assembled
 behind_lines text lines is = ap after_lines is
 
-pub second_pass : (text : List ℕ) (lines : List Line) (e : AsmErr) → read_source text ≡ Ok lines → AnswersPlaces (places 1 nothing_laid lines) (places_of nothing_laid lines) (Err e) → Answers (assembled text) (Err e)
-second_pass text lines e is h = answers_err (assembled text) e (λ not. behind_lines text lines is ∙ ap (after_places (places_of nothing_laid lines) lines) (places_err (places 1 nothing_laid lines) (places_of nothing_laid lines) e h not))
-
 -- what is left behind the second pass, by what it has laid down
 behind_places : (text : List ℕ) (lines : List Line) (l : Layout) (ps : List Place) → read_source text ≡ Ok lines → places 1 nothing_laid lines ≡ Ok l → ps ≡ places_of nothing_laid lines → assembled text ≡ after_values (values_fault l.names l.code 1 ps lines) (whole_of l (all_filled l.names 1 ps lines nothing_filled))
 behind_places text lines l ps is laid placed = behind_lines text lines is ∙ ap (after_places (places_of nothing_laid lines) lines) laid ∙ ap (λ qs. after_values (values_fault l.names l.code 1 qs lines) (whole_of l (all_filled l.names 1 qs lines nothing_filled))) (sym placed)
-
-pub third_pass : (text : List ℕ) (lines : List Line) (l : Layout) (ps : List Place) (e : AsmErr) → read_source text ≡ Ok lines → places 1 nothing_laid lines ≡ Ok l → ps ≡ places_of nothing_laid lines → FillsAll (values_fault l.names l.code 1 ps lines) (all_filled l.names 1 ps lines nothing_filled) (Err e) → Answers (assembled text) (Err e)
-third_pass text lines l ps e is laid placed h = answers_err (assembled text) e (λ not. behind_places text lines l ps is laid placed ∙ ap (λ fault. after_values fault (whole_of l (all_filled l.names 1 ps lines nothing_filled))) (fills_err (values_fault l.names l.code 1 ps lines) (all_filled l.names 1 ps lines nothing_filled) e h not))
 
 -- what is left behind the third pass
 behind_values : (text : List ℕ) (lines : List Line) (l : Layout) (ps : List Place) (f : Filled) → read_source text ≡ Ok lines → places 1 nothing_laid lines ≡ Ok l → ps ≡ places_of nothing_laid lines → values_fault l.names l.code 1 ps lines ≡ None → f ≡ all_filled l.names 1 ps lines nothing_filled → assembled text ≡ whole_of l f

@@ -8,7 +8,7 @@ use crate::addresses::Addresses;
 use crate::fillings::Filling;
 use crate::memory::Memory;
 use alw_image::{Bodies, Code, LineList, Parts, Starts};
-use alw_num::{Line, LineNo, NoMemory, NodeNo, Sequence};
+use alw_num::{LINE_BYTES, Line, LineNo, MOST_NODES, NoMemory, NodeNo, Sequence};
 use sparc_place::Plan;
 use std::alloc::Global;
 
@@ -29,7 +29,7 @@ fn word_from(memory: &Memory, place: usize) -> u32
 fn body_at(memory: &Memory, number: u32) -> Line
     ensures { result ≡ body_at (slice_index memory.now) number }
 {
-    let from = 16 * number as usize;
+    let from = LINE_BYTES as usize * number as usize;
     Line {
         a: word_from(memory, from),
         b: word_from(memory, from + 4),
@@ -115,7 +115,7 @@ fn starts_of(
     nodes: u32,
     slots: u32,
 ) -> Result<Starts, NoMemory>
-    requires nodes { nodes ≤ 256 }
+    requires nodes { nodes ≤ MOST_NODES }
     requires slots { slots ≤ 4 }
     ensures { IfOk result (λ starts. starts ≡ starts_of (address_if given addresses.now) nodes slots) }
 {
@@ -133,7 +133,7 @@ fn some_starts(
     nodes: u32,
     slots: u32,
 ) -> Result<Starts, NoMemory>
-    requires nodes { nodes ≤ 256 }
+    requires nodes { nodes ≤ MOST_NODES }
     requires slots { slots ≤ 4 }
     ensures { IfOk result (λ starts. starts ≡ some_starts (starts_of (address_in addresses.now) nodes slots) nodes slots) }
 {
