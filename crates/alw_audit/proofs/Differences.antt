@@ -1,15 +1,14 @@
 -- A claim has no difference exactly where it is sound.
-use Rattle.std.proofs.Common.{◌≡◌, ℕ, zero, suc, ◌+◌, ◌-◌, ◌*◌, ◌/◌, ◌%◌, ◌<◌, ◌≤◌, ◌==◌, ◌&&◌, ◌↔◌, Bool, true, false, IsTrue, if◌then◌else◌, List, [], ◌∷◌, length, refl, sym, ap, subst, ◌∙◌, arith}
+use Rattle.std.proofs.Common.{◌≡◌, ℕ, zero, suc, ◌+◌, ◌-◌, ◌*◌, ◌/◌, ◌%◌, ◌<◌, ◌≤◌, ◌==◌, ◌&&◌, ◌↔◌, Bool, true, false, if◌then◌else◌, List, [], ◌∷◌, length, refl, sym, ap, subst, ◌∙◌, arith}
 use Rattle.std.proofs.lemmas.Bool.{eqb-true, true≢false}
 use Rattle.std.proofs.lemmas.Bool.Decides.{nat_tests}
 use Rattle.alw_num.specs.declared.addresses.TheConstants.{SHARED_BASE}
 use Rattle.alw_msg.specs.Statuses.{is_ready}
 use Rattle.alw_image.specs.declared.parts.Parts.{Parts}
 use Rattle.alw_image.specs.Images.{line_count}
-use Rattle.alw_model.specs.Flat.{Flat, context_at, flat_start, flat_turn, turns_after, turns_print, turns_ready, flat_after, flat_prints, are_ready, AreReady}
+use Rattle.alw_model.specs.Flat.{Flat, context_at, flat_start, flat_turn, turns_ready, flat_after, flat_prints, are_ready}
 use Rattle.alw_flat.specs.Machines.{IsSharedWord, word_of}
 use Rattle.alw_trace.specs.declared.values.Claim.{Claim}
-use Rattle.alw_audit.specs.declared.verdicts.Place.{Place}
 use Rattle.alw_audit.specs.declared.verdicts.Place.TheVariants.{Turn, PrintCount, PrintContext, Print, Memory}
 use Rattle.alw_audit.specs.declared.verdicts.Verdict.{Verdict}
 use Rattle.alw_audit.specs.declared.verdicts.Verdict.TheVariants.{Sound, Differs}
@@ -92,9 +91,6 @@ word_first memory flat addr count same = by_test (claimed_word memory addr == wo
     by_test : (b : Bool) → b ≡ true → (if b then words_verdict memory flat (addr + 4) count else Differs (Memory addr) (claimed_word memory addr) (word_of flat addr)) ≡ words_verdict memory flat (addr + 4) count
     by_test true e = refl
     by_test false e = absurd (true≢false (sym e))
-
-pub word_differs : (memory : List (ℕ × ℕ)) (flat : Flat) (addr count : ℕ) → (claimed_word memory addr == word_of flat addr) ≡ false → words_verdict memory flat addr (suc count) ≡ Differs (Memory addr) (claimed_word memory addr) (word_of flat addr)
-word_differs memory flat addr count differs = rw differs refl
 
 word_same : (memory : List (ℕ × ℕ)) (flat : Flat) (addr count : ℕ) → words_verdict memory flat addr (suc count) ≡ Sound → claimed_word memory addr ≡ word_of flat addr
 word_same memory flat addr count e = by_test (claimed_word memory addr == word_of flat addr) refl e

@@ -21,7 +21,7 @@ use Rattle.alw_model.specs.Runs.{turns_of}
 use Rattle.alw_flat.specs.Machines.{IsSharedWord, word_of}
 use Rattle.alw_audit.specs.Claims.{claim_of}
 use Rattle.alw_audit.specs.Verdicts.{WordsAreFrom, ClaimIsSound, claimed_word}
-use Rattle.alw_audit.proofs.Walks.{none_below, lower, first_word}
+use Rattle.alw_audit.proofs.Walks.{none_below, lower}
 
 -- ---- words that are 0 needn't be listed
 

@@ -1,5 +1,5 @@
 -- The turns that are taken, and those that are left, are all.
-use Rattle.std.proofs.Common.{◌≡◌, ℕ, ◌+◌, ◌<◌, ◌≤◌, ◌++◌, Bool, true, false, if◌then◌else◌, List, [], ◌∷◌, length, refl, sym, ap, ◌∙◌, arith, append_assoc}
+use Rattle.std.proofs.Common.{◌≡◌, ℕ, ◌+◌, ◌<◌, ◌≤◌, ◌++◌, Bool, true, if◌then◌else◌, List, [], ◌∷◌, refl, sym, ap, ◌∙◌, append_assoc}
 use Rattle.sparc_table.specs.Turns.{need_of}
 use Rattle.sparc_table.specs.declared.outcomes.Need.{Need}
 use Rattle.sparc_table.specs.declared.outcomes.Need.TheVariants as needs
@@ -7,11 +7,11 @@ use Rattle.sparc_table.specs.declared.outcomes.Outcome.{Outcome}
 use Rattle.alw_msg.specs.Statuses.{is_ready}
 use Rattle.alw_image.specs.declared.parts.Parts.{Parts}
 use Rattle.alw_image.specs.Images.{line_count}
-use Rattle.alw_model.specs.Flat.{Flat, context_at, flat_start, flat_turn, flat_turn_by, print_of, turns_after, turns_print, flat_after, flat_prints}
+use Rattle.alw_model.specs.Flat.{Flat, context_at, flat_turn, flat_turn_by, print_of, turns_after, turns_print}
 use Rattle.alw_flat.specs.Machines.{for_turns}
 use Rattle.alw_audit.specs.declared.verdicts.Place.TheVariants.{Turn}
 use Rattle.alw_audit.specs.declared.verdicts.Verdict.{Verdict}
-use Rattle.alw_audit.specs.declared.verdicts.Verdict.TheVariants.{Sound, Differs}
+use Rattle.alw_audit.specs.declared.verdicts.Verdict.TheVariants.{Differs}
 use Rattle.alw_audit.specs.Verdicts.{stop_number, turns_verdict}
 
 -- what the turns that are left say, behind those that are taken, is what all say
@@ -22,9 +22,6 @@ pub record IsUnderWay (parts : Parts) (first now : Flat) (turns left : List ℕ)
 
 pub turn_ready : (parts : Parts) (now : Flat) (k context : ℕ) (rest : List ℕ) → is_ready (context_at now context).status ≡ true → turns_verdict parts now k (context ∷ rest) ≡ turns_verdict parts (flat_turn parts now context).0 (k + 1) rest
 turn_ready parts now k context rest ready = ap (λ (b : Bool). if b then turns_verdict parts (flat_turn parts now context).0 (k + 1) rest else Differs (Turn k) context (stop_number (context_at now context).status)) ready
-
-pub turn_stopped : (parts : Parts) (now : Flat) (k context : ℕ) (rest : List ℕ) → is_ready (context_at now context).status ≡ false → turns_verdict parts now k (context ∷ rest) ≡ Differs (Turn k) context (stop_number (context_at now context).status)
-turn_stopped parts now k context rest stopped = ap (λ (b : Bool). if b then turns_verdict parts (flat_turn parts now context).0 (k + 1) rest else Differs (Turn k) context (stop_number (context_at now context).status)) stopped
 
 pub goes_on : (parts : Parts) (first now next : Flat) (turns left rest : List ℕ) (k context : ℕ) (outcome : Outcome) (printed prints more : List (ℕ × ℕ)) → left ≡ context ∷ rest → is_ready (context_at now context).status ≡ true → next ≡ (flat_turn parts now context).0 → outcome ≡ (flat_turn parts now context).1
     → more ≡ prints ++ print_of context outcome → IsUnderWay parts first now turns left k printed prints → IsUnderWay parts first next turns rest (k + 1) printed more

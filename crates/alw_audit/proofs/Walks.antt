@@ -1,5 +1,5 @@
 -- A walk over a list of words by address.
-use Rattle.std.proofs.Common.{◌≡◌, ℕ, zero, suc, ◌+◌, ◌-◌, ◌*◌, ◌%◌, ◌<◌, ◌≤◌, ◌≢◌, ◌==◌, Bool, true, false, if◌then◌else◌, List, [], ◌∷◌, length, map, slice_index, refl, sym, ap, subst, ◌∙◌, arith}
+use Rattle.std.proofs.Common.{◌≡◌, ℕ, suc, ◌+◌, ◌-◌, ◌*◌, ◌%◌, ◌<◌, ◌≤◌, ◌≢◌, ◌==◌, Bool, false, if◌then◌else◌, List, [], ◌∷◌, map, slice_index, refl, sym, ap, subst, ◌∙◌, arith}
 use Rattle.std.specs.Prelude.{⊤}
 use Rattle.std.proofs.lemmas.Bool.Decides.{nat_tests}
 use Rattle.std.specs.List.{AllByRecursion}
@@ -20,14 +20,7 @@ pub lower : (low next : ℕ) (words : List (ℕ × ℕ)) → low ≤ next → Wo
 lower low next [] l from = tt
 lower low next (word ∷ rest) l from = (omega (arith, from.0), from.1, from.2)
 
--- a word at the first address is listed first
-pub first_word : (addr : ℕ) (word : ℕ × ℕ) (rest : List (ℕ × ℕ)) → word.0 ≡ addr → claimed_word (word ∷ rest) addr ≡ word.1
-first_word addr word rest same = ap (λ (b : Bool). if b then word.1 else claimed_word rest addr) (let e : (word.0 == addr) ≡ true = grind (arith, nat_tests) in e)
-
-pub later_word : (addr later : ℕ) (word : ℕ × ℕ) (rest : List (ℕ × ℕ)) → word.0 ≡ addr → addr < later → claimed_word rest later ≡ claimed_word (word ∷ rest) later
-later_word addr later word rest same l = sym (ap (λ (b : Bool). if b then word.1 else claimed_word rest later) (let e : (word.0 == later) ≡ false = grind (arith, nat_tests) in e))
-
--- and else all are listed behind it
+-- where the first word has another address, all are listed behind it
 pub all_behind : (addr : ℕ) (word : ℕ × ℕ) (rest : List (ℕ × ℕ)) → addr % 4 ≡ 0 → word.0 ≢ addr → WordsAreFrom addr (word ∷ rest) → WordsAreFrom (addr + 4) (word ∷ rest)
 all_behind addr word rest aligned other from = (omega (arith, from.0, from.1, other), from.1, from.2)
 

@@ -1,6 +1,6 @@
 ghost use Rattle.std.specs.Prelude.{◌≡◌, ◌<◌, ◌≤◌, ◌^◌, ◌-◌, ◌+◌, ◌++◌, ◌↔◌, length, IfOk, OnOk};
 ghost use Rattle.std.specs.List.{AllByRecursion};
-ghost use Rattle.alw_image.specs.Images.{IsImage, context_count, line_count};
+ghost use Rattle.alw_image.specs.Images.{context_count};
 ghost use Rattle.alw_msg.specs.Statuses.{is_ready};
 ghost use Rattle.alw_model.specs.Flat.{print_of, turns_after, turns_print};
 ghost use Rattle.alw_audit.specs.declared.verdicts.Verdict.TheVariants.{Sound};
@@ -10,7 +10,6 @@ use crate::memory::words_verdict;
 use crate::prints::prints_verdict;
 use crate::verdicts::{Place, Verdict};
 use alw_flat::Flat;
-use alw_image::Parts;
 use alw_msg::{Prints, Status};
 use alw_num::NoMemory;
 use alw_trace::Claim;
@@ -49,17 +48,8 @@ fn first_difference(alloc: Global, claim: &Claim) -> Result<Verdict, NoMemory>
         Verdict::Sound => {}
         Verdict::Differs { .. } => return Ok(printed),
     }
-    let lines = line_count(claim.image.parts());
+    let lines = claim.image.lines();
     Ok(words_verdict(&flat, lines, claim.memory.members()))
-}
-
-// The number of lines of shared data.
-fn line_count(parts: &Parts) -> u32
-    requires { IsImage parts.now }
-    ensures count { result ≡ line_count parts.now }
-    ensures few { result ≤ 2 ^ 20 }
-{
-    u32::from(parts.width) * u32::from(parts.height) * u32::from(parts.per_node)
 }
 
 // Takes the turns, up to the first of a context that isn't Ready, and appends what they print.

@@ -4,12 +4,12 @@ ghost use Rattle.alw_audit.specs.Verdicts.{WordsAreFrom, AreWords, claimed_word,
 
 use crate::verdicts::{Place, Verdict};
 use alw_flat::Flat;
-use alw_num::SHARED_BASE;
+use alw_num::{MOST_LINES, SHARED_BASE};
 
 /// The first word of shared data, of so many lines, that differs.
 pub fn words_verdict(flat: &Flat, lines: u32, memory: &[(u32, u32)]) -> Verdict
     requires lines { lines ≡ line_count flat.now.parts }
-    requires few { lines ≤ 2 ^ 20 }
+    requires few { lines ≤ MOST_LINES }
     requires words { WordsAreFrom SHARED_BASE memory.now }
     ensures verdict { result ≡ words_verdict memory.now flat.now.flat SHARED_BASE (4 * lines) }
     ensures words { AreWords result }

@@ -16,4 +16,4 @@ words_verdict-requires-clause-words c = rw c.members-4.ensures (are_from c.args.
 pub returns-clause-verdict : goal.returns-clause-verdict
 returns-clause-verdict c = words_left c.args.claim.now c.in_ok-flat.flat c.run_turns.new.flat c.members.result.now c.in_ok-turns.turns c.prints_verdict-printed.result _ c.members-2.result.now c.members-3.result.now c.members-4.result.now _ c.in_ok-flat.ensures c.members.ensures c.in_ok-turns.ensures.verdict c.in-Sound.is
     c.members-2.ensures (rw c.members-3.ensures (prints_are c.args.claim.now c.in_ok-flat.flat c.members.result.now _ c.in_ok-flat.ensures c.members.ensures (c.in_ok-turns.ensures.prints c.in-Sound.is))) c.prints_verdict-printed.ensures.verdict c.in-Sound-printed.is
-    (c.in_ok-turns.ensures.state c.in-Sound.is) c.members-4.ensures (rw c.parts.ensures.parts at c.line_count-lines.ensures.count) c.words_verdict.ensures.verdict
+    (c.in_ok-turns.ensures.state c.in-Sound.is) c.members-4.ensures c.lines-lines.ensures.count c.words_verdict.ensures.verdict
