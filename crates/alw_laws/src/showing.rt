@@ -20,7 +20,7 @@ pub fn view(alloc: Global, machine: &Machine, line: LineNo) -> Result<LineView, 
     ensures shows { IfOk result (λ view. Shows machine.now.image machine.now.parameters (state_of machine.now) line.0 view) }
     ensures sound { IfOk result (λ view. MeetsInvariant MOST_NODES view) }
 {
-    let _run = machine.journal();
+    let _run = machine.journal(); // for its clause
     Ok(LineView {
         line,
         at: machine.home_of(line),
@@ -77,7 +77,7 @@ fn links(alloc: Global, machine: &Machine, line: LineNo) -> Result<LinkMsgs, NoM
     requires { line.0 < line_count machine.now.image }
     ensures { IfOk result (λ links. links ≡ by_node machine.now.image (λ from. by_node machine.now.image (link_of machine.now.image (state_of machine.now) line.0 from))) }
 {
-    let _run = machine.journal();
+    let _run = machine.journal(); // for its clause
     let at = machine.home_of(line);
     let mut links = LinkMsgs::empty(alloc);
     for n in 0..machine.nodes() {
