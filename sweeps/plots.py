@@ -38,10 +38,13 @@ plot $data using 1:4 with lines lc rgb '#777777' lw 1 dt 2, \\
      '' using 1:3:2:6:5 with candlesticks lc rgb '#000000' lw 1 dt solid fs solid 0.25 border whiskerbars 0.6, \\
      '' using 1:4:4:4:4 with candlesticks lc rgb '#000000' lw 3 dt solid
 '''
-LEGEND = "set key at screen 0.98,0.99 right top horizontal maxcols 2 samplen 3\n"
+NAMED = '''set arrow {at} from screen {left},{y} to screen {right},{y} nohead lc rgb '{colour}' lw 1.5 dt {dash}
+set label {at} '{title}' at screen {middle},{y} left offset 3,-0.25 point pt {point} ps 0.7 lc rgb '{colour}'
+'''
 PANEL_ROW, LEGEND_ROW, ABOVE, BELOW, BETWEEN = 280, 22, 16.8, 64.4, 81.2
+NAMES_A_ROW = 4
 DATA = '${name} << END\n{data}\nEND\n'
-LINE = "${name} using 1:4:3:5 with yerrorlines lc rgb '{colour}' lw 1.5 dt {dash} pt {point} ps 0.7 title '{title}'"
+LINE = "${name} using 1:4:3:5 with yerrorlines lc rgb '{colour}' lw 1.5 dt {dash} pt {point} ps 0.7"
 COLOURS, POINTS = ('#000000', '#777777'), (7, 6, 5, 4, 9, 8, 11, 10)
 
 
@@ -59,7 +62,8 @@ def logarithmic(column, top):
     def place(count):
         """The logarithm."""
         return math.log10(count + 1)
-    marks = [0, *(10 ** power for power in range(len(str(int(top)))))]
+    digits = len(str(int(top)))
+    marks = [0, *(10 ** power for power in range(digits > 5, digits))]
     return Axis(f'{column} a run (logarithmic)', place, -0.15, '(' + ', '.join(f"'{mark:,}' {place(mark):.4f}" for mark in marks) + ')')
 
 
@@ -85,9 +89,22 @@ def lines_of(axis, values, groups, column):
     for names, group in groups.items():
         series.setdefault(names[0], {})[names] = group
     data = ''.join(DATA.format(name=f'series{at}', data=data_of(axis, values, each, column)) for at, each in enumerate(series.values()))
-    drawn = (LINE.format(name=f'series{at}', colour=COLOURS[at % 2], dash=at // 2 + 1, point=POINTS[at % len(POINTS)], title=name)
-             for at, name in enumerate(series))
+    drawn = (LINE.format(name=f'series{at}', **style_of(at)) for at in range(len(series)))
     return data + 'plot ' + ', \\\n     '.join(drawn) + '\n'
+
+
+def style_of(at):
+    """How the line of a series is drawn, in black or grey, with dashes and a symbol."""
+    return {'colour': COLOURS[at % 2], 'dash': at // 2 + 1, 'point': POINTS[at % len(POINTS)]}
+
+
+def legend(names, height):
+    """The part of gnuplot's script that draws the names of the series above all panels."""
+    made = []
+    for at, name in enumerate(names):
+        left, y = 0.1 + 0.23 * (at % NAMES_A_ROW), 1 - LEGEND_ROW * (at // NAMES_A_ROW + 0.7) / height
+        made.append(NAMED.format(at=at + 1, left=left, middle=left + 0.02, right=left + 0.04, y=y, title=name, **style_of(at)))
+    return ''.join(made)
 
 
 def panel(groups, column, values):
@@ -125,13 +142,14 @@ def drawn(script):
 
 
 def plot(groups, by, columns):
-    """An SVG picture by gnuplot, a panel for each column, two in a row, and above them the names of the series, two in a row too."""
+    """An SVG picture by gnuplot, a panel for each column, two in a row, and above them the names of the series."""
     rows, has_series = (len(columns) + 1) // 2, len(next(iter(groups))) > 1
-    values = sorted({names[-1] for names in groups}, key=tables.place_of)
-    names = LEGEND_ROW * ((len({names[0] for names in groups}) + 1) // 2) if has_series else 0
-    height = PANEL_ROW * rows + names
-    head = HEAD.format(height=height, rows=rows, bottom=BELOW / height, top=1 - (ABOVE + names) / height, gap=BETWEEN / height, axis=AXES.get(by, by))
+    values = sorted({key[-1] for key in groups}, key=tables.place_of)
+    names = list(dict.fromkeys(key[0] for key in groups)) if has_series else []
+    above = LEGEND_ROW * -(-len(names) // NAMES_A_ROW)
+    height = PANEL_ROW * rows + above
+    head = HEAD.format(height=height, rows=rows, bottom=BELOW / height, top=1 - (ABOVE + above) / height, gap=BETWEEN / height, axis=AXES.get(by, by))
     panels = [panel(groups, column, values) for column in columns]
     if has_series:
-        return smaller(drawn(head + LEGEND + 'unset key\n'.join(panels) + 'unset multiplot\n'))
+        return smaller(drawn(head + legend(names, height) + 'unset label\nunset arrow\n'.join(panels) + 'unset multiplot\n'))
     return smaller(drawn(head + ''.join(panels) + 'unset multiplot\n'), SYMBOLS)
