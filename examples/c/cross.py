@@ -42,6 +42,8 @@ HINTS = (
      "of the C library's headers there are assert.h, limits.h and string.h, and the compiler's own: stdint.h, stdbool.h, stddef.h, stdatomic.h .."),
     (re.compile(r'undefined reference to `__(atomic|sync)_'),
      'atomics are the __atomic_ ones of 1, 2, 4 and 8 bytes, as C11 has them; alewife.h has exchange and test_and_set besides'),
+    (re.compile(r'undefined reference to `__\w*[sdt]f'), 'the machine has no floating point'),
+    (re.compile(r'unplaced orphan section `\.t(bss|data)'), 'there are no variables of a thread: take an array with an element for each own_context()'),
     (re.compile(r'undefined reference to `program'), 'one of the files has to have void program(uint32_t context, uint32_t contexts)'),
 )
 

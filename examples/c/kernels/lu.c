@@ -13,7 +13,7 @@ struct place {
 };
 
 LINE static block matrix[BLOCKS][BLOCKS];
-LINE static uint32_t image[COUNT];
+LINE static uint32_t product[COUNT];
 static struct barrier barrier;
 
 /* The place so many blocks on, row by row. */
@@ -123,9 +123,9 @@ static uint32_t upper_times(uint32_t row)
 
 static uint32_t lower_times(uint32_t row)
 {
-    uint32_t sum = image[row];
+    uint32_t sum = product[row];
     for (uint32_t k = 0; k < row; k++)
-        sum += *at(row, k) * image[k];
+        sum += *at(row, k) * product[k];
     return sum;
 }
 
@@ -154,11 +154,11 @@ void program(uint32_t context, uint32_t contexts)
             subtract(own, step);
     }
     for (uint32_t row = context; row < COUNT; row += contexts)
-        image[row] = upper_times(row);
+        product[row] = upper_times(row);
     wait_for_all(&barrier, contexts);
     for (uint32_t row = context; row < COUNT; row += contexts) {
         wrong += lower_times(row) != matrix_times(row);
-        sum += image[row] * (row + 1);
+        sum += product[row] * (row + 1);
     }
     wrong = sum_of_all(&barrier, contexts, wrong);
     sum = sum_of_all(&barrier, contexts, sum);
