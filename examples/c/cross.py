@@ -171,7 +171,8 @@ def compiled(build, file, number):
         assembly = file
     else:
         raise BuildError(f'{file} is neither C (.c) nor assembly (.s)')
-    called(['sparc64-linux-gnu-as', '-32', '-Av8', assembly, '-o', made])
+    lines = ['-gdwarf-5'] if assembly == file else []
+    called(['sparc64-linux-gnu-as', '-32', '-Av8', *lines, assembly, '-o', made])
     return made
 
 
