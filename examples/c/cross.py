@@ -10,7 +10,7 @@ import subprocess
 import sys
 import tempfile
 from collections import namedtuple
-from dataclasses import dataclass
+from dataclasses import dataclass, field
 from pathlib import Path
 
 HERE = Path(__file__).resolve().parent
@@ -27,14 +27,18 @@ MARK = 0x5354414b
 BELOW, ABOVE = 16, 96
 
 # Code without register windows, floating point and tables of jumps, since data can't be read from code, and with nothing in delay
-# slots, where the two instructions that take the place of one would have no room. What isn't used isn't linked. All atomics but those of
-# atomic_flag are calls of atomic.c, since a store that isn't behind its lock would be lost in an update. A function begins with its frame, where
-# the condition codes are nobody's, so that it can be compared with the stack's end.
+# slots, where the two instructions that take the place of one would have no room. What isn't used isn't linked. A function begins with its
+# frame, where the condition codes are nobody's, so that it can be compared with the stack's end.
 FLAGS = ['-m32', '-mcpu=v7', '-mflat', '-msoft-float', '-ffreestanding', '-std=c11', '-O2', '-gdwarf-5', '-Wall', '-Wextra',
-         '-Wno-unused-parameter', '-nostdinc', '-fno-inline-atomics', '-fcallgraph-info=su',
+         '-Wno-unused-parameter', '-nostdinc', '-fcallgraph-info=su',
          '-fno-delayed-branch', '-fno-jump-tables', '-fno-pic', '-fno-pie', '-fno-stack-protector', '-fno-common', '-ffixed-g5',
          '-fno-asynchronous-unwind-tables', '-fno-tree-loop-distribute-patterns', '-ffunction-sections', '-fdata-sections',
          '-fno-shrink-wrap', '-fno-schedule-insns', '-fno-schedule-insns2']
+
+# Atomic loads and stores are one instruction, but in a program that updates words by atomic.c: there stores too have to be behind its locks, or
+# an update that has begun would lose them. What is to be warned of was told before.
+BEHIND_LOCKS = ['-fno-inline-atomics', '-w']
+UPDATE = re.compile('__atomic_(fetch|exchange|compare)')
 
 Options = namedtuple('Options', 'keep defines any_stack', defaults=(None, (), False))
 HINTS = (
@@ -133,12 +137,14 @@ def with_check(line):
 
 @dataclass
 class Build:
-    """A build under way: the compiler, a folder for what is made, the machine's sizes, the options, and the calls that are found."""
+    """A build under way: the compiler, a folder for what is made, the machine's sizes, the options, the calls that are found, and flags that
+    follow from these."""
     gcc: str
     folder: Path
     sizes: Sizes
     options: Options
     calls: stacks.Calls
+    flags: list = field(default_factory=list)
 
     def contexts(self):
         """How many contexts there are on all nodes."""
@@ -153,7 +159,7 @@ def translated(build, file, made):
     """Compiles a source in C to assembly for this machine, and notes its calls."""
     headers = [word for folder in (HERE / 'include', called([build.gcc, '-print-file-name=include']).strip()) for word in ('-isystem', folder)]
     sizes = [f'-DCONTEXTS_A_NODE={build.sizes.contexts}', f'-DCONTEXTS={build.contexts()}']
-    called([build.gcc, *FLAGS, *headers, *sizes, *(f'-D{each}' for each in build.options.defines), f'-I{HERE}', '-S', file, '-o', made])
+    called([build.gcc, *FLAGS, *build.flags, *headers, *sizes, *(f'-D{each}' for each in build.options.defines), f'-I{HERE}', '-S', file, '-o', made])
     lines = (part for line in made.read_text().splitlines() for part in without_doubles(line))
     made.write_text(''.join(part + '\n' for line in lines for part in with_check(line)))
     build.calls.add(made.with_suffix('.ci').read_text(), made.stem)
@@ -176,11 +182,19 @@ def compiled(build, file, number):
     return made
 
 
+def all_compiled(build, files):
+    """The object files of a program's sources, compiled again where they turn out to update words by atomic.c."""
+    sources = [HERE / 'start.s', HERE / 'runtime.c', HERE / 'atomic.c', *map(Path, files)]
+    objects = [compiled(build, file, number) for number, file in enumerate(sources)]
+    if build.flags or not any(UPDATE.match(name) for names in build.calls.called.values() for name in names):
+        return objects
+    build.flags, build.calls = BEHIND_LOCKS, stacks.Calls()
+    return all_compiled(build, files)
+
+
 def linked(build, files):
     """The linked program."""
-    sources = [HERE / 'start.s', HERE / 'runtime.c', HERE / 'atomic.c', *files]
-    objects = [compiled(build, Path(file), number) for number, file in enumerate(sources)]
-    made = build.folder / 'program.elf'
+    objects, made = all_compiled(build, files), build.folder / 'program.elf'
     called(['sparc64-linux-gnu-ld', '-m', 'elf32_sparc', '-z', 'noexecstack', '--gc-sections', '--orphan-handling=error',
             '-T', HERE / 'machine.ld', f'--defsym=shared_end={build.end()}', f'--defsym=stack_mark={MARK}',
             f'--defsym=contexts={build.contexts()}', *objects, '-o', made])
