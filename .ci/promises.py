@@ -24,8 +24,8 @@ lines and files of `specs/` that its clauses reach: a reader must believe these.
 `.ci/promises.py` writes this page from the crates' READMEs, and the gate refuses one that isn't current.
 
 To read a promise, open its crate's README, then the function in `src/`, then the definitions that the clause names in
-`specs/`. The headline stands in `alewife` of `crates/alw_cli/src/top.rt`; in `Runs` and `IsTold` of
-`crates/alw_cli/specs/Running.antt`, `Replays` beside it; in `IsSeededRun` of `crates/alw_sched/specs/Schedules.antt`;
+`specs/`. The headline stands in `alewife` of `crates/alw_cli/src/top.rt`; in `Headline` of
+`crates/alw_cli/specs/Headline.antt`; in `IsSeededRun` of `crates/alw_sched/specs/Schedules.antt`;
 in `IsCoherentRun` and `IsScheduled` of `crates/alw_model/specs/Headline.antt`; and in the words of
 `crates/alw_model/specs`, which `docs/DEFINITIONS.md` reads aloud.
 

@@ -1,55 +1,80 @@
--- How what a command answers is an answer of the program.
-use Rattle.std.proofs.Common.{◌≡◌, ℕ, Bool, true, false, List, [], Option, Ok, sym, subst, ◌∙◌}
-use Rattle.std.proofs.lemmas.Bool.{true≢false}
+-- How what a command's function answers, and what is read and written for it, is an answer.
+use Rattle.std.proofs.Common.{◌≡◌, ℕ, Bool, true, false, List, Option, Some, None, Ok, refl, sym, subst, inl, inr}
+use Rattle.std.specs.Prelude.{Result, Err}
+use Rattle.std.specs.Io.KnownBytes.{Keeps}
 use Rattle.alw_io.specs.Outside.{Took}
 use Rattle.alw_msg.specs.declared.events.Entry.{Entry}
 use Rattle.alw_cli.specs.declared.answers.TheConstants.{MOST_INPUT}
 use Rattle.alw_cli.specs.declared.answers.Cause.{Cause}
 use Rattle.alw_cli.specs.declared.answers.Cause.TheVariants as cause
 use Rattle.alw_cli.specs.declared.answers.InputErr.TheVariants as reason
-use Rattle.alw_cli.specs.Streams.{Stream, stream_of, IsRead, IsTaken}
-use Rattle.alw_cli.specs.Answers.{task_of, Performed, Answers}
-use Rattle.alw_cli.proofs.Tasks.{each_kept}
-use Rattle.alw_cli.proofs.Made.{keeps}
+use Rattle.alw_cli.specs.declared.outputs.Ending.{Ending}
+use Rattle.alw_cli.specs.declared.outputs.Ending.TheVariants as ending
+use Rattle.alw_cli.specs.declared.outputs.Output.{Output}
+use Rattle.alw_cli.specs.declared.outputs.Refusal.{Refusal}
+use Rattle.alw_cli.specs.declared.outputs.Refusal.TheVariants as refusal
+use Rattle.alw_cli.specs.Outputs.{Gives, cause_of}
+use Rattle.alw_cli.specs.Streams.{Stream, stream_of, IsRead, IsTaken, Stays, Gained}
+use Rattle.alw_config.specs.declared.commands.Command.{Command}
+use Rattle.alw_config.specs.Places.{IsCommand}
+use Rattle.alw_cli.specs.Answers.{task_of, Answers}
+use Rattle.alw_cli.specs.Tasks.{Task, IsNothing, Outputs, Answered, Hands, Writes, Puts}
+
+-- a stream that nothing is done to
+pub keeps : (known : Option (List ℕ)) → Keeps known known
+keeps None = tt
+keeps (Some bytes) = refl
+
+-- what was read is the whole rest of the source
+pub reads_all : (before after : Option (List ℕ)) (faults faults' : ℕ) (bytes : List ℕ) → Took MOST_INPUT before after (Ok bytes) →
+    IsRead true (stream_of before faults) (stream_of after faults') bytes
+reads_all before after faults faults' bytes took =
+    subst (λ (bs : List ℕ). IsRead true (stream_of before faults) (stream_of after faults') bs) (sym took.told.0)
+    (took.from_front, took.told.1, took.told.2)
 
 -- what was handed out was taken
 taken : (reads : Bool) (input input' : Stream) (bytes : List ℕ) → IsRead reads input input' bytes → IsTaken reads input input'
 taken true input input' bytes read = record { taken = bytes; read = read.0; few = read.2 }
 taken false input input' bytes read = read.0
 
--- what was performed is an answer
-pub answers_by : (words : List (List ℕ)) (input input' out out' : Stream) (c : Cause) (journal : List Entry) (merged : ℕ) →
-    Performed words input input' out out' c journal merged → Answers words input input' out out' c journal merged
-answers_by words input input' out out' cause.Fine journal merged p = p
-answers_by words input input' out out' (cause.Trapped at) journal merged p = p
-answers_by words input input' out out' (cause.Limit event) journal merged p = p
-answers_by words input input' out out' cause.WriteFault journal merged p = p
-answers_by words input input' out out' (cause.Differs place claimed real) journal merged p = p
-answers_by words input input' out out' (cause.Input (reason.Asm fault)) journal merged p = p
-answers_by words input input' out out' (cause.Input (reason.Image fault)) journal merged p = p
-answers_by words input input' out out' (cause.Input (reason.Text fault)) journal merged p = p
-answers_by words input input' out out' (cause.Input (reason.NotLegal k)) journal merged p = p
-answers_by words input input' out out' (cause.Input reason.Unfinished) journal merged p = p
-answers_by words input input' out out' (cause.Input (reason.LimitDoesNotFit number most)) journal merged p = p
-answers_by words input input' out out' (cause.Input (reason.StateDiffers line)) journal merged p = p
-answers_by words input input' out out' (cause.Input (reason.WorkersDoNotFit number most)) journal merged p = p
-answers_by words input input' out out' cause.NoMemory journal merged p =
-    let wanting = (each_kept p.command).wanting p.bytes out out' journal p.answer in
-    (record { command = p.command; asked = p.asked; holds = taken (task_of p.command).reads input input' p.bytes p.read }, wanting.0, (each_kept p.command).wants p.bytes journal merged p.merges, wanting.1)
-answers_by words input input' out out' (cause.Words e) journal merged p = absurd ((each_kept p.command).inside p.bytes out out' (cause.Words e) journal tt p.answer)
-answers_by words input input' out out' (cause.Input reason.TooLong) journal merged p =
-    absurd ((each_kept p.command).inside p.bytes out out' (cause.Input reason.TooLong) journal tt p.answer)
-answers_by words input input' out out' cause.ReadFault journal merged p = absurd ((each_kept p.command).inside p.bytes out out' cause.ReadFault journal tt p.answer)
+-- there are no bytes
+pub not_handed : (task : Task) (input input' out out' : Stream) (c : Cause) (journal : List Entry) (merged : ℕ) → Hands task.reads input input' (Err c) → Stays out out' →
+    IsNothing journal merged → Answered task input input' out out' c journal merged
+not_handed task input input' out out' (cause.Input reason.TooLong) journal merged hands stays nothing = (nothing, stays, inr (hands.0, refl, hands.1))
+not_handed task input input' out out' cause.ReadFault journal merged hands stays nothing = (nothing, stays, hands.0, hands.1, hands.2)
+not_handed task input input' out out' cause.NoMemory journal merged hands stays nothing = (nothing, stays, hands)
+not_handed task input input' out out' _ journal merged hands stays nothing = absurd hands
 
--- what was read is the whole rest of the source
-pub reads_all : (before after : Option (List ℕ)) (faults faults' : ℕ) (bytes taken : List ℕ) → bytes ≡ taken → Took MOST_INPUT before after (Ok taken) →
-    IsRead true (stream_of before faults) (stream_of after faults') bytes
-reads_all before after faults faults' bytes taken same took =
-    subst (λ (bs : List ℕ). IsRead true (stream_of before faults) (stream_of after faults') bs) (sym (same ∙ took.told.0))
-    (took.from_front, took.told.1, took.told.2)
+-- by the end of what was made
+by_end : (task : Task) (input input' out out' : Stream) (journal : List Entry) (merged : ℕ) (end : Ending) →
+    Outputs task input input' journal merged (λ e text. (cause_of end ≡ cause_of e) × Gained out out' text) → Answered task input input' out out' (cause_of end) journal merged
+by_end task input input' out out' journal merged ending.Fine made = made
+by_end task input input' out out' journal merged (ending.Trapped at) made = made
+by_end task input input' out out' journal merged (ending.Limit event) made = made
+by_end task input input' out out' journal merged (ending.Differs place claimed real) made = made
 
--- nothing was read of it
-pub reads_none : (reads : Bool) (known : Option (List ℕ)) (faults : ℕ) (bytes : List ℕ) → reads ≡ false → bytes ≡ [] →
-    IsRead reads (stream_of known faults) (stream_of known faults) bytes
-reads_none true known faults bytes is none = absurd (true≢false is)
-reads_none false known faults bytes is none = (keeps known, none)
+module _ (task : Task) (input input' out out' : Stream) (bytes : List ℕ) (read : IsRead task.reads input input' bytes) where
+  wrote : (output : Output) → task.Makes bytes output → (c : Cause) (journal : List Entry) (merged : ℕ) → journal ≡ output.journal → merged ≡ output.merged →
+      Writes output out out' c → Answered task input input' out out' c journal merged
+  wrote output makes c journal merged same as_many (inl whole) =
+      subst (λ (x : Cause). Answered task input input' out out' x journal merged) (sym whole.0) (by_end task input input' out out' journal merged output.ending
+      (record { output = output; reads = record { bytes = bytes; read = read; holds = makes }; journal_is = same; merged_is = as_many; written = (refl, whole.1) }))
+  wrote output makes c journal merged same as_many (inr part) =
+      subst (λ (x : Cause). Answered task input input' out out' x journal merged) (sym part.0)
+      (record { output = output; reads = record { bytes = bytes; read = read; holds = makes }; journal_is = same; merged_is = as_many; written = part.1 })
+
+  -- what was made of the bytes was written, and else nothing
+  pub put : (made : Result Output Refusal) → Gives (task.Makes bytes) (task.Refuses bytes) made → (c : Cause) (journal : List Entry) (merged : ℕ) →
+      Puts made out out' c journal merged → Answered task input input' out out' c journal merged
+  put (Ok output) gives c journal merged puts = wrote output gives c journal merged puts.0 puts.1 puts.2
+  put (Err refusal.NoMemory) gives c journal merged puts =
+      subst (λ (x : Cause). Answered task input input' out out' x journal merged) (sym puts.0) (puts.1, puts.2, taken task.reads input input' bytes read)
+  put (Err (refusal.Fault fault)) gives c journal merged puts =
+      subst (λ (x : Cause). Answered task input input' out out' x journal merged) (sym puts.0)
+      (puts.1, puts.2, inl (record { bytes = bytes; read = read; holds = gives }))
+
+-- what is answered to the command that the words are is an answer
+pub answers_to : (words : List (List ℕ)) (command : Command) → IsCommand words command → (input input' out out' : Stream) (c : Cause) (journal : List Entry) (merged : ℕ) →
+    Answered (task_of command) input input' out out' c journal merged → Answers words input input' out out' c journal merged
+answers_to words command asked input input' out out' (cause.Words e) journal merged answer = absurd answer
+answers_to words command asked input input' out out' c journal merged answer = record { command = command; asked = asked; answer = answer }

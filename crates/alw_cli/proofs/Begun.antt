@@ -1,12 +1,13 @@
 -- A run that workers began, and the schedule of seed 0 took to an end.
 use Rattle.std.proofs.Common.{◌≡◌, ℕ, ◌<◌, ◌≤◌, Bool, true, false, cond, List, [], ◌∷◌, ◌++◌, map, length, take, refl, sym, ap, subst, ◌∙◌, arith, suc}
+use Rattle.std.specs.Prelude.{Err}
 use Rattle.std.specs.List.{AllByRecursion}
 use Rattle.std.proofs.lemmas.Bool.{true≢false}
 use Rattle.std.proofs.lemmas.List.{take_at, length-append}
 use Rattle.alw_msg.specs.declared.events.Entry.{Entry}
 use Rattle.alw_msg.specs.Events.{is_evict}
 use Rattle.alw_image.specs.declared.parts.Parts.{Parts}
-use Rattle.alw_image.specs.Images.{node_count}
+use Rattle.alw_image.specs.Images.{node_count, spelling}
 use Rattle.alw_image.specs.Parameters.{Parameters}
 use Rattle.alw_model.specs.declared.ends.Ended.{Ended}
 use Rattle.alw_model.specs.NodeStates.{NodeState, node_start}
@@ -19,15 +20,22 @@ use Rattle.law_order.proofs.Merging.{merged_legal, merged_ascends, merged_nodes}
 use Rattle.alw_cells.specs.Cells.{IsSpent}
 use Rattle.alw_tally.specs.Remaining.{trapped_in}
 use Rattle.alw_work.specs.Works.{holds_trap}
-use Rattle.alw_mesh.specs.Histories.{History, joined_of}
+use Rattle.alw_mesh.specs.declared.errors.FitErr.{FitErr}
+use Rattle.alw_mesh.specs.declared.errors.FitErr.TheVariants as fits
+use Rattle.alw_mesh.specs.declared.errors.TheConstants.{MOST_STEPS}
+use Rattle.alw_mesh.specs.Histories.{History, Fits, joined_of, stamps_of}
 use Rattle.alw_sched.specs.Schedules.{MachineIsSeeded, RunIsFinished}
 use Rattle.alw_sched.proofs.Seeded.{seeded_front, seeded_stays, seeded_evicts}
 use Rattle.alw_config.specs.declared.commands.Form.{Form}
-use Rattle.alw_cli.specs.declared.runs.Run.{Run}
-use Rattle.alw_cli.specs.declared.working.Worked.{Worked}
-use Rattle.alw_cli.specs.Runs.{IsMade, IsToldOf}
-use Rattle.alw_cli.specs.Working.{IsJoinedByWorkers, IsBegun, KeepsCopies, IsRunByWorkers}
-use Rattle.alw_cli.proofs.Reached.{made}
+use Rattle.alw_cli.specs.declared.answers.InputErr.TheVariants as reason
+use Rattle.alw_cli.specs.declared.outputs.Output.{Output}
+use Rattle.alw_cli.specs.declared.outputs.Refusal.{Refusal}
+use Rattle.alw_cli.specs.declared.outputs.Refusal.TheVariants as refusal
+use Rattle.alw_cli.specs.Outputs.{Gives}
+use Rattle.alw_cli.specs.Refusals.{refusal_of_fit}
+use Rattle.alw_cli.specs.Forms.{IsTold, IsTooMuch, output_of}
+use Rattle.alw_cli.specs.Working.{IsJoinedByWorkers, IsBegun, KeepsCopies, Works, AreTooMany, HasRoom, IsNotWorked}
+use Rattle.alw_cli.proofs.Told.{IsReadAs, told_of_run}
 use Rattle.alw_cli.proofs.Trapped.{trapped_after, any_of}
 
 -- ---- no eviction among the entries of logs
@@ -116,11 +124,36 @@ module _ (image : Parts) (params : Parameters) (machine : History) (left : IsJoi
               (subst (λ (es : List Entry). MachineIsSeeded (record { image = image; parameters = params; journal = es; joined = length entries }) 0 after) (sym front_is) from_all);
         }
 
-    pub run_by_workers : (workers : ℕ) (form : Form) (run : Run) (worked : Worked) → workers ≤ node_count image → IsToldOf after e form run →
-        worked ≡ record { run = run; merged = length machine.journal } → IsRunByWorkers workers image params form worked
-    run_by_workers workers form run worked few told same = rw (same, ap (λ (h : History). length h.journal) left.is) (record {
-      few = few;
-      made = subst (λ (h : History). IsMade h.image h.parameters form run) after_is (made after e form run finished.run finished.end told);
-      evicts = λ none. subst (λ (j : List Entry). AllByRecursion IsMain j) (sym told.journal) (seeded_evicts _ 0 after from_all none (main none));
-      begun = subst (λ (j : List Entry). IsBegun image params j (length entries)) (sym told.journal) begun_so;
-    })
+    told_so : (form : Form) → IsTold image params form (record (output_of after e form) { merged = length machine.journal })
+    told_so form =
+        let told : IsTold image params form (output_of after e form) =
+        subst (λ (h : History). IsTold h.image h.parameters form (output_of after e form)) after_is (told_of_run after e form finished.run finished.end) in
+        record { image_is = told.image_is; parameters_are = told.parameters_are; fits = told.fits; ended = told.ended; run = told.run; ending = told.ending; text = told.text }
+
+    -- and the bytes were read as the image
+    pub worked : (workers : ℕ) (form : Form) (bytes : List ℕ) → IsReadAs bytes image → workers ≤ node_count image →
+        Works workers params form bytes (record (output_of after e form) { merged = length machine.journal })
+    worked workers form bytes read few = record {
+      accepted = read.accepted;
+      spelled = read.spelled ∙ ap spelling read.same;
+      few = subst (λ (p : Parts). workers ≤ node_count p) read.same few;
+      told = subst (λ (p : Parts). IsTold p params form (record (output_of after e form) { merged = length machine.journal })) read.same (told_so form);
+      evicts = λ none. seeded_evicts _ 0 after from_all none (main none);
+      begun = subst (λ (p : Parts). IsBegun p params after.journal (length machine.journal)) read.same
+          (subst (λ (n : ℕ). IsBegun image params after.journal n) (sym (ap (λ (h : History). length h.journal) left.is)) begun_so);
+    }
+
+-- why workers didn't run an image that was read
+pub not_worked : (Makes : Output → Type 0) (workers : ℕ) (params : Parameters) (bytes : List ℕ) (image : Parts) → IsReadAs bytes image → (why : Refusal) →
+    HasRoom workers params image (Err why) → Gives Makes (IsNotWorked workers params bytes) (Err why)
+not_worked Makes workers params bytes image read (refusal.Fault (reason.LimitDoesNotFit number most)) is =
+    (read.accepted, subst (λ (p : Parts). IsTooMuch p params number most) read.same is)
+not_worked Makes workers params bytes image read (refusal.Fault (reason.WorkersDoNotFit number most)) is =
+    (read.accepted, (subst (λ (p : Parts). stamps_of p params ≤ MOST_STEPS) read.same is.0, subst (λ (p : Parts). AreTooMany p workers number most) read.same is.1))
+not_worked Makes workers params bytes image read (refusal.Fault _) is = absurd is
+not_worked Makes workers params bytes image read refusal.NoMemory is = absurd is
+
+-- an image that doesn't fit
+pub no_fit : (workers : ℕ) (params : Parameters) (image : Parts) (fit : FitErr) → Fits image params (Err fit) → HasRoom workers params image (Err (refusal_of_fit fit))
+no_fit workers params image (fits.DoesNotFit number most) is = record { most_is = is.2; number_is = is.1; above = omega (arith, is.0, is.1) }
+no_fit workers params image fits.NoMemory is = absurd is

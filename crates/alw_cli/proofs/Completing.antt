@@ -1,6 +1,7 @@
 -- Where the words are a command, its input is accepted and nothing outside fails, the command is carried out.
-use Rattle.std.proofs.Common.{◌≡◌, ℕ, ◌<◌, Bool, true, false, List, ◌++◌, Option, Some, None, length, refl, sym, ap, subst, ◌∙◌, inr, length-append, arith}
+use Rattle.std.proofs.Common.{◌≡◌, ℕ, ◌<◌, Bool, true, false, List, ◌++◌, Option, Some, None, length, refl, sym, ap, subst, ◌∙◌, ◌⊎◌, inl, inr, IsTrue, length-append, arith}
 use Rattle.std.proofs.lemmas.List.{append-nil}
+use Rattle.std.proofs.lemmas.Bool.{false≢true}
 use Rattle.std.specs.Io.KnownBytes.{Consumes, IsAtEnd}
 use Rattle.alw_msg.specs.declared.events.Entry.{Entry}
 use Rattle.alw_config.specs.declared.commands.Command.{Command}
@@ -9,9 +10,12 @@ use Rattle.alw_config.proofs.Laws.{not_both, one_command}
 use Rattle.alw_cli.specs.declared.answers.Cause.{Cause}
 use Rattle.alw_cli.specs.declared.answers.Cause.TheVariants as cause
 use Rattle.alw_cli.specs.declared.answers.InputErr.TheVariants as reason
-use Rattle.alw_cli.specs.Streams.{Stream, IsRead, IsInput, TookTooMany}
-use Rattle.alw_cli.specs.Answers.{task_of, Performed, IsReading, Answers, IsComplete}
-use Rattle.alw_cli.proofs.Tasks.{each_kept}
+use Rattle.alw_cli.specs.declared.answers.InputErr.{InputErr}
+use Rattle.alw_cli.specs.Outputs.{cause_of}
+use Rattle.alw_cli.specs.Streams.{Stream, IsRead, IsInput, TookTooMany, HadNoFault, Gained}
+use Rattle.alw_cli.specs.Tasks.{Task, Reads, Answered, Outputs}
+use Rattle.alw_cli.specs.Answers.{task_of, Performed, Answers, IsComplete}
+use Rattle.alw_cli.proofs.Tasks.{IsKept, each_kept}
 
 -- no more bytes are taken than a source has
 longer : (before after : Option (List ℕ)) (bytes taken : List ℕ) → before ≡ Some bytes → Consumes before after taken → length bytes < length taken → ⊥
@@ -34,32 +38,50 @@ same_bytes : (reads : Bool) (input input' : Stream) (bytes given : List ℕ) →
 same_bytes true input input' bytes given known read = whole input.known input'.known given bytes known.0 read.0 read.1
 same_bytes false input input' bytes given none read = read.1 ∙ sym none
 
-performed_so : (words : List (List ℕ)) (input input' out out' : Stream) (c : Cause) (journal : List Entry) (merged : ℕ) →
-    Performed words input input' out out' c journal merged → IsComplete words input input' out out' c
-performed_so words input input' out out' c journal merged p = λ command bytes asked given accepted quiet quiet_out.
-    let same : p.command ≡ command = one_command words p.command command p.asked asked in
-    let read : IsRead (task_of command).reads input input' p.bytes = subst (λ (k : Command). IsRead (task_of k).reads input input' p.bytes) same p.read in
-    let all : p.bytes ≡ bytes = same_bytes (task_of command).reads input input' p.bytes bytes given read in
-    let answer = subst (λ (bs : List ℕ). (task_of p.command).Answers bs out out' c journal) all p.answer in
-    (each_kept command).complete bytes out out' c journal
-    (subst (λ (k : Command). (task_of k).Answers bytes out out' c journal) same answer) accepted quiet_out
-
 -- more bytes were taken than an input may have
-too_long : (words : List (List ℕ)) (input input' : Stream) (command : Command) (bytes : List ℕ) → IsCommand words command → IsInput (task_of command).reads input bytes →
-    IsReading words → TookTooMany input input' → ⊥
-too_long words input input' command bytes asked given reading took =
-    let same : reading.command ≡ command = one_command words reading.command command reading.asked asked in
-    let reads : (task_of command).reads ≡ true = subst (λ (k : Command). (task_of k).reads ≡ true) same reading.holds in
-    let known : IsInput true input bytes = subst (λ (r : Bool). IsInput r input bytes) reads given in
-    longer input.known input'.known bytes took.taken known.0 took.read (let many = took.many in omega (arith, known.1))
+too_long : (reads : Bool) (input input' : Stream) (bytes : List ℕ) → IsInput reads input bytes → reads ≡ true → TookTooMany input input' → ⊥
+too_long true input input' bytes given is took =
+    longer input.known input'.known bytes took.taken given.0 took.read (let many = took.many in omega (arith, given.1))
+too_long false input input' bytes given is took = absurd (false≢true is)
+
+-- what is answered to bytes that are accepted
+module _ (task : Task) (kept : IsKept task) (input input' out out' : Stream) (bytes : List ℕ) (given : IsInput task.reads input bytes) (accepted : task.Accepts bytes) where
+  same : (Holds : List ℕ → Type 0) → (read : Reads task input input' Holds) → Holds bytes
+  same Holds read = subst Holds (same_bytes task.reads input input' read.bytes bytes given read.read) read.holds
+
+  not_refused : (fault : InputErr) → Reads task input input' (λ bs. task.Refuses bs fault) ⊎ ((task.reads ≡ true) × (fault ≡ reason.TooLong) × TookTooMany input input') → ⊥
+  not_refused fault (inl refused) = kept.unrefused bytes fault (same (λ bs. task.Refuses bs fault) refused) accepted
+  not_refused fault (inr many) = too_long task.reads input input' bytes given many.0 many.2
+
+  ended : (c : Cause) (journal : List Entry) (merged : ℕ) → Outputs task input input' journal merged (λ end text. (c ≡ cause_of end) × Gained out out' text) →
+      IsTrue (task.is_done c) ⊎ (c ≡ cause.NoMemory)
+  ended c journal merged made =
+      inl (subst (λ (x : Cause). IsTrue (task.is_done x)) (sym made.written.0)
+      (kept.finished bytes made.output (same (λ bs. task.Makes bs made.output) made.reads) accepted))
+
+  done : HadNoFault input input' → HadNoFault out out' → (c : Cause) (journal : List Entry) (merged : ℕ) → Answered task input input' out out' c journal merged →
+      IsTrue (task.is_done c) ⊎ (c ≡ cause.NoMemory)
+  done quiet quiet_out (cause.Words e) journal merged answer = absurd answer
+  done quiet quiet_out (cause.Input fault) journal merged answer = absurd (not_refused fault answer.2)
+  done quiet quiet_out cause.ReadFault journal merged answer = absurd (quiet answer.4)
+  done quiet quiet_out cause.NoMemory journal merged answer = inr refl
+  done quiet quiet_out cause.WriteFault journal merged answer = absurd (quiet_out answer.written.1)
+  done quiet quiet_out cause.Fine journal merged answer = ended cause.Fine journal merged answer
+  done quiet quiet_out (cause.Trapped at) journal merged answer = ended (cause.Trapped at) journal merged answer
+  done quiet quiet_out (cause.Limit event) journal merged answer = ended (cause.Limit event) journal merged answer
+  done quiet quiet_out (cause.Differs place claimed real) journal merged answer = ended (cause.Differs place claimed real) journal merged answer
+
+-- what was answered to a command is answered to each command that the words are
+pub answered_to : (words : List (List ℕ)) (input input' out out' : Stream) (c : Cause) (journal : List Entry) (merged : ℕ) →
+    Performed words input input' out out' c journal merged → (command : Command) → IsCommand words command → Answered (task_of command) input input' out out' c journal merged
+answered_to words input input' out out' c journal merged p command asked =
+    subst (λ (k : Command). Answered (task_of k) input input' out out' c journal merged) (one_command words p.command command p.asked asked) p.answer
 
 -- every answer is complete
 pub completes : (words : List (List ℕ)) (input input' out out' : Stream) (c : Cause) (journal : List Entry) (merged : ℕ) →
     Answers words input input' out out' c journal merged → IsComplete words input input' out out' c
 completes words input input' out out' (cause.Words e) journal merged answer = λ command bytes asked given accepted quiet quiet_out.
     absurd (not_both words e.at command answer.0 asked)
-completes words input input' out out' (cause.Input reason.TooLong) journal merged answer = λ command bytes asked given accepted quiet quiet_out.
-    absurd (too_long words input input' command bytes asked given answer.0 answer.3)
-completes words input input' out out' cause.ReadFault journal merged answer = λ command bytes asked given accepted quiet quiet_out. absurd (quiet answer.4)
-completes words input input' out out' cause.NoMemory journal merged answer = λ command bytes asked given accepted quiet quiet_out. inr refl
-completes words input input' out out' c journal merged answer = performed_so words input input' out out' c journal merged answer
+completes words input input' out out' c journal merged answer = λ command bytes asked given accepted quiet quiet_out.
+    done (task_of command) (each_kept command) input input' out out' bytes given accepted quiet quiet_out c journal merged
+    (answered_to words input input' out out' c journal merged answer command asked)

@@ -2,10 +2,12 @@ pub mod Listing
 pub mod Tasks
 pub mod Answering
 pub mod Completing
-mod Reached
+mod Headlines
+mod Refused
+mod Told
+mod Formed
 mod Saved
 mod Resumable
-mod Made
 mod NoEvict
 mod Again
 mod Trapped

@@ -1,8 +1,7 @@
 -- The command `audit`.
-use Rattle.std.specs.Prelude.{◌≡◌, ◌≢◌, ◌↔◌, ℕ, Bool, true, false, List, [], ◌++◌, codes, Err}
+use Rattle.std.specs.Prelude.{◌≡◌, ◌≢◌, ◌↔◌, ℕ, true, List, ◌++◌, codes, Result, Ok, Err, ⊤}
 use Rattle.std.specs.Fmt.{decimal}
 use Rattle.alw_text.specs.Numbers.{hex_word}
-use Rattle.alw_msg.specs.declared.events.Entry.{Entry}
 use Rattle.alw_trace.specs.declared.values.Claim.{Claim}
 use Rattle.alw_trace.specs.declared.faults.TextErr.TheVariants as text
 use Rattle.alw_trace.specs.Texts.{claim_text}
@@ -12,11 +11,15 @@ use Rattle.alw_audit.specs.declared.verdicts.Place.TheVariants.{Turn, PrintCount
 use Rattle.alw_audit.specs.declared.verdicts.Verdict.{Verdict}
 use Rattle.alw_audit.specs.declared.verdicts.Verdict.TheVariants.{Sound, Differs}
 use Rattle.alw_audit.specs.Verdicts.{verdict_of, ClaimIsSound}
-use Rattle.alw_cli.specs.declared.answers.Cause.{Cause}
-use Rattle.alw_cli.specs.declared.answers.Cause.TheVariants as cause
+use Rattle.alw_cli.specs.declared.answers.InputErr.{InputErr}
 use Rattle.alw_cli.specs.declared.answers.InputErr.TheVariants as reason
-use Rattle.alw_cli.specs.Streams.{Stream, Stays, Gained, GainedPart}
-use Rattle.alw_cli.specs.Tasks.{Task, MergesNone}
+use Rattle.alw_cli.specs.declared.outputs.Ending.{Ending}
+use Rattle.alw_cli.specs.declared.outputs.Ending.TheVariants as ending
+use Rattle.alw_cli.specs.declared.outputs.Output.{Output}
+use Rattle.alw_cli.specs.declared.outputs.Refusal.{Refusal}
+use Rattle.alw_cli.specs.declared.outputs.Refusal.TheVariants as refusal
+use Rattle.alw_cli.specs.Outputs.{IsText, is_fine}
+use Rattle.alw_cli.specs.Tasks.{Task}
 
 -- ---- the text of a verdict
 
@@ -48,45 +51,24 @@ pub record SpellsClaim (bytes : List ℕ) (claim : Claim) : Type 0 where
   pub is : IsClaim claim
   pub types : HasClaimTypes claim
 
--- which is sound exactly where this is its verdict, and the verdict was written
-pub record Audits (bytes : List ℕ) (journal : List Entry) (verdict : Verdict) (Written : List ℕ → Type 0) : Type 0 where
+-- how an audit ends by its verdict
+abbrev pub ending_of_verdict : Verdict → Ending
+ending_of_verdict Sound = ending.Fine
+ending_of_verdict (Differs place claimed real) = ending.Differs place claimed real
+
+-- the bytes are a claim, which is sound exactly where this is its verdict, and the text is that of the verdict
+pub record Audits (bytes : List ℕ) (output : Output) : Type 0 where
   pub claim : Claim
   pub spelled : SpellsClaim bytes claim
+  pub verdict : Verdict
   pub verdict_is : verdict ≡ verdict_of claim
   pub sound : (verdict ≡ Sound) ↔ ClaimIsSound claim
-  pub text : Written (verdict_text verdict)
-  pub no_journal : journal ≡ []
+  pub text : IsText output (verdict_text verdict) (ending_of_verdict verdict)
 
--- some verdict was
-pub record AuditsSomehow (bytes : List ℕ) (journal : List Entry) (Written : List ℕ → Type 0) : Type 0 where
-  pub verdict : Verdict
-  pub audits : Audits bytes journal verdict Written
-
-abbrev pub AuditAnswer : List ℕ → Stream → Stream → Cause → List Entry → Type 0
-AuditAnswer bytes out out' cause.Fine journal = Audits bytes journal Sound (Gained out out')
-AuditAnswer bytes out out' (cause.Differs place claimed real) journal = Audits bytes journal (Differs place claimed real) (Gained out out')
-AuditAnswer bytes out out' cause.WriteFault journal = AuditsSomehow bytes journal (GainedPart out out')
-AuditAnswer bytes out out' (cause.Input (reason.Text fault)) journal =
-    (fault ≢ text.NoMemory) × ReadsClaim bytes (Err fault) × (journal ≡ []) × Stays out out'
-AuditAnswer bytes out out' cause.NoMemory journal = (journal ≡ []) × Stays out out'
-AuditAnswer bytes out out' _ journal = ⊥
-
--- what is answered to a claim that is sound: that it is, or that a write failed meanwhile, or that memory was refused
-abbrev pub FindsSound : Stream → Stream → Cause → Type 0
-FindsSound out out' cause.Fine = Gained out out' sound_line
-FindsSound out out' cause.WriteFault = GainedPart out out' sound_line
-FindsSound out out' cause.NoMemory = Stays out out'
-FindsSound out out' _ = ⊥
-
--- the claim is sound
-abbrev pub is_sound : Cause → Bool
-is_sound cause.Fine = true
-is_sound _ = false
-
--- the cause of a verdict
-abbrev pub cause_of_verdict : Verdict → Cause
-cause_of_verdict Sound = cause.Fine
-cause_of_verdict (Differs place claimed real) = cause.Differs place claimed real
+-- the bytes are no claim
+abbrev pub IsNoClaim : List ℕ → InputErr → Type 0
+IsNoClaim bytes (reason.Text fault) = (fault ≢ text.NoMemory) × ReadsClaim bytes (Err fault)
+IsNoClaim bytes _ = ⊥
 
 -- the bytes spell a claim which is sound
 pub record IsSoundText (bytes : List ℕ) : Type 0 where
@@ -95,4 +77,10 @@ pub record IsSoundText (bytes : List ℕ) : Type 0 where
   pub sound : ClaimIsSound claim
 
 abbrev pub audit_task : Task
-audit_task = record { reads = true; Answers = AuditAnswer; Merges = MergesNone; Accepts = IsSoundText; is_done = is_sound }
+audit_task = record { reads = true; Makes = Audits; Refuses = IsNoClaim; Accepts = IsSoundText; is_done = is_fine }
+
+-- what `audit` makes of a claim that is sound: that it is, or memory was refused
+abbrev pub FindsSound : Result Output Refusal → Type 0
+FindsSound (Ok output) = IsText output sound_line ending.Fine
+FindsSound (Err (refusal.Fault fault)) = ⊥
+FindsSound (Err refusal.NoMemory) = ⊤

@@ -1,30 +1,34 @@
 -- The command `replay`.
-use Rattle.std.specs.Prelude.{◌≡◌, ◌≢◌, ℕ, ◌≤◌, true, None, List, [], Err}
+use Rattle.std.specs.Prelude.{◌≡◌, ◌≢◌, ℕ, ◌≤◌, true, None, List, Result, Ok, Err}
 use Rattle.alw_msg.specs.declared.events.Entry.{Entry}
 use Rattle.alw_image.specs.declared.parts.Parts.{Parts}
 use Rattle.alw_image.specs.Images.{IsImage}
 use Rattle.alw_image.specs.Numbers.{HasWords}
 use Rattle.alw_image.specs.Parameters.{Parameters, AreParameters}
-use Rattle.alw_model.specs.Headline.{IsCoherentRun}
-use Rattle.alw_mesh.specs.Histories.{stamps_of}
-use Rattle.alw_mesh.specs.declared.errors.TheConstants.{MOST_STEPS}
-use Rattle.alw_report.specs.Reports.{report_of}
 use Rattle.alw_model.specs.declared.ends.Ended.{Ended}
+use Rattle.alw_model.specs.Ends.{IsEnd}
+use Rattle.alw_model.specs.Headline.{IsCoherentRun}
 use Rattle.alw_model.specs.Machine.{IsLegal, state, end_of}
+use Rattle.alw_mesh.specs.Histories.{History, stamps_of}
+use Rattle.alw_mesh.specs.declared.errors.TheConstants.{MOST_STEPS}
+use Rattle.alw_replay.specs.Replays as replays
+use Rattle.alw_report.specs.Reports.{report_of}
 use Rattle.alw_trace.specs.declared.values.Trace.{Trace}
 use Rattle.alw_trace.specs.declared.faults.TextErr.TheVariants as text
 use Rattle.alw_trace.specs.Texts.{trace_text}
 use Rattle.alw_trace.specs.Readings.{IsTrace, HasTraceTypes, ReadsTrace}
+use Rattle.alw_save.specs.Cuts.{whole_of}
 use Rattle.alw_config.specs.declared.commands.Form.{Form}
-use Rattle.alw_cli.specs.declared.answers.Cause.{Cause}
-use Rattle.alw_cli.specs.declared.answers.Cause.TheVariants as cause
+use Rattle.alw_cli.specs.declared.answers.InputErr.{InputErr}
 use Rattle.alw_cli.specs.declared.answers.InputErr.TheVariants as reason
-use Rattle.alw_cli.specs.Statuses.{cause_of}
-use Rattle.alw_cli.specs.Streams.{Stream, Stays, Gained}
-use Rattle.alw_cli.specs.Runs.{IsFit, IsTooMuch, IsFirstIllegal, IsUnfinished}
-use Rattle.alw_cli.specs.Running.{IsTold, is_run}
-use Rattle.alw_cli.specs.Endings.{AnswersEnd}
-use Rattle.alw_cli.specs.Tasks.{Task, MergesNone}
+use Rattle.alw_cli.specs.declared.outputs.Output.{Output}
+use Rattle.alw_cli.specs.declared.outputs.Refusal.{Refusal}
+use Rattle.alw_cli.specs.declared.outputs.Refusal.TheVariants as refusal
+use Rattle.alw_cli.specs.Outputs.{ending_of, is_run}
+use Rattle.alw_cli.specs.Forms.{IsTold, IsTooMuch}
+use Rattle.alw_cli.specs.Tasks.{Task}
+
+-- ---- the trace that bytes spell
 
 -- the bytes are the text of a trace, which is the only one of this text
 pub record Spells (bytes : List ℕ) (trace : Trace) : Type 0 where
@@ -32,32 +36,24 @@ pub record Spells (bytes : List ℕ) (trace : Trace) : Type 0 where
   pub is : IsTrace trace
   pub types : HasTraceTypes trace
 
--- whose journal was answered
-pub record Replays (form : Form) (bytes : List ℕ) (journal : List Entry) (ended : Ended) (Written : List ℕ → Type 0) : Type 0 where
-  pub trace : Trace
-  pub spelled : Spells bytes trace
-  pub same : journal ≡ trace.journal
-  pub told : IsTold trace.image trace.params form journal ended Written
-
 -- the bytes are the text of a trace of which this holds
 pub record IsTraceThat (Holds : Trace → Type 0) (bytes : List ℕ) : Type 0 where
   pub trace : Trace
   pub spelled : Spells bytes trace
   pub holds : Holds trace
 
--- the bytes were refused, and nothing came of them
-abbrev pub IsRefused : Type 0 → Stream → Stream → List Entry → Type 0
-IsRefused Fault out out' journal = Fault × (journal ≡ []) × Stays out out'
+-- the trace fits
+abbrev pub IsFit : Trace → Type 0
+IsFit trace = stamps_of trace.image trace.params ≤ MOST_STEPS
 
-abbrev pub ReplayAnswer : Form → List ℕ → Stream → Stream → Cause → List Entry → Type 0
-ReplayAnswer form bytes out out' (cause.Input (reason.Text fault)) journal = IsRefused ((fault ≢ text.NoMemory) × ReadsTrace bytes (Err fault)) out out' journal
-ReplayAnswer form bytes out out' (cause.Input (reason.LimitDoesNotFit number most)) journal =
-    IsRefused (IsTraceThat (λ trace. IsTooMuch trace.image trace.params number most) bytes) out out' journal
-ReplayAnswer form bytes out out' (cause.Input (reason.NotLegal k)) journal =
-    IsRefused (IsTraceThat (λ trace. IsFit trace × IsFirstIllegal trace k) bytes) out out' journal
-ReplayAnswer form bytes out out' (cause.Input reason.Unfinished) journal = IsRefused (IsTraceThat (λ trace. IsFit trace × IsUnfinished trace) bytes) out out' journal
-ReplayAnswer form bytes out out' cause.NoMemory journal = (journal ≡ []) × Stays out out'
-ReplayAnswer form bytes out out' answered journal = AnswersEnd (Replays form bytes journal) out out' answered
+-- an entry is the first that isn't legal
+abbrev pub IsFirstIllegal : Trace → ℕ → Type 0
+IsFirstIllegal trace k = replays.IsFirstIllegal trace.image trace.params trace.journal k
+
+-- all entries are legal, and no end holds after the last
+pub record IsUnfinished (trace : Trace) : Type 0 where
+  pub legal : IsLegal trace.image trace.params trace.journal
+  pub going : end_of trace.image trace.params (state trace.image trace.params trace.journal) ≡ None
 
 -- all entries of a trace that fits are legal, and an end holds after the last
 pub record IsFinishedTrace (trace : Trace) : Type 0 where
@@ -65,9 +61,45 @@ pub record IsFinishedTrace (trace : Trace) : Type 0 where
   pub legal : IsLegal trace.image trace.params trace.journal
   pub ended : end_of trace.image trace.params (state trace.image trace.params trace.journal) ≢ None
 
+-- why a trace isn't taken again
+abbrev pub IsNotTaken : Trace → InputErr → Type 0
+IsNotTaken trace (reason.LimitDoesNotFit number most) = IsTooMuch trace.image trace.params number most
+IsNotTaken trace (reason.NotLegal k) = IsFit trace × IsFirstIllegal trace k
+IsNotTaken trace reason.Unfinished = IsFit trace × IsUnfinished trace
+IsNotTaken trace _ = ⊥
+
+-- the end that holds after a trace's entries, of which a machine has taken so many: all of them; or why there is none
+abbrev pub EndsTrace : Trace → History → Result Ended Refusal → Type 0
+EndsTrace trace machine (Ok ended) = (machine ≡ whole_of trace) × IsEnd machine.image machine.parameters machine.journal ended
+EndsTrace trace machine (Err (refusal.Fault fault)) = IsNotTaken trace fault
+EndsTrace trace machine (Err refusal.NoMemory) = ⊥
+
+-- ---- the command
+
+-- the bytes are the text of a trace, whose journal was answered
+pub record Replays (form : Form) (bytes : List ℕ) (output : Output) : Type 0 where
+  pub trace : Trace
+  pub spelled : Spells bytes trace
+  pub same : output.journal ≡ trace.journal
+  pub told : IsTold trace.image trace.params form output
+  pub merged : output.merged ≡ 0
+
+-- the bytes are no trace, or one that isn't taken again
+abbrev pub IsNoReplay : List ℕ → InputErr → Type 0
+IsNoReplay bytes (reason.Text fault) = (fault ≢ text.NoMemory) × ReadsTrace bytes (Err fault)
+IsNoReplay bytes fault = IsTraceThat (λ trace. IsNotTaken trace fault) bytes
+
 -- the bytes spell a trace which is finished
 abbrev pub IsFinishedText : List ℕ → Type 0
 IsFinishedText bytes = IsTraceThat IsFinishedTrace bytes
+
+abbrev pub replay_task : Form → Task
+replay_task form = record { reads = true; Makes = Replays form; Refuses = IsNoReplay; Accepts = IsFinishedText; is_done = is_run }
+
+-- ---- the trace of a run
+
+abbrev pub trace_of : Parts → Parameters → List Entry → Trace
+trace_of image parameters journal = record { image = image; params = parameters; journal = journal }
 
 -- a coherent run of an image that fits, whose words are of 32 bits: what `run` makes of an image that it read
 pub record IsRunThatFits (image : Parts) (parameters : Parameters) (journal : List Entry) (ended : Ended) : Type 0 where
@@ -77,21 +109,8 @@ pub record IsRunThatFits (image : Parts) (parameters : Parameters) (journal : Li
   pub fits : stamps_of image parameters ≤ MOST_STEPS
   pub run : IsCoherentRun image parameters journal ended
 
--- what answers and writes the same as this run does, as a report
-pub record ReportsTheSame (image : Parts) (parameters : Parameters) (journal : List Entry) (ended : Ended) (out out' : Stream) (answered : Cause) (again : List Entry) : Type 0 where
-  pub same : again ≡ journal
-  pub end : answered ≡ cause_of ended
-  pub text : Gained out out' (report_of image parameters journal ended)
-
--- the trace of a run
-abbrev pub trace_of : Parts → Parameters → List Entry → Trace
-trace_of image parameters journal = record { image = image; params = parameters; journal = journal }
-
-abbrev pub replay_task : Form → Task
-replay_task form = record {
-  reads = true;
-  Answers = ReplayAnswer form;
-  Merges = MergesNone;
-  Accepts = IsFinishedText;
-  is_done = is_run;
-}
+-- an output that tells the same as this run does, as a report
+pub record ReportsTheSame (image : Parts) (parameters : Parameters) (journal : List Entry) (ended : Ended) (output : Output) : Type 0 where
+  pub same : output.journal ≡ journal
+  pub end : output.ending ≡ ending_of ended
+  pub text : output.text ≡ report_of image parameters journal ended

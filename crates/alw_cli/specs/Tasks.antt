@@ -1,20 +1,75 @@
--- What a command is: whether it reads its input, what it answers to the bytes that it read, which bytes it accepts, and when it was carried out.
-use Rattle.std.specs.Prelude.{◌≡◌, ℕ, Bool, List}
+-- What a command is, and what is answered to it: the text of what it makes is written and its end told, or why it makes nothing.
+use Rattle.std.specs.Prelude.{◌≡◌, ℕ, Bool, true, List, [], ◌⊎◌, Result, Ok, Err}
+use Rattle.alw_io.specs.Outside.{Rose}
 use Rattle.alw_msg.specs.declared.events.Entry.{Entry}
 use Rattle.alw_cli.specs.declared.answers.Cause.{Cause}
-use Rattle.alw_cli.specs.Streams.{Stream}
+use Rattle.alw_cli.specs.declared.answers.Cause.TheVariants as cause
+use Rattle.alw_cli.specs.declared.answers.InputErr.{InputErr}
+use Rattle.alw_cli.specs.declared.answers.InputErr.TheVariants as reason
+use Rattle.alw_cli.specs.declared.outputs.Ending.{Ending}
+use Rattle.alw_cli.specs.declared.outputs.Output.{Output}
+use Rattle.alw_cli.specs.declared.outputs.Refusal.{Refusal}
+use Rattle.alw_cli.specs.declared.outputs.Refusal.TheVariants as refusal
+use Rattle.alw_cli.specs.Outputs.{cause_of}
+use Rattle.alw_cli.specs.Streams.{Stream, IsRead, IsTaken, Stays, TookSome, TookTooMany, Gained, GainedPart}
 
 pub record Task : Type 1 where
   pub reads : Bool
-  -- of the bytes, the sink before and after, and what was answered: cause and journal; a command that reads nothing is handed no bytes
-  pub Answers : List ℕ → Stream → Stream → Cause → List Entry → Type 0
-  -- of the bytes, and of what was answered: cause, journal, and how many of its first entries come from workers
-  pub Merges : List ℕ → Cause → List Entry → ℕ → Type 0
-  -- of the bytes
+  -- of the bytes that it read, none where it reads nothing: the outputs that it makes of them, their faults, and whether it accepts them
+  pub Makes : List ℕ → Output → Type 0
+  pub Refuses : List ℕ → InputErr → Type 0
   pub Accepts : List ℕ → Type 0
-  -- of the cause that was answered
+  -- of the cause of an answer: it was carried out
   pub is_done : Cause → Bool
 
--- none comes from workers
-abbrev pub MergesNone : List ℕ → Cause → List Entry → ℕ → Type 0
-MergesNone bytes answered journal merged = merged ≡ 0
+-- no journal was answered
+abbrev pub IsNothing : List Entry → ℕ → Type 0
+IsNothing journal merged = (journal ≡ []) × (merged ≡ 0)
+
+-- these bytes were read, and this holds of them
+pub record Reads (task : Task) (input input' : Stream) (Holds : List ℕ → Type 0) : Type 0 where
+  pub bytes : List ℕ
+  pub read : IsRead task.reads input input' bytes
+  pub holds : Holds bytes
+
+-- an output was made of the bytes that were read, and its text was written so; its journal was answered
+pub record Outputs (task : Task) (input input' : Stream) (journal : List Entry) (merged : ℕ) (Written : Ending → List ℕ → Type 0) : Type 0 where
+  pub output : Output
+  pub reads : Reads task input input' (λ bytes. task.Makes bytes output)
+  pub journal_is : journal ≡ output.journal
+  pub merged_is : merged ≡ output.merged
+  pub written : Written output.ending output.text
+
+-- the source and the sink before and after, and what was answered: cause, journal, and how many of its first entries come from workers
+abbrev pub Answered : Task → Stream → Stream → Stream → Stream → Cause → List Entry → ℕ → Type 0
+Answered task input input' out out' (cause.Words e) journal merged = ⊥
+Answered task input input' out out' (cause.Input fault) journal merged =
+    IsNothing journal merged × Stays out out'
+    × (Reads task input input' (λ bytes. task.Refuses bytes fault) ⊎ ((task.reads ≡ true) × (fault ≡ reason.TooLong) × TookTooMany input input'))
+Answered task input input' out out' cause.ReadFault journal merged =
+    IsNothing journal merged × Stays out out' × (task.reads ≡ true) × TookSome input input' × Rose input.faults input'.faults
+Answered task input input' out out' cause.NoMemory journal merged = IsNothing journal merged × Stays out out' × IsTaken task.reads input input'
+Answered task input input' out out' cause.WriteFault journal merged = Outputs task input input' journal merged (λ ending text. GainedPart out out' text)
+Answered task input input' out out' answered journal merged =
+    Outputs task input input' journal merged (λ ending text. (answered ≡ cause_of ending) × Gained out out' text)
+
+-- ---- what is read and written for it
+
+-- the bytes that it is handed, or why there are none
+abbrev pub Hands : Bool → Stream → Stream → Result (List ℕ) Cause → Type 0
+Hands reads input input' (Ok bytes) = IsRead reads input input' bytes
+Hands reads input input' (Err (cause.Input reason.TooLong)) = (reads ≡ true) × TookTooMany input input'
+Hands reads input input' (Err cause.ReadFault) = (reads ≡ true) × TookSome input input' × Rose input.faults input'.faults
+Hands reads input input' (Err cause.NoMemory) = IsTaken reads input input'
+Hands reads input input' (Err _) = ⊥
+
+-- an output's whole text, or a front of it, before the sink failed
+abbrev pub Writes : Output → Stream → Stream → Cause → Type 0
+Writes output out out' answered =
+    ((answered ≡ cause_of output.ending) × Gained out out' output.text) ⊎ ((answered ≡ cause.WriteFault) × GainedPart out out' output.text)
+
+-- what was made is written, and else nothing
+abbrev pub Puts : Result Output Refusal → Stream → Stream → Cause → List Entry → ℕ → Type 0
+Puts (Ok output) out out' answered journal merged = (journal ≡ output.journal) × (merged ≡ output.merged) × Writes output out out' answered
+Puts (Err refusal.NoMemory) out out' answered journal merged = (answered ≡ cause.NoMemory) × IsNothing journal merged × Stays out out'
+Puts (Err (refusal.Fault fault)) out out' answered journal merged = (answered ≡ cause.Input fault) × IsNothing journal merged × Stays out out'

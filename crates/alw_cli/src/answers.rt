@@ -1,5 +1,6 @@
-ghost use Rattle.std.specs.Prelude.{◌≡◌, []};
-ghost use Rattle.alw_cli.specs.Statuses.{status_of};
+ghost use Rattle.std.specs.Prelude.{◌≡◌};
+ghost use Rattle.alw_cli.specs.Outputs.{status_of};
+ghost use Rattle.alw_cli.specs.Tasks.{IsNothing};
 
 use alw_audit::Place;
 use alw_config::WordErr;
@@ -60,23 +61,22 @@ impl Done {
     /// An answer without a run.
     pub fn without(alloc: Global, cause: Cause) -> Done
         ensures cause { result.cause ≡ cause }
-        ensures journal { result.journal ≡ [] }
-        ensures merged { result.merged ≡ 0 }
+        ensures nothing { IsNothing result.journal result.merged }
     {
-        Done::after(cause, Journal::empty(alloc))
+        Done::after(cause, Journal::empty(alloc), 0)
     }
 
-    /// The answer to a run with this journal.
-    pub fn after(cause: Cause, journal: Journal) -> Done
+    /// The answer to a run with this journal, of which so many first entries come from workers.
+    pub fn after(cause: Cause, journal: Journal, merged: u32) -> Done
         ensures cause { result.cause ≡ cause }
         ensures journal { result.journal ≡ journal }
-        ensures merged { result.merged ≡ 0 }
+        ensures merged { result.merged ≡ merged }
     {
         Done {
             status: status_of(&cause),
             cause,
             journal,
-            merged: 0,
+            merged,
         }
     }
 }

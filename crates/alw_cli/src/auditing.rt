@@ -1,50 +1,36 @@
-ghost use Rattle.std.specs.Prelude.{◌≡◌, ◌≤◌, ◌<◌, ◌^◌, ◌++◌, IfOk, OnOk};
+ghost use Rattle.std.specs.Prelude.{◌≡◌, ◌<◌, ◌^◌, ◌++◌, IfOk, OnOk};
 ghost use Rattle.alw_audit.specs.Verdicts.{AreWords};
-ghost use Rattle.alw_cli.specs.Auditing.{AuditAnswer, cause_of_verdict, verdict_text, place_text, print_context, values_text};
-ghost use Rattle.alw_cli.specs.Streams.{stream_of};
+ghost use Rattle.alw_cli.specs.Auditing.{Audits, IsNoClaim, ending_of_verdict, verdict_text, place_text, print_context, values_text};
+ghost use Rattle.alw_cli.specs.Outputs.{Gives};
 
-use crate::answers::{Cause, Done, InputErr};
+use crate::outputs::{Ending, Output, Refusal};
 use alw_audit::{Place, Verdict, audit};
-use alw_io::{Sink, write_whole};
 use alw_num::NoMemory;
 use alw_text::{Spell, Text, put_number};
-use alw_trace::{TextErr, read_claim};
+use alw_trace::read_claim;
 use std::alloc::Global;
 
-/// Audits the claim that bytes spell, and writes the verdict.
-pub fn audit_bytes<K: Sink>(alloc: Global, bytes: &[u8], out: &mut K) -> Done
-    ensures answer { AuditAnswer bytes.now (stream_of (K.held out.old) (K.faults out.old)) (stream_of (K.held out.new) (K.faults out.new)) result.cause result.journal }
-    ensures out_count { K.faults out.old ≤ K.faults out.new }
-    ensures merged { result.merged ≡ 0 }
+/// Audits the claim that bytes spell, to its verdict.
+pub fn audit_bytes(alloc: Global, bytes: &[u8]) -> Result<Output, Refusal>
+    ensures { Gives (Audits bytes.now) (IsNoClaim bytes.now) result }
 {
-    let claim = match read_claim(alloc, bytes) {
-        Ok(claim) => claim,
-        Err(TextErr::NoMemory) => return Done::without(alloc, Cause::NoMemory),
-        Err(fault) => return Done::without(alloc, Cause::Input(InputErr::Text(fault))),
-    };
-    let Ok(verdict) = audit(alloc, &claim) else {
-        return Done::without(alloc, Cause::NoMemory);
-    };
-    let Ok(text) = verdict_text(alloc, verdict) else {
-        return Done::without(alloc, Cause::NoMemory);
-    };
-    match write_whole(out, text.bytes()) {
-        Ok(()) => Done::without(alloc, cause_of_verdict(verdict)),
-        Err(_) => Done::without(alloc, Cause::WriteFault),
-    }
+    let claim = read_claim(alloc, bytes)?;
+    let verdict = audit(alloc, &claim)?;
+    let text = verdict_text(alloc, verdict)?;
+    Ok(Output::of_text(alloc, text, ending_of_verdict(verdict)))
 }
 
-// The cause of a verdict.
-fn cause_of_verdict(verdict: Verdict) -> Cause
-    ensures { result ≡ cause_of_verdict verdict }
+// How an audit ends by its verdict.
+fn ending_of_verdict(verdict: Verdict) -> Ending
+    ensures { result ≡ ending_of_verdict verdict }
 {
     match verdict {
-        Verdict::Sound => Cause::Fine,
+        Verdict::Sound => Ending::Fine,
         Verdict::Differs {
             place,
             claimed,
             real,
-        } => Cause::Differs(place, claimed, real),
+        } => Ending::Differs(place, claimed, real),
     }
 }
 

@@ -1,4 +1,4 @@
-ghost use Rattle.std.specs.Prelude.{◌≡◌, ◌≤◌, ℕ, Err, IsTrue, List};
+ghost use Rattle.std.specs.Prelude.{◌≡◌, ◌≤◌, ℕ, Result, Err, List};
 ghost use Rattle.alw_msg.specs.declared.events.Entry.{Entry};
 ghost use Rattle.alw_image.specs.declared.parts.Parts.{Parts};
 ghost use Rattle.alw_image.specs.Parameters.{Parameters};
@@ -14,13 +14,13 @@ ghost use Rattle.alw_save.specs.declared.faults.RestoreErr.TheVariants.{NoMemory
 ghost use Rattle.alw_save.specs.Cuts.{TraceIsSound};
 ghost use Rattle.alw_save.specs.Checkpoints.{checkpoint_text};
 ghost use Rattle.alw_save.specs.Restoring.{IsCheckpoint, Restores};
-ghost use Rattle.alw_cli.specs.Resuming.{IsSomeCheckpoint};
-ghost use Rattle.alw_cli.specs.declared.answers.Cause.{Cause};
-ghost use Rattle.alw_cli.specs.Auditing.{AuditAnswer, FindsSound, IsSoundText};
+ghost use Rattle.alw_cli.specs.declared.outputs.Output.{Output};
+ghost use Rattle.alw_cli.specs.declared.outputs.Refusal.{Refusal};
+ghost use Rattle.alw_cli.specs.Outputs.{Gives};
+ghost use Rattle.alw_cli.specs.Auditing.{Audits, IsNoClaim, FindsSound, IsSoundText};
 ghost use Rattle.alw_cli.specs.Forms.{run_text};
-ghost use Rattle.alw_cli.specs.Streams.{Stream};
-ghost use Rattle.alw_cli.specs.Running.{is_run};
-ghost use Rattle.alw_cli.specs.Replaying.{IsFinishedText, IsRunThatFits, ReplayAnswer, ReportsTheSame, trace_of};
+ghost use Rattle.alw_cli.specs.Replaying.{IsFinishedText, IsRunThatFits, Replays, ReportsTheSame, trace_of};
+ghost use Rattle.alw_cli.specs.Resuming.{IsSomeCheckpoint};
 
 /// A replay reports what the run reported. The trace of a run is accepted, and where its replay is
 /// carried out, the journal and the end are the run's, and so is the report that is written: the text
@@ -29,9 +29,7 @@ pub fn traces_report_the_same()
     ensures accepted { (image : Parts) → (parameters : Parameters) → (journal : List Entry) → (ended : Ended) → IsRunThatFits image parameters journal ended →
         IsFinishedText (trace_text (trace_of image parameters journal)) }
     ensures same { (image : Parts) → (parameters : Parameters) → (journal : List Entry) → (ended : Ended) → IsRunThatFits image parameters journal ended →
-        (out : Stream) → (after : Stream) → (answered : Cause) → (again : List Entry) → IsTrue (is_run answered) →
-        ReplayAnswer forms.Report (trace_text (trace_of image parameters journal)) out after answered again →
-        ReportsTheSame image parameters journal ended out after answered again }
+        (output : Output) → Replays forms.Report (trace_text (trace_of image parameters journal)) output → ReportsTheSame image parameters journal ended output }
 {}
 
 /// What a run claims is found sound. The claim that `run` or `replay` writes of a run of an image that fits
@@ -41,8 +39,8 @@ pub fn claims_are_found_sound()
     ensures accepted { (image : Parts) → (parameters : Parameters) → (journal : List Entry) → (ended : Ended) → IsRunThatFits image parameters journal ended →
         IsSoundText (run_text forms.Claim image parameters journal ended) }
     ensures sound { (image : Parts) → (parameters : Parameters) → (journal : List Entry) → (ended : Ended) → IsRunThatFits image parameters journal ended →
-        (out : Stream) → (after : Stream) → (answered : Cause) → (again : List Entry) →
-        AuditAnswer (run_text forms.Claim image parameters journal ended) out after answered again → FindsSound out after answered }
+        (result : Result Output Refusal) → Gives (Audits (run_text forms.Claim image parameters journal ended)) (IsNoClaim (run_text forms.Claim image parameters journal ended)) result →
+        FindsSound result }
 {}
 
 /// What `save` writes is a checkpoint that `resume` takes, however often evictions are then tried; and a checkpoint

@@ -5,16 +5,19 @@
 mod answers;
 mod assembling;
 mod auditing;
+mod commands;
 mod err_lines;
+mod forms;
 mod laws;
 mod listings;
 mod making;
+mod outputs;
 mod replaying;
 mod resuming;
 mod routing;
 mod running;
-mod runs;
 mod saving;
+mod streams;
 mod top;
 mod working;
 

@@ -1,24 +1,20 @@
-ghost use Rattle.std.specs.Prelude.{◌≡◌, ◌≤◌, length, map, string_bytes};
+ghost use Rattle.std.specs.Prelude.{◌≡◌, ◌≤◌, map, string_bytes};
 ghost use Rattle.alw_config.specs.Choices.{CommandIsWithin};
 ghost use Rattle.alw_config.specs.declared.commands.Command.TheVariants as commands;
-ghost use Rattle.alw_cli.specs.Answers.{task_of, Answers, IsComplete, Tells};
+ghost use Rattle.alw_config.specs.declared.commands.How.TheVariants as hows;
+ghost use Rattle.alw_cli.specs.Answers.{Answers, IsComplete, Tells};
+ghost use Rattle.alw_cli.specs.Headline.{Headline};
 ghost use Rattle.alw_cli.specs.Streams.{stream_of};
+ghost use Rattle.alw_cli.specs.Tasks.{Answered};
+ghost use Rattle.alw_cli.specs.Working.{work_task};
 
-use crate::answers::{Cause, Done, InputErr, MOST_INPUT};
-use crate::assembling::assemble_source;
-use crate::auditing::audit_bytes;
+use crate::answers::{Cause, Done};
+use crate::commands::{Work, carry_out, workers_of};
 use crate::err_lines::err_line;
-use crate::making::make_workload;
-use crate::replaying::replay_bytes;
-use crate::resuming::resume_bytes;
-use crate::routing::route_bytes;
-use crate::running::run_bytes;
-use crate::saving::save_bytes;
+use crate::streams::{bytes_for, write_made};
 use crate::working::work_bytes;
-use alw_config::{Command, Form, How, command};
-use alw_image::Params;
-use alw_io::{ReadErr, Sink, Source, read_all, write_whole};
-use alw_num::Bytes;
+use alw_config::command;
+use alw_io::{Sink, Source, write_whole};
 use alw_work::Gate;
 use std::alloc::Global;
 use std::sync::Wait;
@@ -29,8 +25,8 @@ use std::thread::Threads;
 /// a workload and reads nothing, and writes what comes of it to `out`. A refusal, a fault of the outside and
 /// want of memory have a line on `err`.
 ///
-/// Workers run on threads that `rt` gives, and each passes `gate` before a locked step. With them the call
-/// may wait; what it promises holds where it returns.
+/// Workers run on threads that `rt` gives, and each passes `gate` once a visit of up to 64 steps, before it locks
+/// the node. With them the call may wait; what it promises holds where it returns.
 ///
 /// The status follows from the cause: 0 is a source that was assembled, a workload that was made, a run that
 /// halted, messages that arrived, a checkpoint that was written or a claim that is sound, 2 refused words,
@@ -49,6 +45,9 @@ pub fn alewife<R: Threads + Wait + Sync, S: Source, K: Sink, E: Sink, G: Gate>(
         (stream_of (S.left input.old) (S.faults input.old)) (stream_of (S.left input.new) (S.faults input.new))
         (stream_of (K.held out.old) (K.faults out.old)) (stream_of (K.held out.new) (K.faults out.new))
         result.cause result.journal result.merged }
+    ensures headline { Headline (map string_bytes words.now)
+        (stream_of (S.left input.old) (S.faults input.old)) (stream_of (S.left input.new) (S.faults input.new))
+        result.cause result.journal }
     ensures complete { IsComplete (map string_bytes words.now)
         (stream_of (S.left input.old) (S.faults input.old)) (stream_of (S.left input.new) (S.faults input.new))
         (stream_of (K.held out.old) (K.faults out.old)) (stream_of (K.held out.new) (K.faults out.new))
@@ -83,88 +82,43 @@ fn answer<R: Threads + Wait + Sync, S: Source, K: Sink, G: Gate>(
         Ok(command) => command,
         Err(e) => return Done::without(alloc, Cause::Words(e)),
     };
-    if !reads(&command) {
-        let none = Bytes::empty(alloc);
-        return perform::<R, K, G>(rt, alloc, command, none.bytes(), out, gate);
+    match workers_of(&command) {
+        None => carry_out(alloc, command, input, out),
+        Some(work) => carry_out_by::<R, S, K, G>(rt, alloc, &work, input, out, gate),
     }
-    let bytes = match read_all(alloc, input, MOST_INPUT) {
+}
+
+// Carries out a run by workers.
+fn carry_out_by<R: Threads + Wait + Sync, S: Source, K: Sink, G: Gate>(
+    rt: &R,
+    alloc: Global,
+    work: &Work,
+    input: &mut S,
+    out: &mut K,
+    gate: &G,
+) -> Done
+    requires within { CommandIsWithin (commands.Run (hows.Workers work.now.workers) work.now.params work.now.write) }
+    ensures answered { Answered (work_task work.now.workers work.now.params work.now.write)
+        (stream_of (S.left input.old) (S.faults input.old)) (stream_of (S.left input.new) (S.faults input.new))
+        (stream_of (K.held out.old) (K.faults out.old)) (stream_of (K.held out.new) (K.faults out.new))
+        result.cause result.journal result.merged }
+    ensures input_count { S.faults input.old ≤ S.faults input.new }
+    ensures out_count { K.faults out.old ≤ K.faults out.new }
+{
+    let bytes = match bytes_for(alloc, true, input) {
         Ok(bytes) => bytes,
-        Err(ReadErr::Failed) => return Done::without(alloc, Cause::ReadFault),
-        Err(ReadErr::TooLong) => return Done::without(alloc, Cause::Input(InputErr::TooLong)),
-        Err(ReadErr::NoMemory) => return Done::without(alloc, Cause::NoMemory),
+        Err(cause) => return Done::without(alloc, cause),
     };
-    perform::<R, K, G>(rt, alloc, command, bytes.bytes(), out, gate)
-}
-
-// A command reads its input.
-fn reads(command: &Command) -> bool
-    ensures { result ≡ (task_of command.now).reads }
-{
-    match command {
-        Command::Gen { .. } => false,
-        _ => true,
-    }
-}
-
-// Carries out a command on the whole input.
-fn perform<R: Threads + Wait + Sync, K: Sink, G: Gate>(
-    rt: &R,
-    alloc: Global,
-    command: Command,
-    bytes: &[u8],
-    out: &mut K,
-    gate: &G,
-) -> Done
-    requires within { CommandIsWithin command }
-    requires few { length bytes.now ≤ MOST_INPUT }
-    ensures answer { (task_of command).Answers bytes.now (stream_of (K.held out.old) (K.faults out.old)) (stream_of (K.held out.new) (K.faults out.new)) result.cause result.journal }
-    ensures merges { (task_of command).Merges bytes.now result.cause result.journal result.merged }
-    ensures out_count { K.faults out.old ≤ K.faults out.new }
-{
-    match command {
-        Command::Asm { write } => assemble_source(alloc, write, bytes, out),
-        Command::Run { how, params, write } => {
-            run_by::<R, K, G>(rt, alloc, how, &params, write, bytes, out, gate)
-        }
-        Command::Replay { write } => replay_bytes(alloc, write, bytes, out),
-        Command::Audit => audit_bytes(alloc, bytes, out),
-        Command::Gen {
-            seed,
-            width,
-            height,
-            size,
-        } => make_workload(alloc, seed, width, height, size, out),
-        Command::Route { seed } => route_bytes(alloc, seed, bytes, out),
-        Command::Save { at } => save_bytes(alloc, at, bytes, out),
-        Command::Resume { seed, evict, write } => {
-            resume_bytes(alloc, seed, evict, write, bytes, out)
-        }
-    }
-}
-
-// Runs an image by a seed or by workers.
-fn run_by<R: Threads + Wait + Sync, K: Sink, G: Gate>(
-    rt: &R,
-    alloc: Global,
-    how: How,
-    params: &Params,
-    write: Form,
-    bytes: &[u8],
-    out: &mut K,
-    gate: &G,
-) -> Done
-    requires within { CommandIsWithin (commands.Run how params.now write) }
-    requires few { length bytes.now ≤ MOST_INPUT }
-    ensures answer { (task_of (commands.Run how params.now write)).Answers bytes.now (stream_of (K.held out.old) (K.faults out.old)) (stream_of (K.held out.new) (K.faults out.new)) result.cause result.journal }
-    ensures merges { (task_of (commands.Run how params.now write)).Merges bytes.now result.cause result.journal result.merged }
-    ensures out_count { K.faults out.old ≤ K.faults out.new }
-{
-    match how {
-        How::Seed(seed) => run_bytes(alloc, seed, params, write, bytes, out),
-        How::Workers(workers) => {
-            work_bytes::<R, K, G>(rt, alloc, workers, params, write, bytes, out, gate)
-        }
-    }
+    let made = work_bytes::<R, G>(
+        rt,
+        alloc,
+        work.workers,
+        &work.params,
+        work.write,
+        bytes.bytes(),
+        gate,
+    );
+    write_made(alloc, made, out)
 }
 
 // Writes the line of an answer.

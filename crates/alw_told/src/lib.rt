@@ -3,4 +3,4 @@
 
 mod telling;
 
-pub use telling::tell;
+pub use telling::{memory_of, tell, tell_head};

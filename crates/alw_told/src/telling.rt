@@ -5,11 +5,12 @@ ghost use Rattle.alw_model.specs.Counts.{memory_words, directory_lines, director
 ghost use Rattle.alw_memory.specs.Views.{IsViewOf};
 ghost use Rattle.alw_mesh.specs.Histories.{state_of};
 ghost use Rattle.alw_report.specs.Reports.{told_of};
+ghost use Rattle.alw_told.specs.Heads.{head_of};
 
 use alw_memory::HomeView;
 use alw_mesh::Machine;
 use alw_model::Ended;
-use alw_msg::{Prints, Words, stretches};
+use alw_msg::{Prints, Stretches, Words, stretches};
 use alw_num::{LineNo, NoMemory, State};
 use alw_report::{DirectoryLine, DirectoryLines, Report, put_line};
 use std::alloc::Global;
@@ -19,8 +20,20 @@ use std::alloc::Global;
 pub fn tell(alloc: Global, machine: &Machine, ended: Ended) -> Result<Report, NoMemory>
     ensures { IfOk result (λ told. told ≡ told_of machine.now.image machine.now.parameters machine.now.journal ended) }
 {
+    let mut report = tell_head(alloc, machine, ended);
+    report.runs = stretches(alloc, machine.turns())?;
+    report.prints = Prints::from_slice(alloc, machine.prints())?;
+    report.memory = memory_of(alloc, machine)?;
+    report.directory = directory_of(alloc, machine)?;
+    Ok(report)
+}
+
+/// What a report's first lines tell of it, which are a summary's: the lists are left empty.
+pub fn tell_head(alloc: Global, machine: &Machine, ended: Ended) -> Report
+    ensures { result ≡ head_of (told_of machine.now.image machine.now.parameters machine.now.journal ended) }
+{
     let image = machine.image();
-    Ok(Report {
+    Report {
         width: image.width(),
         height: image.height(),
         contexts: image.contexts(),
@@ -28,15 +41,15 @@ pub fn tell(alloc: Global, machine: &Machine, ended: Ended) -> Result<Report, No
         params: *machine.params(),
         ended,
         counts: machine.counts(),
-        runs: stretches(alloc, machine.turns())?,
-        prints: Prints::from_slice(alloc, machine.prints())?,
-        memory: memory_of(alloc, machine)?,
-        directory: directory_of(alloc, machine)?,
-    })
+        runs: Stretches::empty(alloc),
+        prints: Prints::empty(alloc),
+        memory: Words::empty(alloc),
+        directory: DirectoryLines::empty(alloc),
+    }
 }
 
-// The words of shared data whose current value isn't 0, each with its address, ascending.
-fn memory_of(alloc: Global, machine: &Machine) -> Result<Words, NoMemory>
+/// The words of shared data whose current value isn't 0, each with its address, ascending.
+pub fn memory_of(alloc: Global, machine: &Machine) -> Result<Words, NoMemory>
     ensures { IfOk result (λ words. words ≡ memory_words machine.now.image machine.now.parameters (state_of machine.now)) }
 {
     let mut words = Words::empty(alloc);

@@ -1,27 +1,37 @@
--- The run of the trace that was read, or why it was refused.
-use Rattle.alw_cli.specs.Replaying.{Spells}
-use Rattle.alw_cli.specs.Streams.{stream_of}
-use Rattle.alw_cli.proofs.Made.{keeps, replay_answer, replay_refused}
+-- The trace that was read was taken again to an end, or what is refused.
+use Rattle.std.proofs.Common.{sym, subst}
+use Rattle.std.proofs.lemmas.Result.{err_from_is_err_and}
+use Rattle.alw_cli.specs.declared.answers.InputErr.TheVariants as reason
+use Rattle.alw_cli.specs.Replaying.{Spells, Replays, IsNoReplay}
+use Rattle.alw_cli.proofs.Refused.{no_text, no_replay}
+use Rattle.alw_cli.proofs.Told.{not_taken, no_end, replays}
 use Rattle.alw_cli.proofs.replaying.replay_bytes.Goals as goal
 
-pub replay_trace-requires : goal.replay_trace-requires
-replay_trace-requires g c = c.in-Ok.ensures.read.1
+pub returns-in_err-trace : goal.returns-in_err-trace
+returns-in_err-trace c =
+    let stop = err_from_is_err_and c.from_residual.result c.from_residual.ensures.1 in
+    rw (stop.1, stop.2) (no_text (Replays c.args.form c.args.bytes.now) (IsNoReplay c.args.bytes.now) c.in_err-trace.field-0.0 (λ fault. (fault, c.in_err-trace.ensures.read)))
 
-pub returns-in-Ok-replay_trace-clause-answer : goal.returns-in-Ok-replay_trace-clause-answer
-returns-in-Ok-replay_trace-clause-answer g c =
-    let before = stream_of (g.K.Sink.held c.args.out.now) (g.K.Sink.faults c.args.out.now) in
-    let after = stream_of (g.K.Sink.held c.write_run.new.out) (g.K.Sink.faults c.write_run.new.out) in
-    let spells : Spells c.args.bytes.now c.in-Ok.trace =
-    record { text = c.in-Ok.ensures.read.0; is = c.in-Ok.ensures.read.1; types = c.in-Ok.ensures.types } in
-    rw c.write_run.ensures.journal
-    (replay_answer c.args.form c.args.bytes.now c.in-Ok.trace spells c.in-Ok-replay_trace.run' c.in-Ok-replay_trace.ensures before after
-    c.write_run.result.cause c.write_run.ensures.written)
+pub returns-in_err-machine : goal.returns-in_err-machine
+returns-in_err-machine c =
+    let trace = c.in_ok-trace.trace in
+    let spells : Spells c.args.bytes.now trace = record { text = c.in_ok-trace.ensures.read.0; is = c.in_ok-trace.ensures.read.1; types = c.in_ok-trace.ensures.types } in
+    let stop = err_from_is_err_and c.from_residual-in_err-machine.result c.from_residual-in_err-machine.ensures.1 in
+    rw (stop.1, stop.2) (no_replay (Replays c.args.form c.args.bytes.now) (IsNoReplay c.args.bytes.now) trace.image trace.params
+    (λ number most is. not_taken c.args.bytes.now trace spells (reason.LimitDoesNotFit number most) is)
+    trace.journal c.in_err-machine.field-0.0 c.in_err-machine.ensures)
 
-pub returns-clause-answer : goal.returns-clause-answer
-returns-clause-answer g c =
-    let still = stream_of (g.K.Sink.held c.args.out.now) (g.K.Sink.faults c.args.out.now) in
-    let spells : Spells c.args.bytes.now c.in-Ok.trace =
-    record { text = c.in-Ok.ensures.read.0; is = c.in-Ok.ensures.read.1; types = c.in-Ok.ensures.types } in
-    rw c.without-in-Err-replay_trace.ensures.cause
-    (replay_refused c.args.form c.args.bytes.now c.in-Ok.trace spells still still (keeps _) c.without-in-Err-replay_trace.result.journal
-    c.without-in-Err-replay_trace.ensures.journal c.in-Err-replay_trace.cause c.in-Err-replay_trace.ensures)
+pub returns-in_err-ended : goal.returns-in_err-ended
+returns-in_err-ended c =
+    let trace = c.in_ok-trace.trace in
+    let spells : Spells c.args.bytes.now trace = record { text = c.in_ok-trace.ensures.read.0; is = c.in_ok-trace.ensures.read.1; types = c.in_ok-trace.ensures.types } in
+    let stop = err_from_is_err_and c.from_residual-in_err-ended.result c.from_residual-in_err-ended.ensures.1 in
+    rw (stop.1, stop.2) (no_end (Replays c.args.form c.args.bytes.now) c.args.bytes.now trace spells c.in_ok-machine.field-0.machine c.in_err-ended.field-0.0 c.in_err-ended.ensures)
+
+pub returns : goal.returns
+returns c =
+    let trace = c.in_ok-trace.trace in
+    let spells : Spells c.args.bytes.now trace = record { text = c.in_ok-trace.ensures.read.0; is = c.in_ok-trace.ensures.read.1; types = c.in_ok-trace.ensures.types } in
+    subst (Replays c.args.form c.args.bytes.now) (sym c.in_ok-output.ensures)
+    (replays trace c.in_ok-machine.field-0.machine c.in_ok-machine.field-0.kept c.in_ok-machine.ensures c.in_ok-ended.ended c.in_ok-ended.ensures
+    c.args.form c.args.bytes.now spells)

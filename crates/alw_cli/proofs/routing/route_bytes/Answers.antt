@@ -1,27 +1,46 @@
--- The run of the trace that was read, or why it was refused.
-use Rattle.alw_cli.specs.Replaying.{Spells}
-use Rattle.alw_cli.specs.Streams.{stream_of}
-use Rattle.alw_cli.proofs.Made.{keeps, route_answer, route_refused}
+-- The messages of the trace that was read arrived, or what is refused.
+use Rattle.std.proofs.Common.{refl, ap, ◌∙◌}
+use Rattle.std.proofs.lemmas.Result.{err_from_is_err_and}
+use Rattle.alw_mesh.specs.Histories.{History}
+use Rattle.alw_route.specs.Texts.{route_text_of}
+use Rattle.alw_cli.specs.declared.answers.InputErr.TheVariants as reason
+use Rattle.alw_cli.specs.Replaying.{Spells, IsNoReplay}
+use Rattle.alw_cli.specs.Routing.{Routes}
+use Rattle.alw_cli.proofs.Refused.{no_text, no_replay}
+use Rattle.alw_cli.proofs.Told.{not_taken, no_end, finished}
 use Rattle.alw_cli.proofs.routing.route_bytes.Goals as goal
 
-pub route_trace-requires : goal.route_trace-requires
-route_trace-requires g c = c.in-Ok.ensures.read.1
+pub returns-in_err-trace : goal.returns-in_err-trace
+returns-in_err-trace c =
+    let stop = err_from_is_err_and c.from_residual.result c.from_residual.ensures.1 in
+    rw (stop.1, stop.2) (no_text (Routes c.args.bytes.now) (IsNoReplay c.args.bytes.now) c.in_err-trace.field-0.0 (λ fault. (fault, c.in_err-trace.ensures.read)))
 
-pub returns-in-Ok-route_trace-clause-answer : goal.returns-in-Ok-route_trace-clause-answer
-returns-in-Ok-route_trace-clause-answer g c =
-    let before = stream_of (g.K.Sink.held c.args.out.now) (g.K.Sink.faults c.args.out.now) in
-    let after = stream_of (g.K.Sink.held c.write_text.new.out) (g.K.Sink.faults c.write_text.new.out) in
-    let spells : Spells c.args.bytes.now c.in-Ok.trace =
-    record { text = c.in-Ok.ensures.read.0; is = c.in-Ok.ensures.read.1; types = c.in-Ok.ensures.types } in
-    rw c.write_text.ensures.journal
-    (route_answer c.args.bytes.now c.in-Ok.trace spells c.in-Ok-route_trace.field-0 c.in-Ok-route_trace.ensures before after
-    c.write_text.result.cause c.write_text.ensures.written)
+pub returns-in_err-machine : goal.returns-in_err-machine
+returns-in_err-machine c =
+    let trace = c.in_ok-trace.trace in
+    let spells : Spells c.args.bytes.now trace = record { text = c.in_ok-trace.ensures.read.0; is = c.in_ok-trace.ensures.read.1; types = c.in_ok-trace.ensures.types } in
+    let stop = err_from_is_err_and c.from_residual-in_err-machine.result c.from_residual-in_err-machine.ensures.1 in
+    rw (stop.1, stop.2) (no_replay (Routes c.args.bytes.now) (IsNoReplay c.args.bytes.now) trace.image trace.params
+    (λ number most is. not_taken c.args.bytes.now trace spells (reason.LimitDoesNotFit number most) is)
+    trace.journal c.in_err-machine.field-0.0 c.in_err-machine.ensures.replays)
 
-pub returns-clause-answer : goal.returns-clause-answer
-returns-clause-answer g c =
-    let still = stream_of (g.K.Sink.held c.args.out.now) (g.K.Sink.faults c.args.out.now) in
-    let spells : Spells c.args.bytes.now c.in-Ok.trace =
-    record { text = c.in-Ok.ensures.read.0; is = c.in-Ok.ensures.read.1; types = c.in-Ok.ensures.types } in
-    rw c.without-in-Err-route_trace.ensures.cause
-    (route_refused c.args.bytes.now c.in-Ok.trace spells still still (keeps _) c.without-in-Err-route_trace.result.journal
-    c.without-in-Err-route_trace.ensures.journal c.in-Err-route_trace.cause c.in-Err-route_trace.ensures)
+pub returns-in_err-end_of_trace : goal.returns-in_err-end_of_trace
+returns-in_err-end_of_trace c =
+    let trace = c.in_ok-trace.trace in
+    let spells : Spells c.args.bytes.now trace = record { text = c.in_ok-trace.ensures.read.0; is = c.in_ok-trace.ensures.read.1; types = c.in_ok-trace.ensures.types } in
+    let stop = err_from_is_err_and c.from_residual-in_err-end_of_trace.result c.from_residual-in_err-end_of_trace.ensures.1 in
+    rw (stop.1, stop.2) (no_end (Routes c.args.bytes.now) c.args.bytes.now trace spells c.in_ok-machine.field-0.machine c.in_err-end_of_trace.field-0.0 c.in_err-end_of_trace.ensures)
+
+pub returns : goal.returns
+returns c =
+    let trace = c.in_ok-trace.trace in
+    let ends = c.in_ok-end_of_trace.ensures in
+    record {
+      trace = trace;
+      spelled = record { text = c.in_ok-trace.ensures.read.0; is = c.in_ok-trace.ensures.read.1; types = c.in_ok-trace.ensures.types };
+      same = c.into_parts-journal.ensures.journal ∙ ap (λ (h : History). h.journal) ends.0;
+      finished = finished trace c.in_ok-machine.field-0.machine c.in_ok-machine.field-0.kept c.in_ok-machine.ensures.replays c.in_ok-end_of_trace.field-0 ends;
+      text = c.in_ok-text.ensures ∙ ap (λ (h : History). route_text_of h.image h.parameters h.journal) ends.0;
+      ending = refl;
+      merged = refl;
+    }

@@ -1,25 +1,25 @@
--- The checkpoint of the trace that was read, or why it was refused.
+-- The checkpoint of the trace that was read, or what is refused.
+use Rattle.std.proofs.lemmas.Result.{err_from_is_err_and}
 use Rattle.alw_cli.specs.Replaying.{Spells}
-use Rattle.alw_cli.specs.Streams.{stream_of}
-use Rattle.alw_cli.proofs.Made.{keeps}
-use Rattle.alw_cli.proofs.Saved.{save_answer, save_refused}
+use Rattle.alw_cli.specs.Saving.{Saves, IsNoCut}
+use Rattle.alw_cli.proofs.Refused.{no_text}
+use Rattle.alw_cli.proofs.Saved.{not_saved, saved}
 use Rattle.alw_cli.proofs.saving.save_bytes.Goals as goal
 
-pub returns-in-Ok-save_trace-clause-answer : goal.returns-in-Ok-save_trace-clause-answer
-returns-in-Ok-save_trace-clause-answer g c =
-    let before = stream_of (g.K.Sink.held c.args.out.now) (g.K.Sink.faults c.args.out.now) in
-    let after = stream_of (g.K.Sink.held c.write_text.new.out) (g.K.Sink.faults c.write_text.new.out) in
-    let spells : Spells c.args.bytes.now c.in-Ok.trace =
-    record { text = c.in-Ok.ensures.read.0; is = c.in-Ok.ensures.read.1; types = c.in-Ok.ensures.types } in
-    rw c.write_text.ensures.journal
-    (save_answer c.args.at c.args.bytes.now c.in-Ok.trace spells c.in-Ok-save_trace.field-0 c.in-Ok-save_trace.ensures before after
-    c.write_text.result.cause c.write_text.ensures.written)
+pub returns-in_err-trace : goal.returns-in_err-trace
+returns-in_err-trace c =
+    let stop = err_from_is_err_and c.from_residual.result c.from_residual.ensures.1 in
+    rw (stop.1, stop.2) (no_text (Saves c.args.at c.args.bytes.now) (IsNoCut c.args.bytes.now) c.in_err-trace.field-0.0 (λ fault. (fault, c.in_err-trace.ensures.read)))
 
-pub returns-clause-answer : goal.returns-clause-answer
-returns-clause-answer g c =
-    let still = stream_of (g.K.Sink.held c.args.out.now) (g.K.Sink.faults c.args.out.now) in
-    let spells : Spells c.args.bytes.now c.in-Ok.trace =
-    record { text = c.in-Ok.ensures.read.0; is = c.in-Ok.ensures.read.1; types = c.in-Ok.ensures.types } in
-    rw c.without-in-Err-save_trace.ensures.cause
-    (save_refused c.args.at c.args.bytes.now c.in-Ok.trace spells still still (keeps _) c.without-in-Err-save_trace.result.journal
-    c.without-in-Err-save_trace.ensures.journal c.in-Err-save_trace.cause c.in-Err-save_trace.ensures)
+pub returns-in_err-machine : goal.returns-in_err-machine
+returns-in_err-machine c =
+    let trace = c.in_ok-trace.trace in
+    let spells : Spells c.args.bytes.now trace = record { text = c.in_ok-trace.ensures.read.0; is = c.in_ok-trace.ensures.read.1; types = c.in_ok-trace.ensures.types } in
+    let stop = err_from_is_err_and c.from_residual-in_err-machine.result c.from_residual-in_err-machine.ensures.1 in
+    rw (stop.1, stop.2) (not_saved c.args.at c.args.bytes.now trace spells (Saves c.args.at c.args.bytes.now) c.in_err-machine.field-0.0 c.in_err-machine.ensures)
+
+pub returns : goal.returns
+returns c =
+    let trace = c.in_ok-trace.trace in
+    let spells : Spells c.args.bytes.now trace = record { text = c.in_ok-trace.ensures.read.0; is = c.in_ok-trace.ensures.read.1; types = c.in_ok-trace.ensures.types } in
+    saved c.args.at c.args.bytes.now trace spells c.in_ok-machine.machine _ _ c.in_ok-machine.ensures c.into_parts-journal.ensures.journal c.in_ok-text.ensures

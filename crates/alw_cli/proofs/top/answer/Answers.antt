@@ -1,33 +1,21 @@
-use Rattle.std.proofs.Common.{Bool, sym, subst, ◌∙◌}
+use Rattle.std.proofs.Common.{sym, subst}
+use Rattle.alw_config.specs.declared.commands.Command.{Command}
 use Rattle.alw_cli.specs.Answers.{task_of}
-use Rattle.alw_cli.specs.Streams.{stream_of, IsRead}
-use Rattle.alw_cli.proofs.Answering.{answers_by, reads_all, reads_none}
+use Rattle.alw_cli.specs.Streams.{stream_of}
+use Rattle.alw_cli.specs.Tasks.{Answered}
+use Rattle.alw_cli.proofs.Answering.{answers_to}
 use Rattle.alw_cli.proofs.top.answer.Goals as goal
 
-pub returns-then-not-reads-clause-answers : goal.returns-then-not-reads-clause-answers
-returns-then-not-reads-clause-answers g c =
-    let still = stream_of (g.S.Source.left c.args.input.now) (g.S.Source.faults c.args.input.now) in
-    answers_by _ _ _ _ _ c.perform.result.cause c.perform.result.journal c.perform.result.merged (record {
-      command = c.in-Ok.command;
-      asked = c.in-Ok.ensures.cases;
-      bytes = c.bytes.result.now;
-      read = reads_none (task_of c.in-Ok.command).reads (g.S.Source.left c.args.input.now) (g.S.Source.faults c.args.input.now) c.bytes.result.now
-          (sym c.reads.ensures ∙ c.if-not-reads.true) (c.bytes.ensures ∙ c.empty-none.ensures);
-      answer = c.perform.ensures.answer;
-      merges = c.perform.ensures.merges;
-    })
+pub returns-in-None-clause-answers : goal.returns-in-None-clause-answers
+returns-in-None-clause-answers g c =
+    answers_to _ c.in-Ok.command c.in-Ok.ensures.cases _ _ _ _ c.carry_out.result.cause c.carry_out.result.journal c.carry_out.result.merged c.carry_out.ensures.answered
 
-pub returns-clause-answers : goal.returns-clause-answers
-returns-clause-answers g c =
-    let told = c.in-Ok-read_all.ensures.took in
+pub returns-in-Some-clause-answers : goal.returns-in-Some-clause-answers
+returns-in-Some-clause-answers g c =
     let before = stream_of (g.S.Source.left c.args.input.now) (g.S.Source.faults c.args.input.now) in
-    let after = stream_of (g.S.Source.left c.read_all.new.source) (g.S.Source.faults c.read_all.new.source) in
-    answers_by _ _ _ _ _ c.perform-2.result.cause c.perform-2.result.journal c.perform-2.result.merged (record {
-      command = c.in-Ok.command;
-      asked = c.in-Ok.ensures.cases;
-      bytes = c.bytes-3.result.now;
-      read = subst (λ (reads : Bool). IsRead reads before after c.bytes-3.result.now) (sym (sym c.reads.ensures ∙ c.if-not-reads.false))
-          (reads_all _ _ (g.S.Source.faults c.args.input.now) (g.S.Source.faults c.read_all.new.source) _ _ c.bytes-3.ensures told);
-      answer = c.perform-2.ensures.answer;
-      merges = c.perform-2.ensures.merges;
-    })
+    let after = stream_of (g.S.Source.left c.carry_out_by.new.input) (g.S.Source.faults c.carry_out_by.new.input) in
+    let still = stream_of (g.K.Sink.held c.args.out.now) (g.K.Sink.faults c.args.out.now) in
+    let gained = stream_of (g.K.Sink.held c.carry_out_by.new.out) (g.K.Sink.faults c.carry_out_by.new.out) in
+    let done = c.carry_out_by.result in
+    answers_to _ c.in-Ok.command c.in-Ok.ensures.cases before after still gained done.cause done.journal done.merged
+    (subst (λ (k : Command). Answered (task_of k) before after still gained done.cause done.journal done.merged) (sym c.in-Some.ensures) c.carry_out_by.ensures.answered)

@@ -1,54 +1,28 @@
--- What workers made of the image that was read, or why they didn't run it.
-use Rattle.std.proofs.Common.{subst}
-use Rattle.alw_image.specs.Images.{IsImage}
-use Rattle.alw_cli.specs.Streams.{stream_of}
-use Rattle.alw_cli.proofs.Made.{keeps, work_answer, work_merges, work_refused, none_merged}
+-- The machine that workers left was taken on to an end, or what is refused.
+use Rattle.std.proofs.Common.{length, sym, ap, subst, ◌∙◌}
+use Rattle.std.proofs.lemmas.Result.{err_from_is_err_and}
+use Rattle.alw_cli.specs.Working.{Works, IsNotWorked}
+use Rattle.alw_cli.proofs.Refused.{no_image}
+use Rattle.alw_cli.proofs.Begun.{not_worked, worked}
 use Rattle.alw_cli.proofs.working.work_bytes.Goals as goal
 
-pub returns-in-Ok-work_image-clause-answer : goal.returns-in-Ok-work_image-clause-answer
-returns-in-Ok-work_image-clause-answer g c =
-    let before = stream_of (g.K.Sink.held c.args.out.now) (g.K.Sink.faults c.args.out.now) in
-    let after = stream_of (g.K.Sink.held c.write_worked.new.out) (g.K.Sink.faults c.write_worked.new.out) in
-    rw c.write_worked.ensures.journal
-    (work_answer c.args.workers c.args.params.now c.args.form c.args.bytes.now c.in-Ok.image (record {
-      same = c.in-Ok.ensures.parts;
-      spelled = c.in-Ok.ensures.found;
-      accepted = c.in-Ok.ensures.accepted;
-      is = subst IsImage c.image.view_is c.image.invariant;
-    }) c.in-Ok-work_image.worked c.in-Ok-work_image.ensures before after c.write_worked.result.cause c.write_worked.ensures.written)
+pub returns-in_err-image : goal.returns-in_err-image
+returns-in_err-image g c =
+    let stop = err_from_is_err_and c.from_residual.result c.from_residual.ensures.1 in
+    rw (stop.1, stop.2) (no_image (Works c.args.workers c.args.params.now c.args.form c.args.bytes.now) (IsNotWorked c.args.workers c.args.params.now c.args.bytes.now) c.in_err-image.field-0.0 c.in_err-image.ensures.fault)
 
-pub returns-in-Ok-work_image-clause-merges : goal.returns-in-Ok-work_image-clause-merges
-returns-in-Ok-work_image-clause-merges g c =
-    let before = stream_of (g.K.Sink.held c.args.out.now) (g.K.Sink.faults c.args.out.now) in
-    let after = stream_of (g.K.Sink.held c.write_worked.new.out) (g.K.Sink.faults c.write_worked.new.out) in
-    rw (c.write_worked.ensures.journal, c.write_worked.ensures.merged)
-    (work_merges c.args.workers c.args.params.now c.args.form c.args.bytes.now c.in-Ok.image (record {
-      same = c.in-Ok.ensures.parts;
-      spelled = c.in-Ok.ensures.found;
-      accepted = c.in-Ok.ensures.accepted;
-      is = subst IsImage c.image.view_is c.image.invariant;
-    }) c.in-Ok-work_image.worked c.in-Ok-work_image.ensures before after c.write_worked.result.cause c.write_worked.ensures.written)
+pub returns-in_err-fit_workers : goal.returns-in_err-fit_workers
+returns-in_err-fit_workers g c =
+    let stop = err_from_is_err_and c.from_residual-in_err-fit_workers.result c.from_residual-in_err-fit_workers.ensures.1 in
+    rw (stop.1, stop.2) (not_worked (Works c.args.workers c.args.params.now c.args.form c.args.bytes.now) c.args.workers c.args.params.now c.args.bytes.now c.in_ok-image.image
+    (record { same = c.in_ok-image.ensures.parts; spelled = c.in_ok-image.ensures.found; accepted = c.in_ok-image.ensures.accepted })
+    c.in_err-fit_workers.field-0.0 c.in_err-fit_workers.ensures)
 
-pub returns-clause-answer : goal.returns-clause-answer
-returns-clause-answer g c =
-    let still = stream_of (g.K.Sink.held c.args.out.now) (g.K.Sink.faults c.args.out.now) in
-    rw c.without-in-Err-work_image.ensures.cause
-    (work_refused c.args.workers c.args.params.now c.args.form c.args.bytes.now c.in-Ok.image (record {
-      same = c.in-Ok.ensures.parts;
-      spelled = c.in-Ok.ensures.found;
-      accepted = c.in-Ok.ensures.accepted;
-      is = subst IsImage c.image.view_is c.image.invariant;
-    }) still still (keeps _) c.without-in-Err-work_image.result.journal c.without-in-Err-work_image.ensures.journal c.in-Err-work_image.cause
-    c.in-Err-work_image.ensures)
-
-pub returns-clause-merges : goal.returns-clause-merges
-returns-clause-merges g c =
-    let still = stream_of (g.K.Sink.held c.args.out.now) (g.K.Sink.faults c.args.out.now) in
-    rw c.without-in-Err-work_image.ensures.cause
-    (none_merged c.args.workers c.args.params.now c.args.form c.args.bytes.now c.in-Ok.image (record {
-      same = c.in-Ok.ensures.parts;
-      spelled = c.in-Ok.ensures.found;
-      accepted = c.in-Ok.ensures.accepted;
-      is = subst IsImage c.image.view_is c.image.invariant;
-    }) still still (keeps _) c.without-in-Err-work_image.result.journal c.without-in-Err-work_image.ensures.journal c.in-Err-work_image.cause
-    c.in-Err-work_image.ensures c.without-in-Err-work_image.result.merged c.without-in-Err-work_image.ensures.merged)
+pub returns : goal.returns
+returns g c =
+    subst (Works c.args.workers c.args.params.now c.args.form c.args.bytes.now)
+    (sym ((λ i. record (c.in_ok-output.ensures i) { merged = (c.len-merged.ensures ∙ ap length c.journal.ensures.journal) i })))
+    (worked c.in_ok-image.image c.args.params.now c.in_ok-machine.machine c.in_ok-machine.ensures c.finish.new.machine c.in_ok-ended.ended c.in_ok-ended.ensures
+    c.args.workers c.args.form c.args.bytes.now
+    (record { same = c.in_ok-image.ensures.parts; spelled = c.in_ok-image.ensures.found; accepted = c.in_ok-image.ensures.accepted })
+    c.in_ok-fit_workers.ensures.1)

@@ -1,0 +1,114 @@
+-- The headline of what the program answers.
+use Rattle.std.proofs.Common.{◌≡◌, ℕ, true, false, List, refl, sym, ap, subst, ◌∙◌, ◌⊎◌, inl, inr}
+use Rattle.std.proofs.lemmas.Bool.{false≢true}
+use Rattle.alw_msg.specs.declared.events.Entry.{Entry}
+use Rattle.alw_image.specs.declared.parts.Parts.{Parts}
+use Rattle.alw_image.specs.Faults.{image_in}
+use Rattle.alw_image.specs.Parameters.{Parameters}
+use Rattle.alw_model.specs.Headline.{IsCoherentRun, IsScheduled}
+use Rattle.alw_sched.specs.Schedules.{IsSeededRun}
+use Rattle.alw_config.specs.declared.commands.Form.{Form}
+use Rattle.alw_config.specs.declared.commands.Command.{Command}
+use Rattle.alw_config.specs.declared.commands.Command.TheVariants as commands
+use Rattle.alw_config.specs.declared.commands.How.TheVariants as hows
+use Rattle.alw_cli.specs.declared.answers.Cause.{Cause}
+use Rattle.alw_cli.specs.declared.answers.Cause.TheVariants as cause
+use Rattle.alw_cli.specs.declared.outputs.Output.{Output}
+use Rattle.alw_cli.specs.Outputs.{cause_of, ending_of}
+use Rattle.alw_cli.specs.Streams.{Stream}
+use Rattle.alw_cli.specs.Tasks.{Task, Reads, Answered}
+use Rattle.alw_cli.specs.Forms.{IsTold}
+use Rattle.alw_cli.specs.Running.{run_task}
+use Rattle.alw_cli.specs.Working.{work_task}
+use Rattle.alw_cli.specs.Replaying.{replay_task}
+use Rattle.alw_cli.specs.Resuming.{resume_task}
+use Rattle.alw_cli.specs.Answers.{task_of, Answers}
+use Rattle.alw_cli.specs.Headline.{has_journal, IsCoherent, Promised, Headline}
+use Rattle.alw_cli.proofs.Completing.{answered_to}
+
+-- an answer with a journal is an output, whose end is its cause, unless a write failed
+record HasOutput (task : Task) (input input' : Stream) (c : Cause) (journal : List Entry) : Type 0 where
+  pub output : Output
+  pub reads : Reads task input input' (λ bytes. task.Makes bytes output)
+  pub journal_is : journal ≡ output.journal
+  pub told : (c ≡ cause_of output.ending) ⊎ (c ≡ cause.WriteFault)
+
+has_output : (task : Task) (input input' out out' : Stream) (c : Cause) (journal : List Entry) (merged : ℕ) → Answered task input input' out out' c journal merged →
+    has_journal c ≡ true → HasOutput task input input' c journal
+has_output task input input' out out' cause.Fine journal merged made has =
+    record { output = made.output; reads = made.reads; journal_is = made.journal_is; told = inl made.written.0 }
+has_output task input input' out out' (cause.Trapped at) journal merged made has =
+    record { output = made.output; reads = made.reads; journal_is = made.journal_is; told = inl made.written.0 }
+has_output task input input' out out' (cause.Limit event) journal merged made has =
+    record { output = made.output; reads = made.reads; journal_is = made.journal_is; told = inl made.written.0 }
+has_output task input input' out out' cause.WriteFault journal merged made has =
+    record { output = made.output; reads = made.reads; journal_is = made.journal_is; told = inr refl }
+has_output task input input' out out' _ journal merged made has = absurd (false≢true has)
+
+-- what is told of a run is coherent
+module _ (image : Parts) (parameters : Parameters) (form : Form) (output : Output) (told : IsTold image parameters form output) (c : Cause) (journal : List Entry)
+    (same : journal ≡ output.journal) where
+  end_of : (c ≡ cause_of output.ending) ⊎ (c ≡ cause.WriteFault) → (c ≡ cause_of (ending_of told.ended)) ⊎ (c ≡ cause.WriteFault)
+  end_of (inl whole) = inl (whole ∙ ap cause_of told.ending)
+  end_of (inr part) = inr part
+
+  coherent : (c ≡ cause_of output.ending) ⊎ (c ≡ cause.WriteFault) → IsCoherent image parameters c journal
+  coherent end = record {
+    image_is = told.image_is;
+    parameters_are = told.parameters_are;
+    fits = told.fits;
+    ended = told.ended;
+    run = subst (λ (j : List Entry). IsCoherentRun image parameters j told.ended) (sym same) told.run;
+    told = end_of end;
+  }
+
+promised : (command : Command) (input input' out out' : Stream) (c : Cause) (journal : List Entry) (merged : ℕ) →
+    Answered (task_of command) input input' out out' c journal merged → has_journal c ≡ true → Promised command input input' c journal
+promised (commands.Run (hows.Seed seed) parameters form) input input' out out' c journal merged answer has =
+    let made = has_output (run_task seed parameters form) input input' out out' c journal merged answer has in
+    let runs = made.reads.holds in
+    let image = image_in made.reads.bytes in
+    record {
+      bytes = made.reads.bytes;
+      read = made.reads.read;
+      accepted = runs.accepted;
+      spelled = runs.spelled;
+      holds = record {
+        coherent = coherent image parameters form made.output runs.told c journal made.journal_is made.told;
+        scheduled = subst (λ (j : List Entry). IsScheduled image parameters j) (sym made.journal_is) runs.scheduled;
+        seeded = subst (λ (j : List Entry). IsSeededRun image parameters seed j) (sym made.journal_is) runs.seeded;
+      };
+    }
+promised (commands.Run (hows.Workers n) parameters form) input input' out out' c journal merged answer has =
+    let made = has_output (work_task n parameters form) input input' out out' c journal merged answer has in
+    let works = made.reads.holds in
+    record {
+      bytes = made.reads.bytes;
+      read = made.reads.read;
+      accepted = works.accepted;
+      spelled = works.spelled;
+      holds = coherent (image_in made.reads.bytes) parameters form made.output works.told c journal made.journal_is made.told;
+    }
+promised (commands.Replay form) input input' out out' c journal merged answer has =
+    let made = has_output (replay_task form) input input' out out' c journal merged answer has in
+    let replays = made.reads.holds in
+    record {
+      image = replays.trace.image;
+      parameters = replays.trace.params;
+      coherent = coherent replays.trace.image replays.trace.params form made.output replays.told c journal made.journal_is made.told;
+    }
+promised (commands.Resume seed evict form) input input' out out' c journal merged answer has =
+    let made = has_output (resume_task seed evict form) input input' out out' c journal merged answer has in
+    let resumes = made.reads.holds in
+    record {
+      image = resumes.machine.image;
+      parameters = resumes.machine.parameters;
+      coherent = coherent resumes.machine.image resumes.machine.parameters form made.output resumes.told c journal made.journal_is made.told;
+    }
+promised _ input input' out out' c journal merged answer has = tt
+
+pub headline : (words : List (List ℕ)) (input input' out out' : Stream) (c : Cause) (journal : List Entry) (merged : ℕ) →
+    Answers words input input' out out' c journal merged → Headline words input input' c journal
+headline words input input' out out' (cause.Words e) journal merged answer = λ command asked has. absurd (false≢true has)
+headline words input input' out out' c journal merged answer = λ command asked has.
+    promised command input input' out out' c journal merged (answered_to words input input' out out' c journal merged answer command asked) has

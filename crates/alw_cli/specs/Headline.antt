@@ -1,0 +1,71 @@
+-- The headline of what the program answers: of each command that answers a run's journal, what is promised of that journal.
+use Rattle.std.specs.Prelude.{◌≡◌, ℕ, ◌≤◌, Bool, true, false, None, List, ◌⊎◌, ⊤}
+use Rattle.alw_msg.specs.declared.events.Entry.{Entry}
+use Rattle.alw_image.specs.declared.parts.Parts.{Parts}
+use Rattle.alw_image.specs.Faults.{image_in, image_fault}
+use Rattle.alw_image.specs.Images.{IsImage, spelling}
+use Rattle.alw_image.specs.Parameters.{Parameters, AreParameters}
+use Rattle.alw_model.specs.declared.ends.Ended.{Ended}
+use Rattle.alw_model.specs.Headline.{IsCoherentRun, IsScheduled}
+use Rattle.alw_mesh.specs.declared.errors.TheConstants.{MOST_STEPS}
+use Rattle.alw_mesh.specs.Histories.{stamps_of}
+use Rattle.alw_sched.specs.Schedules.{IsSeededRun}
+use Rattle.alw_config.specs.declared.commands.Command.{Command}
+use Rattle.alw_config.specs.declared.commands.Command.TheVariants as commands
+use Rattle.alw_config.specs.declared.commands.How.TheVariants as hows
+use Rattle.alw_config.specs.Places.{IsCommand}
+use Rattle.alw_cli.specs.declared.answers.Cause.{Cause}
+use Rattle.alw_cli.specs.declared.answers.Cause.TheVariants as cause
+use Rattle.alw_cli.specs.Outputs.{ending_of, cause_of}
+use Rattle.alw_cli.specs.Streams.{Stream, ReadsAll}
+
+-- a run's journal was answered: up to its end, also where its text wasn't written whole
+abbrev pub has_journal : Cause → Bool
+has_journal cause.Fine = true
+has_journal (cause.Trapped at) = true
+has_journal (cause.Limit event) = true
+has_journal cause.WriteFault = true
+has_journal _ = false
+
+-- the journal is a coherent run of an image that fits, up to an end, which is the cause, unless a write failed
+pub record IsCoherent (image : Parts) (parameters : Parameters) (answered : Cause) (journal : List Entry) : Type 0 where
+  pub image_is : IsImage image
+  pub parameters_are : AreParameters parameters
+  pub fits : stamps_of image parameters ≤ MOST_STEPS
+  pub ended : Ended
+  pub run : IsCoherentRun image parameters journal ended
+  pub told : (answered ≡ cause_of (ending_of ended)) ⊎ (answered ≡ cause.WriteFault)
+
+-- of some image under some parameters
+pub record IsSomeCoherent (answered : Cause) (journal : List Entry) : Type 0 where
+  pub image : Parts
+  pub parameters : Parameters
+  pub coherent : IsCoherent image parameters answered journal
+
+-- the whole input is an image, of which this holds
+pub record IsOfImage (input input' : Stream) (Holds : Parts → Type 0) : Type 0 where
+  pub bytes : List ℕ
+  pub read : ReadsAll input input' bytes
+  pub accepted : image_fault bytes ≡ None
+  pub spelled : bytes ≡ spelling (image_in bytes)
+  pub holds : Holds (image_in bytes)
+
+-- a coherent run by the schedule of a seed
+pub record IsSeedsRun (seed : ℕ) (parameters : Parameters) (answered : Cause) (journal : List Entry) (image : Parts) : Type 0 where
+  pub coherent : IsCoherent image parameters answered journal
+  pub scheduled : IsScheduled image parameters journal
+  pub seeded : IsSeededRun image parameters seed journal
+
+-- what is promised of a command's journal
+abbrev pub Promised : Command → Stream → Stream → Cause → List Entry → Type 0
+Promised (commands.Run (hows.Seed seed) parameters form) input input' answered journal = IsOfImage input input' (IsSeedsRun seed parameters answered journal)
+Promised (commands.Run (hows.Workers workers) parameters form) input input' answered journal =
+    IsOfImage input input' (λ image. IsCoherent image parameters answered journal)
+Promised (commands.Replay form) input input' answered journal = IsSomeCoherent answered journal
+Promised (commands.Resume seed evict form) input input' answered journal = IsSomeCoherent answered journal
+Promised _ input input' answered journal = ⊤
+
+-- the words, the source before and after, and the cause and the journal that were answered
+abbrev pub Headline : List (List ℕ) → Stream → Stream → Cause → List Entry → Type 0
+Headline words input input' answered journal =
+    (command : Command) → IsCommand words command → has_journal answered ≡ true → Promised command input input' answered journal
