@@ -37,11 +37,6 @@ fn words_of(rt: &(impl Env + AllocGlobal)) -> Option<Vec<String>> {
     env::args(rt).ok()?.skip(1).collect(rt.alloc()).ok()
 }
 
-#[cfg(test)]
-mod tests;
-#[cfg(test)]
-mod work_tests;
-
 fn main(rt: HostRuntime) -> ExitCode {
     let alloc: Global = rt.alloc();
     let Some(words) = words_of(&rt) else {

@@ -88,13 +88,13 @@ fn logs_of(
     Ok(run_workers(rt, rt.alloc(), image, params, workers, gate)?.logs)
 }
 
-// How many events the nodes logged, where there are few.
-fn count_events(logs: &Logs) -> u32 {
-    let mut count = 0u32;
+// The fewest events that a node logged.
+fn fewest_events(logs: &Logs) -> u32 {
+    let mut fewest = u32::MAX;
     for n in 0..logs.len() {
-        count = count.wrapping_add(logs.at_ref(n).len());
+        fewest = fewest.min(logs.at_ref(n).len());
     }
-    count
+    fewest
 }
 
 // A worker passes while another one is held in its first pass.
@@ -109,7 +109,8 @@ fn two_workers_run_at_once(rt: HostRuntime) -> Result<(), Fail> {
     Ok(())
 }
 
-// Each of four nodes does its part, and what one logs as sent another logs as taken.
+// Each of four nodes goes on behind its first miss, which takes a message of node 0, and what one logs as sent another
+// logs as taken.
 #[test]
 fn four_workers_step_four_nodes(rt: HostRuntime) -> Result<(), Fail> {
     let image = writers(rt.alloc(), 2, 2)?;
@@ -117,7 +118,7 @@ fn four_workers_step_four_nodes(rt: HostRuntime) -> Result<(), Fail> {
     let logs = logs_of(&rt, &image, &params, 4, &OpenGate)?;
     assert_eq!(rt; logs.len(), 4);
     assert!(rt; links_agree(&logs));
-    assert!(rt; count_events(&logs) > 20);
+    assert!(rt; fewest_events(&logs) > 2);
     Ok(())
 }
 
