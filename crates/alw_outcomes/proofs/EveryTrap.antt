@@ -22,7 +22,8 @@ use Rattle.alw_model.specs.ProcessorSteps.{status_after}
 use Rattle.alw_model.specs.Flat.{Flat, Context, context_at, stored_in, flat_start, flat_turn, turns_after, turns_ready, flat_after, are_ready, AreReady}
 use Rattle.alw_outcomes.specs.Places.{Place, place_start, place_turn, places_after, outcome_at, regs_at, traps, IsReadyAt, GoesOn, IsRun}
 use Rattle.alw_outcomes.specs.Outcomes.{HasTold}
-use Rattle.alw_outcomes.proofs.Commuting.{Effect, effect_by, effect_of, effect_at, place_turn_is, outcome_is, other_stays_at, same_effect}
+use Rattle.alw_outcomes.specs.Effects.{Effect, effect_by, effect_of}
+use Rattle.alw_outcomes.proofs.Commuting.{effect_at, place_turn_is, outcome_is, other_stays_at, same_effect}
 use Rattle.alw_outcomes.proofs.Ends.{both}
 use Rattle.alw_outcomes.proofs.Runs.{IsTrap, trap_is, apart, run_traps_none, start_traps_none}
 

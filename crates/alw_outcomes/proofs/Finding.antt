@@ -1,42 +1,20 @@
 -- What is found grows, and stays real.
-use Rattle.std.proofs.Common.{◌≡◌, ℕ, zero, suc, ◌<◌, ◌⊎◌, inl, inr, Some, List, [], ◌∷◌, ◌++◌, length, refl, sym, ap, ◌∙◌, subst, arith, length-append}
+use Rattle.std.proofs.Common.{◌≡◌, ℕ, zero, suc, ◌<◌, ◌⊎◌, inl, inr, Some, List, [], ◌∷◌, ◌++◌, length, replicate, refl, sym, ap, ◌∙◌, subst, arith, length-append}
 use Rattle.std.specs.List.{slice_get}
 use Rattle.std.proofs.lemmas.Option.{slice_get_within}
 use Rattle.alw_num.specs.declared.addresses.Line.{Line}
 use Rattle.alw_image.specs.declared.parts.Parts.{Parts}
-use Rattle.alw_outcomes.specs.Places.{Place, place_turn, GoesOn, HasSizes}
+use Rattle.alw_outcomes.specs.Places.{Place, place_turn, places_after, IsRun, HasSizes}
 use Rattle.alw_outcomes.specs.Outcomes.{Ending, Halts, Traps}
 use Rattle.alw_outcomes.specs.declared.classes.Class.{Class}
-use Rattle.alw_outcomes.specs.Explored.{Found, IsAmong, HasHalted, HasTrapped, IsListed, IsBroken, CameFrom, IsHalted, IsTrapping, IsReal, IsExpanded, Grows, IsTurnFound, Adds, GoesTo}
+use Rattle.alw_outcomes.specs.Explored.{Found, IsAmong, IsHeld, place_turns, HasHalted, HasTrapped, IsListed, IsBroken, CameFrom, IsHalted, IsTrapping, IsReal, IsExpanded, Grows, IsTurnFound, Adds, GoesTo}
 use Rattle.alw_outcomes.specs.declared.explored.Origin.{Origin}
 use Rattle.alw_outcomes.specs.declared.explored.Trapped.{Trapped}
-use Rattle.alw_outcomes.specs.declared.explored.Broken.{Broken}
+use Rattle.alw_outcomes.specs.declared.classes.Broken.{Broken}
+use Rattle.alw_outcomes.proofs.Pooling.{get-append, get-last, some_is, get-cases}
 use Rattle.alw_outcomes.proofs.Sizes.{sizes_stay, sizes_start}
 
--- ---- members of a list that grows at its end
-
-pub get-append : {A : Type 0} (xs ys : List A) (k : ℕ) (x : A) → slice_get xs k ≡ Some x → slice_get (xs ++ ys) k ≡ Some x
-get-append [] ys k x e = absurd (cc)
-get-append (y ∷ xs) ys zero x e = e
-get-append (y ∷ xs) ys (suc k) x e = get-append xs ys k x e
-
-pub get-last : {A : Type 0} (xs : List A) (x : A) → slice_get (xs ++ x ∷ []) (length xs) ≡ Some x
-get-last [] x = refl
-get-last (y ∷ xs) x = get-last xs x
-
-some_is : {A : Type 0} (x y : A) → Some x ≡ Some y → x ≡ y
-some_is x y e = cc
-
--- a member is an earlier one, or the last
-pub get-cases : {A : Type 0} (xs : List A) (x : A) (k : ℕ) (y : A) → slice_get (xs ++ x ∷ []) k ≡ Some y → (slice_get xs k ≡ Some y) ⊎ ((k ≡ length xs) × (x ≡ y))
-get-cases [] x zero y e = inr (refl, some_is x y e)
-get-cases [] x (suc k) y e = absurd (cc)
-get-cases (z ∷ xs) x zero y e = inl e
-get-cases (z ∷ xs) x (suc k) y e = go (get-cases xs x k y e)
-  where
-    go : (slice_get xs k ≡ Some y) ⊎ ((k ≡ length xs) × (x ≡ y)) → (slice_get xs k ≡ Some y) ⊎ ((suc k ≡ suc (length xs)) × (x ≡ y))
-    go (inl here) = inl here
-    go (inr last) = inr (ap suc last.0, last.1)
+-- ---- members
 
 pub same_member : {A : Type 0} (xs : List A) (k : ℕ) (x y : A) → slice_get xs k ≡ Some x → slice_get xs k ≡ Some y → x ≡ y
 same_member xs k x y e f = some_is x y (sym e ∙ f)
@@ -57,6 +35,9 @@ grows_trans one two three first second = record {
 module _ (parts : Parts) (classes : List Class) (before after : Found) (grows : Grows before after) where
   pub among_grows : (place : Place) → IsAmong before.places place → IsAmong after.places place
   among_grows place among = record { at = among.at; there = grows.places among.at place among.there }
+
+  pub held_grows : (place : Place) → IsHeld parts classes before.places place → IsHeld parts classes after.places place
+  held_grows place held = record { context = held.context; steps = held.steps; private = held.private; among = among_grows (place_turns parts place held.context held.steps) held.among }
 
   halts_grows : (printed : List (List ℕ)) (memory : List Line) → HasHalted before printed memory → HasHalted after printed memory
   halts_grows printed memory has = record { index = has.index; at = has.at; place = has.place; listed = grows.halted has.index has.at has.listed; there = grows.places has.at has.place has.there; printed_is = has.printed_is; memory_is = has.memory_is }
@@ -80,14 +61,14 @@ module _ (parts : Parts) (classes : List Class) (before after : Found) (grows : 
   listed_or ending (inr some) = inr (broken_grows some)
 
   pub turn_grows : (place : Place) (context : ℕ) → IsTurnFound parts classes before place context → IsTurnFound parts classes after place context
-  turn_grows place context is = record { next = λ goes. among_grows _ (is.next goes); trap = λ pc tt' ends. traps_or context pc tt' (is.trap pc tt' ends); kept = λ breaks. broken_grows (is.kept breaks) }
+  turn_grows place context is = record { next = λ goes. held_grows _ (is.next goes); trap = λ pc tt' ends. traps_or context pc tt' (is.trap pc tt' ends); kept = λ breaks. broken_grows (is.kept breaks) }
 
   pub expanded_grows : (place : Place) → IsExpanded parts classes before place → IsExpanded parts classes after place
-  expanded_grows place (inl one) = inl (record { context = one.context; private = one.private; forward = one.forward; next = among_grows _ one.next })
-  expanded_grows place (inr full) = inr (record { next = λ context goes. among_grows _ (full.next context goes); endings = λ ending ends. listed_or ending (full.endings ending ends); kept = λ context breaks. broken_grows (full.kept context breaks) })
+  expanded_grows place (inl one) = inl (record { context = one.context; private = one.private; forward = one.forward; next = held_grows _ one.next })
+  expanded_grows place (inr full) = inr (record { next = λ context goes. held_grows _ (full.next context goes); endings = λ ending ends. listed_or ending (full.endings ending ends); kept = λ context breaks. broken_grows (full.kept context breaks) })
 
   from_grows : (at : ℕ) (place : Place) → ((at : ℕ) (origin : Origin) → slice_get before.origins at ≡ Some origin → slice_get after.origins at ≡ Some origin) → CameFrom parts before at place → CameFrom parts after at place
-  from_grows at place origins came = record { origin = came.origin; before = came.before; listed = origins at came.origin came.listed; earlier = came.earlier; there = grows.places came.origin.from came.before came.there; on = came.on; after = came.after }
+  from_grows at place origins came = record { origin = came.origin; before = came.before; listed = origins at came.origin came.listed; earlier = came.earlier; there = grows.places came.origin.from came.before came.there; run = came.run; after = came.after }
 
   halted_grows : (at : ℕ) → IsHalted before at → IsHalted after at
   halted_grows at is = record { place = is.place; there = grows.places at is.place is.there; halted = is.halted }
@@ -108,8 +89,8 @@ added_grows before place origin = record { places = λ at p e. get-append before
 pub record IsFrom (parts : Parts) (found : Found) (place : Place) (origin : Origin) : Type 0 where
   pub before : Place
   pub there : slice_get found.places origin.from ≡ Some before
-  pub on : GoesOn parts before origin.context
-  pub after : place_turn parts before origin.context ≡ place
+  pub run : IsRun parts before (replicate origin.turns origin.context)
+  pub after : places_after parts before (replicate origin.turns origin.context) ≡ place
 
 added_real : (parts : Parts) (before : Found) (place : Place) (origin : Origin) → IsReal parts before → IsFrom parts before place origin → IsReal parts (added before place origin)
 unfolding added
@@ -132,7 +113,7 @@ added_real parts before place origin real from =
       listed = ap (λ (n : ℕ). slice_get (before.origins ++ origin ∷ []) n) (last.0 ∙ sym real.paired) ∙ get-last before.origins origin;
       earlier = omega (arith, slice_get_within before.places origin.from from.before from.there, last.0);
       there = get-append before.places _ origin.from from.before from.there;
-      on = from.on;
+      run = from.run;
       after = from.after ∙ last.1;
     }
 
@@ -206,6 +187,10 @@ break_listed parts before turn real =
 
 -- ---- sizes, and runs
 
+sizes_after : (parts : Parts) (place : Place) (turns : List ℕ) → HasSizes parts place → HasSizes parts (places_after parts place turns)
+sizes_after parts place [] sizes = sizes
+sizes_after parts place (context ∷ rest) sizes = sizes_after parts (place_turn parts place context) rest (sizes_stay parts place context sizes)
+
 -- all places that are found have the sizes
 pub sizes_found : (parts : Parts) (found : Found) → IsReal parts found → (at : ℕ) (place : Place) → slice_get found.places at ≡ Some place → HasSizes parts place
 sizes_found parts found real at place e = below (suc at) at place (omega arith) e
@@ -216,4 +201,4 @@ sizes_found parts found real at place e = below (suc at) at place (omega arith) 
     below (suc past) (suc at) place less e =
         let came = real.from (suc at) place (omega arith) e in
         let earlier = came.earlier in
-        subst (λ (p : Place). HasSizes parts p) came.after (sizes_stay parts came.before came.origin.context (below past came.origin.from came.before (omega arith) came.there))
+        subst (λ (p : Place). HasSizes parts p) came.after (sizes_after parts came.before (replicate came.origin.turns came.origin.context) (below past came.origin.from came.before (omega arith) came.there))

@@ -23,7 +23,8 @@ use Rattle.alw_model.specs.ProcessorSteps.{status_after}
 use Rattle.alw_model.specs.Flat.{Context, context_at, stored_in}
 use Rattle.alw_outcomes.specs.Places.{Place, place_start, place_turn, places_after, outcome_at, regs_at, traps, to_go, IsReadyAt, IsRun, IsForward}
 use Rattle.alw_outcomes.specs.Outcomes.{Ending, Halts, Traps, EndsIn, ComesTo}
-use Rattle.alw_outcomes.proofs.Commuting.{Effect, effect_by, effect_of, effect_at, place_turn_is, outcome_is, other_stays_at, after, set-set_other, printed_crossed}
+use Rattle.alw_outcomes.specs.Effects.{Effect, effect_by, effect_of}
+use Rattle.alw_outcomes.proofs.Commuting.{effect_at, place_turn_is, outcome_is, other_stays_at, after, set-set_other, printed_crossed}
 use Rattle.alw_outcomes.proofs.Ends.{none_ready, not_trap}
 use Rattle.alw_outcomes.specs.declared.classes.Class.{Class}
 use Rattle.alw_outcomes.specs.declared.classes.Class.TheVariants.{Shared, Own, Fixed}

@@ -25,7 +25,8 @@ use Rattle.sparc_table.specs.Meaning.{OutcomeIsStill}
 use Rattle.sparc_table.proofs.Effects.{orderly_turn}
 use Rattle.sparc_table.specs.declared.outcomes.Need.{Need}
 use Rattle.sparc_table.specs.declared.outcomes.Need.TheVariants as needs
-use Rattle.alw_outcomes.proofs.Commuting.{effect_by, effect_of, effect_at, place_turn_is, outcome_is, other_stays_at}
+use Rattle.alw_outcomes.specs.Effects.{effect_by, effect_of}
+use Rattle.alw_outcomes.proofs.Commuting.{effect_at, place_turn_is, outcome_is, other_stays_at}
 use Rattle.alw_outcomes.proofs.Ends.{both}
 use Rattle.alw_outcomes.proofs.Sizes.{sizes_start, sizes_stay}
 

@@ -1,5 +1,5 @@
 -- The steps of an exploration, as its functions meet them.
-use Rattle.std.proofs.Common.{◌≡◌, ℕ, zero, suc, ◌+◌, ◌<◌, ◌≤◌, ◌⊎◌, inl, inr, true, false, Some, List, [], ◌∷◌, ◌++◌, length, length-append, get_or, refl, sym, ap, ◌∙◌, subst, arith}
+use Rattle.std.proofs.Common.{◌≡◌, ℕ, zero, suc, ◌+◌, ◌<◌, ◌≤◌, ◌⊎◌, inl, inr, true, false, Some, List, [], ◌∷◌, ◌++◌, length, length-append, replicate, refl, sym, ap, ◌∙◌, subst, arith}
 use Rattle.std.specs.List.{slice_get}
 use Rattle.std.proofs.lemmas.Bool.{false≢true, cases_lt}
 use Rattle.std.proofs.lemmas.Option.{slice_get_within, slice_get_read}
@@ -10,60 +10,36 @@ use Rattle.alw_image.specs.declared.parts.Parts.{Parts}
 use Rattle.alw_image.specs.Images.{context_count}
 use Rattle.alw_flat.proofs.Turns.{ready_exists}
 use Rattle.alw_model.specs.Flat.{context_at}
-use Rattle.alw_outcomes.specs.Places.{Place, place_turn, outcome_at, regs_at, traps, IsReadyAt, GoesOn, IsForward, HasSizes}
+use Rattle.alw_outcomes.specs.Places.{Place, place_turn, places_after, outcome_at, traps, IsReadyAt, IsRun, HasSizes}
 use Rattle.alw_outcomes.specs.Outcomes.{Ending, Halts, Traps, all_halted, EndsIn, ComesTo}
 use Rattle.alw_outcomes.specs.declared.classes.Class.{Class}
 use Rattle.alw_outcomes.specs.Sharing.{is_allowed, need_at, IsPrivate, HasNext, HasPrivateNext}
-use Rattle.alw_outcomes.specs.Explored.{Found, IsAmong, HasHalted, HasTrapped, IsListed, IsBroken, IsReal, IsFull, IsExpanded, Grows, IsTurnFound, Adds, GoesTo, HasAlone, HasTurn, TellsHalt, HasFull, HasExpanded}
+use Rattle.alw_outcomes.specs.Explored.{Found, IsAmong, IsHeld, PrivateTurns, place_turns, HasHalted, HasTrapped, IsListed, IsBroken, IsReal, IsFull, IsExpanded, Grows, IsTurnFound, Adds, GoesTo, HasFirst, HasTurn, TellsHalt, HasFull, HasExpanded}
 use Rattle.alw_outcomes.specs.declared.explored.Trapped.{Trapped}
-use Rattle.alw_outcomes.specs.declared.explored.Broken.{Broken}
-use Rattle.alw_outcomes.proofs.Finding.{get-last, same_member, grows_refl, grows_trans, turn_grows, expanded_grows, adds_is, halt_listed, trap_listed, break_listed, sizes_found}
+use Rattle.alw_outcomes.specs.declared.classes.Broken.{Broken}
+use Rattle.alw_outcomes.proofs.Finding.{same_member, grows_refl, grows_trans, turn_grows, expanded_grows, adds_is, halt_listed, trap_listed, break_listed, sizes_found}
+use Rattle.alw_outcomes.specs.Threads.{Thread, thread_at, with_thread, thread_turn, thread_turns, ThreadGoes, ThreadPrivate, ArePrivate}
+use Rattle.alw_outcomes.specs.Leads.{IsTrapOf}
+use Rattle.alw_outcomes.proofs.Pooling.{get-last}
+use Rattle.alw_outcomes.proofs.Sizes.{sizes_stay}
+use Rattle.alw_outcomes.proofs.Threading.{turns_with, thread_after, goes_at, private_at, forward_at, privates_at, private_run, turns_after, outcome_in}
 use Rattle.alw_outcomes.proofs.Independence.{IsToldBy, IsBrokenBy, private_told}
-
--- a place as code reads it
-module _ (parts : Parts) (found : Found) (at : ℕ) (here : Place) (within : at < length found.places) (read : here ≡ get_or found.places at here) where
-  pub here_is : slice_get found.places at ≡ Some here
-  here_is = slice_get_read found.places (length found.places) at here refl within read
-
-  pub sizes_here : IsReal parts found → HasSizes parts here
-  sizes_here real = sizes_found parts found real at here here_is
-
-  pub context_here : IsReal parts found → (context : ℕ) → context < context_count parts → context < length here.flat.contexts
-  context_here real context exists = let sizes = (sizes_here real).contexts in omega arith
 
 -- ---- where all contexts have halted
 
-pub halt_pushed : (parts : Parts) (before : Found) (at : ℕ) (here : Place) (halted : List ℕ) → at < length before.places → here ≡ get_or before.places at here → all_halted here ≡ true → IsReal parts before → halted ≡ before.halted ++ at ∷ []
+pub halt_pushed : (parts : Parts) (before : Found) (at : ℕ) (here : Place) (halted : List ℕ) → slice_get before.places at ≡ Some here → all_halted here ≡ true → IsReal parts before → halted ≡ before.halted ++ at ∷ []
     → GoesTo parts before (record before { halted = halted })
-halt_pushed parts before at here halted within read all real pushed =
+halt_pushed parts before at here halted there all real pushed =
     subst (λ (h : List ℕ). GoesTo parts before (record before { halted = h })) (sym pushed)
-    (halt_listed parts before at real (record { place = here; there = here_is parts before at here within read; halted = all }))
+    (halt_listed parts before at real (record { place = here; there = there; halted = all }))
 
 pub halt_told : (before : Found) (at : ℕ) (halted : List ℕ) → halted ≡ before.halted ++ at ∷ [] → TellsHalt (record before { halted = halted }) at
 halt_told before at halted pushed place e all =
     record { index = length before.halted; at = at; place = place; listed = ap (λ (h : List ℕ). slice_get h (length before.halted)) pushed ∙ get-last before.halted at; there = e; printed_is = refl; memory_is = refl }
 
-pub halt_none : (parts : Parts) (before : Found) (at : ℕ) (here : Place) → at < length before.places → here ≡ get_or before.places at here → all_halted here ≡ false → TellsHalt before at
-halt_none parts before at here within read none place e all =
-    absurd (false≢true (sym none ∙ ap all_halted (same_member before.places at here place (here_is parts before at here within read) e) ∙ all))
-
--- ---- a local turn
-
-pub record IsAloneAdded (parts : Parts) (classes : List Class) (before after : Found) (at : ℕ) : Type 0 where
-  pub goes : GoesTo parts before after
-  pub alone : HasAlone parts classes after at
-
-pub alone_added : (parts : Parts) (classes : List Class) (before after : Found) (at context : ℕ) (here next : Place) → at < length before.places → here ≡ get_or before.places at here → IsReal parts before → IsPrivate parts classes here context → IsForward parts here context
-    → next ≡ place_turn parts here context → Adds before after next (record { from = at; context = context }) → IsAloneAdded parts classes before after at
-alone_added parts classes before after at context here next within read real local forward next_is adds =
-    let there = here_is parts before at here within read in
-    let added = adds_is parts before after next (record { from = at; context = context }) real (record { before = here; there = there; on = local.goes.on; after = sym next_is }) adds in
-    let among : IsAmong after.places (place_turn parts here context) = subst (IsAmong after.places) next_is added.among in
-    let has : HasPrivateNext parts classes (IsAmong after.places) here = record { context = context; private = local; forward = forward; next = among } in
-    record {
-      goes = added.goes;
-      alone = λ place e. subst (λ (p : Place). HasPrivateNext parts classes (IsAmong after.places) p) (same_member after.places at here place (added.goes.grows.places at here there) e) has;
-    }
+pub halt_none : (parts : Parts) (before : Found) (at : ℕ) (here : Place) → slice_get before.places at ≡ Some here → all_halted here ≡ false → TellsHalt before at
+halt_none parts before at here there none place e all =
+    absurd (false≢true (sym none ∙ ap all_halted (same_member before.places at here place there e) ∙ all))
 
 -- ---- any turn
 
@@ -75,64 +51,85 @@ pub record IsTurnAdded (parts : Parts) (classes : List Class) (before after : Fo
 at_number : (parts : Parts) (classes : List Class) (found : Found) (at context : ℕ) (here : Place) → slice_get found.places at ≡ Some here → IsTurnFound parts classes found here context → HasTurn parts classes found at context
 at_number parts classes found at context here there is place e = subst (λ (p : Place). IsTurnFound parts classes found p context) (same_member found.places at here place there e) is
 
-pub turn_idle : (parts : Parts) (classes : List Class) (before : Found) (at context : ℕ) (here : Place) → at < length before.places → here ≡ get_or before.places at here → is_ready (context_at here.flat context).status ≡ false → HasTurn parts classes before at context
-turn_idle parts classes before at context here within read idle =
-    at_number parts classes before at context here (here_is parts before at here within read)
+pub turn_idle : (parts : Parts) (classes : List Class) (before : Found) (at context : ℕ) (here : Place) → slice_get before.places at ≡ Some here → is_ready (context_at here.flat context).status ≡ false → HasTurn parts classes before at context
+turn_idle parts classes before at context here there idle =
+    at_number parts classes before at context here there
     (record { next = λ goes. absurd (false≢true (sym idle ∙ goes.on.ready)); trap = λ pc tt' ends. absurd (false≢true (sym idle ∙ ends.0)); kept = λ breaks. absurd (false≢true (sym idle ∙ breaks.ready)) })
 
-pub turn_added : (parts : Parts) (classes : List Class) (before after : Found) (at context : ℕ) (here next : Place) (outcome : Outcome) → at < length before.places → here ≡ get_or before.places at here → IsReal parts before → IsReadyAt here context
-    → next ≡ place_turn parts here context → outcome ≡ outcome_at parts here context → traps outcome ≡ false → is_allowed classes context (need_at parts here context) ≡ true → Adds before after next (record { from = at; context = context }) → IsTurnAdded parts classes before after at context
-turn_added parts classes before after at context here next outcome within read real ready next_is outcome_is none allowed adds =
-    let there = here_is parts before at here within read in
-    let on : GoesOn parts here context = record { ready = ready; no_trap = sym (ap traps outcome_is) ∙ none } in
-    let added = adds_is parts before after next (record { from = at; context = context }) real (record { before = here; there = there; on = on; after = sym next_is }) adds in
-    let among : IsAmong after.places (place_turn parts here context) = subst (IsAmong after.places) next_is added.among in
-    record {
-      goes = added.goes;
-      turn = at_number parts classes after at context here (added.goes.grows.places at here there)
-          (record { next = λ _. among; trap = λ pc tt' ends. absurd (false≢true (sym on.no_trap ∙ ap traps ends.1)); kept = λ breaks. absurd (false≢true (sym breaks.broken ∙ allowed)) });
-    }
+-- ---- turns that lead to a place
 
-pub none_trap : (outcome : Outcome) → ((x : ℕ) → outcome ≡ Trap x → ⊥) → traps outcome ≡ false
-none_trap Done none = refl
-none_trap (Miss line mode) none = refl
-none_trap (Out word) none = refl
-none_trap Halt none = refl
-none_trap (Trap x) none = absurd (none x refl)
+pub record IsLedTo (parts : Parts) (classes : List Class) (before after : Found) (at context : ℕ) (here : Place) : Type 0 where
+  pub goes : GoesTo parts before after
+  pub held : IsHeld parts classes after.places (place_turn parts here context)
+
+module _ (parts : Parts) (classes : List Class) (before after : Found) (at context more : ℕ) (here : Place) (to : Thread) (there : slice_get before.places at ≡ Some here) (real : IsReal parts before) (exists : context < context_count parts)
+    (is : ThreadGoes parts classes context (thread_at here context)) (private : ArePrivate parts classes context (thread_turn parts (thread_at here context)) more) (end : to ≡ thread_turns parts (thread_turn parts (thread_at here context)) more)
+    (adds : Adds before after (with_thread here context to) (record { from = at; context = context; turns = more + 1 })) where
+  sizes : HasSizes parts here
+  sizes = sizes_found parts before real at here there
+
+  there_is : place_turns parts (place_turn parts here context) context more ≡ with_thread here context to
+  there_is = turns_with parts here context (suc more) sizes exists ∙ ap (with_thread here context) (sym end)
+
+  privates : PrivateTurns parts classes (place_turn parts here context) context more
+  privates = privates_at parts classes context exists (place_turn parts here context) more (sizes_stay parts here context sizes) (subst (λ (t : Thread). ArePrivate parts classes context t more) (sym (thread_after parts here context sizes exists)) private)
+
+  pub led_to : IsLedTo parts classes before after at context here
+  led_to =
+      let one : suc more ≡ more + 1 = omega arith in
+      let run : IsRun parts here (replicate (suc more) context) = ((goes_at parts classes here context is).on, private_run parts classes (place_turn parts here context) context more privates) in
+      let then : places_after parts here (replicate (suc more) context) ≡ with_thread here context to = turns_after parts (place_turn parts here context) context more ∙ there_is in
+      let added = adds_is parts before after (with_thread here context to) (record { from = at; context = context; turns = more + 1 }) real
+      (record { before = here; there = there; run = subst (λ (n : ℕ). IsRun parts here (replicate n context)) one run; after = subst (λ (n : ℕ). places_after parts here (replicate n context) ≡ with_thread here context to) one then }) adds in
+      record {
+        goes = added.goes;
+        held = record { context = context; steps = more; private = privates; among = subst (IsAmong after.places) (sym there_is) added.among };
+      }
+
+  pub turn_led : HasTurn parts classes after at context
+  turn_led =
+      let led = led_to in
+      let on = (goes_at parts classes here context is) in
+      at_number parts classes after at context here (led.goes.grows.places at here there)
+      (record { next = λ _. led.held; trap = λ pc tt' ends. absurd (false≢true (sym on.on.no_trap ∙ ap traps ends.1)); kept = λ breaks. absurd (false≢true (sym breaks.broken ∙ on.allowed)) })
+
+  pub first_led : ThreadPrivate parts classes context (thread_at here context) → HasFirst parts classes after at
+  first_led first place e =
+      let led = led_to in
+      let has : HasPrivateNext parts classes (IsHeld parts classes after.places) here = record { context = context; private = private_at parts classes context exists here first; forward = forward_at parts classes context exists here sizes first; next = led.held } in
+      subst (λ (p : Place). HasPrivateNext parts classes (IsHeld parts classes after.places) p) (same_member after.places at here place (led.goes.grows.places at here there) e) has
 
 same_type : (one two : ℕ) → Trap one ≡ Trap two → one ≡ two
 same_type one two e = cc
 
-pub trap_added : (parts : Parts) (classes : List Class) (before : Found) (at context : ℕ) (here : Place) (outcome : Outcome) (tt' : ℕ) (trapped : List Trapped) → at < length before.places → here ≡ get_or before.places at here → IsReal parts before → IsReadyAt here context
-    → outcome ≡ outcome_at parts here context → outcome ≡ Trap tt' → is_allowed classes context (need_at parts here context) ≡ true → trapped ≡ before.trapped ++ record { at = at; context = context; pc = (regs_at here context).pc; tt = tt' } ∷ [] → IsTurnAdded parts classes before (record before { trapped = trapped }) at context
-trap_added parts classes before at context here outcome tt' trapped within read real ready outcome_is trap allowed pushed =
-    subst (λ (t : List Trapped). IsTurnAdded parts classes before (record before { trapped = t }) at context) (sym pushed) is
+pub trap_added : (parts : Parts) (classes : List Class) (before : Found) (at context pc : ℕ) (here : Place) (tt' : ℕ) (trapped : List Trapped) → slice_get before.places at ≡ Some here → IsReal parts before
+    → IsTrapOf parts classes context (thread_at here context) pc tt' → trapped ≡ before.trapped ++ record { at = at; context = context; pc = pc; tt = tt' } ∷ [] → IsTurnAdded parts classes before (record before { trapped = trapped }) at context
+trap_added parts classes before at context pc here tt' trapped there real is pushed =
+    subst (λ (t : List Trapped). IsTurnAdded parts classes before (record before { trapped = t }) at context) (sym pushed) added
   where
     turn : Trapped
-    turn = record { at = at; context = context; pc = (regs_at here context).pc; tt = tt' }
-
-    there : slice_get before.places at ≡ Some here
-    there = here_is parts before at here within read
+    turn = record { at = at; context = context; pc = pc; tt = tt' }
 
     after : Found
     after = record before { trapped = before.trapped ++ turn ∷ [] }
 
     here_traps : outcome_at parts here context ≡ Trap tt'
-    here_traps = sym outcome_is ∙ trap
+    here_traps = outcome_in parts here context ∙ is.trap
 
-    told : (pc type : ℕ) → EndsIn parts here (Traps context pc type) → HasTrapped after context pc type
-    told pc type ends = record { index = length before.trapped; turn = turn; listed = get-last before.trapped turn; context_is = refl; pc_is = ends.2; type_is = same_type tt' type (sym here_traps ∙ ends.1) }
+    told : (pc' type : ℕ) → EndsIn parts here (Traps context pc' type) → HasTrapped after context pc' type
+    told pc' type ends = record { index = length before.trapped; turn = turn; listed = get-last before.trapped turn; context_is = refl; pc_is = sym is.pc_is ∙ ends.2; type_is = same_type tt' type (sym here_traps ∙ ends.1) }
 
-    is : IsTurnAdded parts classes before after at context
-    is = record {
-      goes = trap_listed parts before turn real (record { place = here; there = there; ends = (ready, here_traps, refl) });
-      turn = at_number parts classes after at context here there (record { next = λ goes. absurd (false≢true (sym goes.on.no_trap ∙ ap traps here_traps)); trap = λ pc type ends. inl (told pc type ends); kept = λ breaks. absurd (false≢true (sym breaks.broken ∙ allowed)) });
+    added : IsTurnAdded parts classes before after at context
+    added = record {
+      goes = trap_listed parts before turn real (record { place = here; there = there; ends = (is.ready, here_traps, is.pc_is) });
+      turn = at_number parts classes after at context here there
+          (record { next = λ goes. absurd (false≢true (sym goes.on.no_trap ∙ ap traps here_traps)); trap = λ pc' type ends. inl (told pc' type ends); kept = λ breaks. absurd (false≢true (sym breaks.broken ∙ is.allowed)) });
     }
 
 -- a turn that doesn't keep to the hint is noted
-pub break_added : (parts : Parts) (classes : List Class) (before : Found) (at context : ℕ) (here : Place) (turn : Broken) (broken : List Broken) → at < length before.places → here ≡ get_or before.places at here → IsReal parts before
+pub break_added : (parts : Parts) (classes : List Class) (before : Found) (at context : ℕ) (here : Place) (turn : Broken) (broken : List Broken) → slice_get before.places at ≡ Some here → IsReal parts before
     → is_allowed classes context (need_at parts here context) ≡ false → broken ≡ before.broken ++ turn ∷ [] → IsTurnAdded parts classes before (record before { broken = broken }) at context
-break_added parts classes before at context here turn broken within read real refused pushed =
+break_added parts classes before at context here turn broken there real refused pushed =
     subst (λ (b : List Broken). IsTurnAdded parts classes before (record before { broken = b }) at context) (sym pushed) is
   where
     some : 0 < length (before.broken ++ turn ∷ [])
@@ -141,7 +138,7 @@ break_added parts classes before at context here turn broken within read real re
     is : IsTurnAdded parts classes before (record before { broken = before.broken ++ turn ∷ [] }) at context
     is = record {
       goes = break_listed parts before turn real;
-      turn = at_number parts classes (record before { broken = before.broken ++ turn ∷ [] }) at context here (here_is parts before at here within read)
+      turn = at_number parts classes (record before { broken = before.broken ++ turn ∷ [] }) at context here there
           (record { next = λ goes. absurd (false≢true (sym refused ∙ goes.allowed)); trap = λ pc type ends. inr some; kept = λ _. some });
     }
 
@@ -157,7 +154,7 @@ all_full parts classes found at real turns halt place e = record { next = next; 
     sizes : HasSizes parts place
     sizes = sizes_found parts found real at place e
 
-    next : HasNext parts classes (IsAmong found.places) place
+    next : HasNext parts classes (IsHeld parts classes found.places) place
     next context goes = (turns context (past_idle parts place context sizes goes.on.ready) place e).next goes
 
     halts : (printed : List (List ℕ)) → (memory : List _) → EndsIn parts place (Halts printed memory) → HasHalted found printed memory
@@ -225,16 +222,24 @@ explored_more parts classes before after past is more goes expanded = record {
         subst (λ (p : Place). IsExpanded parts classes after p) same (expanded_grows parts classes before after goes.grows m.0 (is.expanded at m.0 earlier m.1))
     go at place l e (inr last) = let same : at ≡ past = omega arith in expanded place (ap (slice_get after.places) (sym same) ∙ e)
 
+-- a place that is held leads by a private turn to another, or is one that was gone on from
+held_next : (parts : Parts) (classes : List Class) (found : Found) → ((place : Place) → IsAmong found.places place → IsExpanded parts classes found place) → (place : Place) (context steps : ℕ) → PrivateTurns parts classes place context steps → IsAmong found.places (place_turns parts place context steps)
+    → HasPrivateNext parts classes (IsHeld parts classes found.places) place ⊎ IsFull parts classes found place
+held_next parts classes found expanded place context zero private among = expanded place among
+held_next parts classes found expanded place context (suc n) private among =
+    inl (record { context = context; private = private.0; forward = private.1; next = record { context = context; steps = n; private = private.2; among = among } })
+
 -- once all places have been gone on from and no turn broke the hint, all that runs come to is listed
 pub all_listed : (parts : Parts) (classes : List Class) (found : Found) (past : ℕ) → IsExploredTo parts classes found past → length found.places ≤ past → length found.broken ≡ 0 → (ending : Ending) → ComesTo parts ending → IsListed found ending
 all_listed parts classes found past is all whole ending comes =
-    go (private_told parts classes (IsAmong found.places) (IsFull parts classes found) (record { at = 0; there = is.real.start })
-    (λ place among. let w = slice_get_within found.places among.at place among.there in is.expanded among.at place (omega arith) among.there) (λ place full. full.next) ending comes)
+    go (private_told parts classes (IsHeld parts classes found.places) (IsFull parts classes found) (record { context = 0; steps = 0; private = tt; among = record { at = 0; there = is.real.start } })
+    (λ place held. held_next parts classes found (λ p among. let w = slice_get_within found.places among.at p among.there in is.expanded among.at p (omega arith) among.there) place held.context held.steps held.private held.among)
+    (λ place full. full.next) ending comes)
   where
     listed : IsListed found ending ⊎ IsBroken found → IsListed found ending
     listed (inl has) = has
     listed (inr some) = absurd (omega arith)
 
-    go : IsToldBy parts (IsAmong found.places) (IsFull parts classes found) ending ⊎ IsBrokenBy parts classes (IsAmong found.places) (IsFull parts classes found) → IsListed found ending
+    go : IsToldBy parts (IsHeld parts classes found.places) (IsFull parts classes found) ending ⊎ IsBrokenBy parts classes (IsHeld parts classes found.places) (IsFull parts classes found) → IsListed found ending
     go (inl told) = listed (told.full.endings ending told.ends)
     go (inr broken) = let some : IsBroken found = broken.full.kept broken.context broken.breaks in absurd (omega arith)

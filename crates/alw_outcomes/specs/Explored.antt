@@ -1,14 +1,20 @@
--- What an exploration has found: places, how each was found, and the endings.
-use Rattle.std.specs.Prelude.{◌≡◌, ℕ, ◌<◌, ◌≤◌, true, ◌⊎◌, List, [], ◌∷◌, ◌++◌, length, map, slice_get, slice_index_or, Some}
+-- What a search has found: places, how each was found, and the endings.
+use Rattle.std.specs.Prelude.{◌≡◌, ℕ, zero, suc, ◌*◌, ◌<◌, ◌≤◌, Bool, true, ◌⊎◌, List, [], ◌∷◌, ◌++◌, length, map, take, drop, replicate, slice_get, slice_index_or, Some}
+use Rattle.std.specs.List.{range_with_len, list_all}
 use Rattle.alw_num.specs.declared.addresses.Line.{Line}
 use Rattle.alw_image.specs.declared.parts.Parts.{Parts}
-use Rattle.alw_outcomes.specs.Places.{Place, place_start, place_turn, places_after, GoesOn, IsRun}
+use Rattle.alw_image.specs.Images.{context_count}
+use Rattle.alw_msg.specs.Statuses.{is_halted}
+use Rattle.alw_model.specs.Flat.{Context, context_start}
+use Rattle.alw_outcomes.specs.Places.{Place, place_start, place_turn, places_after, IsForward, IsRun}
 use Rattle.alw_outcomes.specs.Outcomes.{Ending, Halts, Traps, EndsIn, all_halted}
+use Rattle.alw_outcomes.specs.Sharing.{Goes, Breaks, IsPrivate, HasNext, HasPrivateNext}
+use Rattle.alw_outcomes.specs.Pools.{ArePools, no_seat, context_of, place_of}
 use Rattle.alw_outcomes.specs.declared.classes.Class.{Class}
-use Rattle.alw_outcomes.specs.Sharing.{Goes, Breaks, HasNext, HasPrivateNext}
+use Rattle.alw_outcomes.specs.declared.classes.Broken.{Broken}
+use Rattle.alw_outcomes.specs.declared.pools.Seat.{Seat}
 use Rattle.alw_outcomes.specs.declared.explored.Origin.{Origin}
 use Rattle.alw_outcomes.specs.declared.explored.Trapped.{Trapped}
-use Rattle.alw_outcomes.specs.declared.explored.Broken.{Broken}
 use Rattle.alw_outcomes.specs.declared.explored.Explored.{Explored}
 
 -- places, where each came from, the numbers of those where all contexts have halted, and turns that trap
@@ -19,8 +25,43 @@ pub record Found : Type 0 where
   pub trapped : List Trapped
   pub broken : List Broken
 
+-- the numbers of the contexts at a place
+abbrev pub row_in : Explored → ℕ → List ℕ
+row_in e at = take e.width (drop (at * e.width) e.rows.items)
+
+-- the place with a number
+abbrev pub place_in : Explored → ℕ → Place
+place_in e at = place_of e.pools (slice_index_or e.memories.items at 0) (row_in e at)
+
+unfoldable pub places_in : Explored → List Place
+places_in e = map (place_in e) (range_with_len 0 (length e.memories.items))
+
 abbrev pub found_in : Explored → Found
-found_in e = record { places = e.places.items; origins = e.origins.items; halted = e.halted.items; trapped = e.trapped.items; broken = e.broken.items }
+found_in e = record { places = places_in e; origins = e.origins.items; halted = e.halted.items; trapped = e.trapped.items; broken = e.broken.items }
+
+-- all numbers are of what the pools hold, and each place has a row
+pub record IsStored (parts : Parts) (e : Explored) : Type 0 where
+  pub width : e.width ≡ context_count parts
+  pub rows : length e.rows.items ≡ length e.memories.items * e.width
+  pub memory_in : (k m : ℕ) → slice_get e.memories.items k ≡ Some m → m < length e.pools.memories.items
+  pub seat_in : (k s : ℕ) → slice_get e.rows.items k ≡ Some s → s < length e.pools.seats.items
+  pub pools : ArePools parts e.pools
+
+-- the place with this number has this memory and these contexts
+pub record IsRow (e : Explored) (at memory : ℕ) (row : List ℕ) : Type 0 where
+  pub exists : at < length e.memories.items
+  pub memory_is : slice_get e.memories.items at ≡ Some memory
+  pub row_is : row_in e at ≡ row
+
+-- all contexts of a row have halted
+abbrev pub halted_in : List Seat → List ℕ → Bool
+halted_in seats row = list_all (λ n. is_halted (slice_index_or seats n no_seat).status) row
+
+-- the first so many contexts of an image are these, and have printed nothing
+pub record AreAtStart (parts : Parts) (seats : List Seat) (rows : List ℕ) (count : ℕ) : Type 0 where
+  pub contexts : map (λ n. context_of (slice_index_or seats n no_seat)) rows ≡ map (context_start parts) (range_with_len 0 count)
+  pub within : (k s : ℕ) → slice_get rows k ≡ Some s → s < length seats
+  pub lists : (k : ℕ) → (seat : Seat) → slice_get seats k ≡ Some seat → seat.list ≡ 0
 
 -- the place is one of these
 pub record IsAmong (places : List Place) (place : Place) : Type 0 where
@@ -62,15 +103,32 @@ abbrev pub IsListed : Found → Ending → Type 0
 IsListed found (Halts printed memory) = HasHalted found printed memory
 IsListed found (Traps context pc tt') = HasTrapped found context pc tt'
 
--- a place came from an earlier one by a turn
+-- so many turns of a context, each private and forward
+abbrev pub PrivateTurns : Parts → List Class → Place → ℕ → ℕ → Type 0
+PrivateTurns parts classes place context zero = Unit {0}
+PrivateTurns parts classes place context (suc n) = IsPrivate parts classes place context × IsForward parts place context × PrivateTurns parts classes (place_turn parts place context) context n
+
+-- the place after so many turns of a context
+abbrev pub place_turns : Parts → Place → ℕ → ℕ → Place
+place_turns parts place context zero = place
+place_turns parts place context (suc n) = place_turns parts (place_turn parts place context) context n
+
+-- private turns of a context, if any, lead from the place to one of these
+pub record IsHeld (parts : Parts) (classes : List Class) (places : List Place) (place : Place) : Type 0 where
+  pub context : ℕ
+  pub steps : ℕ
+  pub private : PrivateTurns parts classes place context steps
+  pub among : IsAmong places (place_turns parts place context steps)
+
+-- a place came from an earlier one by turns of a context
 pub record CameFrom (parts : Parts) (found : Found) (at : ℕ) (place : Place) : Type 0 where
   pub origin : Origin
   pub before : Place
   pub listed : slice_get found.origins at ≡ Some origin
   pub earlier : origin.from < at
   pub there : slice_get found.places origin.from ≡ Some before
-  pub on : GoesOn parts before origin.context
-  pub after : place_turn parts before origin.context ≡ place
+  pub run : IsRun parts before (replicate origin.turns origin.context)
+  pub after : places_after parts before (replicate origin.turns origin.context) ≡ place
 
 -- a listed number is that of a place where all contexts have halted
 pub record IsHalted (found : Found) (at : ℕ) : Type 0 where
@@ -98,13 +156,13 @@ IsBroken found = 0 < length found.broken
 
 -- from the place all turns are found, and what it comes to
 pub record IsFull (parts : Parts) (classes : List Class) (found : Found) (place : Place) : Type 0 where
-  pub next : HasNext parts classes (IsAmong found.places) place
+  pub next : HasNext parts classes (IsHeld parts classes found.places) place
   pub endings : (ending : Ending) → EndsIn parts place ending → IsListed found ending ⊎ IsBroken found
   pub kept : (context : ℕ) → Breaks parts classes place context → IsBroken found
 
 -- from the place one local turn is found, or all turns
 abbrev pub IsExpanded : Parts → List Class → Found → Place → Type 0
-IsExpanded parts classes found place = HasPrivateNext parts classes (IsAmong found.places) place ⊎ IsFull parts classes found place
+IsExpanded parts classes found place = HasPrivateNext parts classes (IsHeld parts classes found.places) place ⊎ IsFull parts classes found place
 
 -- what was found stays found
 pub record Grows (before after : Found) : Type 0 where
@@ -115,7 +173,7 @@ pub record Grows (before after : Found) : Type 0 where
 
 -- what one context's turn leads to from the place is found, or it didn't keep to the hint
 pub record IsTurnFound (parts : Parts) (classes : List Class) (found : Found) (place : Place) (context : ℕ) : Type 0 where
-  pub next : Goes parts classes place context → IsAmong found.places (place_turn parts place context)
+  pub next : Goes parts classes place context → IsHeld parts classes found.places (place_turn parts place context)
   pub trap : (pc tt' : ℕ) → EndsIn parts place (Traps context pc tt') → HasTrapped found context pc tt' ⊎ IsBroken found
   pub kept : Breaks parts classes place context → IsBroken found
 
@@ -129,9 +187,9 @@ pub record GoesTo (parts : Parts) (before after : Found) : Type 0 where
   pub real : IsReal parts after
   pub grows : Grows before after
 
--- from the place with this number one local turn is found, if the search ended with one
-abbrev pub HasAlone : Parts → List Class → Found → ℕ → Type 0
-HasAlone parts classes found at = (place : Place) → slice_get found.places at ≡ Some place → HasPrivateNext parts classes (IsAmong found.places) place
+-- from the place with this number a private turn is found
+abbrev pub HasFirst : Parts → List Class → Found → ℕ → Type 0
+HasFirst parts classes found at = (place : Place) → slice_get found.places at ≡ Some place → HasPrivateNext parts classes (IsHeld parts classes found.places) place
 
 -- what one context's turn leads to from the place with this number is found
 abbrev pub HasTurn : Parts → List Class → Found → ℕ → ℕ → Type 0

@@ -39,3 +39,11 @@ pub fn class_at(classes: &[Class], line: LineNo) -> Class
         None => Class::Shared,
     }
 }
+
+/// A turn that doesn't keep to the hint: its context, line and mode.
+#[derive(Clone, Copy, Debug, PartialEq, Eq)]
+pub struct Broken {
+    pub context: u32,
+    pub line: LineNo,
+    pub mode: Mode,
+}

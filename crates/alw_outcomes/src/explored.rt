@@ -1,25 +1,34 @@
-ghost use Rattle.std.specs.Prelude.{◌≡◌, ◌≢◌, ◌<◌, ◌≤◌, ◌^◌, ◌-◌, ℕ, [], ◌∷◌, ◌++◌, ◌⊎◌, length, slice_get, Some, true, false, IfOk, IfSome, IfNone, OnOk, IsTrue};
-ghost use Rattle.sparc_table.specs.Turns.{need_of};
-ghost use Rattle.sparc_table.specs.declared.outcomes.Need.{Need};
+ghost use Rattle.std.specs.Prelude.{◌≡◌, ◌<◌, ◌≤◌, ◌+◌, ◌*◌, ◌++◌, ◌∷◌, [], length, map, take, drop, replicate, slice_get, slice_set, slice_index_or, ℕ, Some, true, IfOk, IfSome, OnOk, IsTrue};
+ghost use Rattle.std.specs.List.{range_with_len};
 ghost use Rattle.alw_image.specs.Images.{line_count, context_count};
-ghost use Rattle.alw_outcomes.specs.Places.{Place, place_start, place_turn, regs_at, needs_copy, IsForward, IsReadyAt, GoesOn, HasSizes, traps};
-ghost use Rattle.alw_outcomes.specs.Outcomes.{HasEvery};
-ghost use Rattle.alw_outcomes.specs.Sharing.{IsPrivate, is_allowed, need_at, class_of, is_shared, is_private};
-ghost use Rattle.alw_outcomes.specs.Explored.{found_in, IsAmong, IsReal, IsListed, IsHalted, IsTrapping, Adds, GoesTo, HasAlone, HasTurn, TellsHalt, HasFull, HasExpanded, LeadsTo, endings_in};
+ghost use Rattle.alw_model.specs.Flat.{context_start};
+ghost use Rattle.alw_model.specs.Contexts.{status_start};
+ghost use Rattle.alw_outcomes.specs.Places.{place_start};
+ghost use Rattle.alw_outcomes.specs.Outcomes.{HasEvery, all_halted};
+ghost use Rattle.alw_outcomes.specs.Threads.{thread_at, with_thread};
+ghost use Rattle.alw_outcomes.specs.Pools.{context_of, no_seat, thread_in, AreIn};
+ghost use Rattle.alw_msg.specs.Statuses.{is_halted};
+ghost use Rattle.alw_outcomes.specs.Leads.{IsLead};
+ghost use Rattle.alw_outcomes.specs.Explored.{found_in, place_in, row_in, endings_in, halted_in, IsStored, IsRow, AreAtStart, IsReal, LeadsTo, Adds, GoesTo, HasFirst, HasTurn, TellsHalt, HasFull, HasExpanded};
 
-use crate::classes::{Class, class_at, is_shared, may_access};
-use crate::places::{Place, contexts_of, next_of};
-use crate::seen::Seen;
+use crate::classes::{Broken, Class};
+use crate::leads::{Lead, is_own, lead_of};
+use crate::pools::{Numbers, Pools, Seat, memory_number, seat_number};
+use crate::tables::{Slot, Table, mixed};
+use crate::turns::{contexts_of, lines_of};
+use alw_flat::Memory;
 use alw_image::Image;
-use alw_num::{LineNo, Mode, NoMemory};
-use sparc_exec::Outcome;
+use alw_msg::Status;
+use alw_num::NoMemory;
+use sparc_table::Regs;
 use std::alloc::Global;
 
-/// Where a place came from: the number of an earlier place, and the context that took a turn there.
+/// Where a place came from: the number of an earlier place, and how many turns a context took from there.
 #[derive(Clone, Copy, Debug, PartialEq, Eq)]
 pub struct Origin {
     pub from: u32,
     pub context: u32,
+    pub turns: u32,
 }
 
 /// A turn that traps: the number of its place, its context, PC and trap type.
@@ -31,23 +40,19 @@ pub struct Trapped {
     pub tt: u8,
 }
 
-/// A turn that doesn't keep to the hint: its context, line and mode.
-#[derive(Clone, Copy, Debug, PartialEq, Eq)]
-pub struct Broken {
-    pub context: u32,
-    pub line: LineNo,
-    pub mode: Mode,
-}
-
-/// What an exploration has found.
+/// What a search has found: pools, and of each place the number of its memory, those of its contexts,
+/// and where it came from.
 #[derive(Debug, Drop)]
 pub struct Explored {
-    pub places: Vec<Place>,
+    pub width: u32,
+    pub pools: Pools,
+    pub memories: Vec<u32>,
+    pub rows: Vec<u32>,
+    pub by_row: Table,
     pub origins: Vec<Origin>,
     pub halted: Vec<u32>,
     pub trapped: Vec<Trapped>,
     pub broken: Vec<Broken>,
-    pub seen: Seen,
     pub is_complete: bool,
 }
 
@@ -60,6 +65,7 @@ pub(crate) fn search(
     most: u32,
     alone: bool,
 ) -> Result<Explored, NoMemory>
+    ensures stored { IfOk result (λ found. IsStored image.now found) }
     ensures real { IfOk result (λ found. IsReal image.now (found_in found)) }
     ensures complete { IfOk result (λ found. IsTrue found.is_complete → HasEvery image.now (endings_in (found_in found))) }
 {
@@ -69,7 +75,7 @@ pub(crate) fn search(
             found.is_complete = false;
             return Ok(found);
         }
-        if next as usize >= found.places.len() {
+        if next as usize >= found.memories.len() {
             found.is_complete = true;
             return Ok(found);
         }
@@ -86,7 +92,7 @@ pub fn turns_to(
     found: &Explored,
     at: u32,
 ) -> Result<Vec<u32>, NoMemory>
-    requires at { at < length found.now.places.items }
+    requires at { at < length found.now.memories.items }
     requires real { IsReal image.now (found_in found.now) }
     ensures { IfOk result (λ turns. LeadsTo image.now (found_in found.now) at turns.items) }
 {
@@ -95,39 +101,100 @@ pub fn turns_to(
     let mut place = at;
     while place != 0 {
         let origin = found.origins[place as usize];
-        turns.push(origin.context)?;
+        push_times(&mut turns, origin.context, origin.turns)?;
         place = origin.from;
     }
     turns.reverse();
     Ok(turns)
 }
 
+// Puts a context behind a list so many times.
+fn push_times(turns: &mut Vec<u32>, context: u32, times: u32) -> Result<(), NoMemory>
+    ensures { OnOk result (turns.new.items ≡ turns.old.items ++ replicate times context) }
+{
+    for _ in 0..times {
+        turns.push(context)?;
+    }
+    Ok(())
+}
+
 // The start alone is found.
 fn start(alloc: Global, image: &Image) -> Result<Explored, NoMemory>
-    ensures { IfOk result (λ found. IsReal image.now (found_in found)) }
+    ensures stored { IfOk result (λ found. IsStored image.now found) }
+    ensures real { IfOk result (λ found. IsReal image.now (found_in found)) }
 {
-    let place = Place::start(alloc, image)?;
-    let mut seen = Seen::empty(alloc)?;
-    seen.add(place.digest(), 0)?;
-    let mut places = Vec::new(alloc);
-    places.push(place)?;
+    let mut pools = Pools::empty(alloc);
+    let memory = Memory::start(alloc, image, lines_of(image))?;
+    let number = memory_number(&mut pools.memories, &mut pools.by_memory, memory)?;
+    let rows = seats_at_start(alloc, image, &mut pools)?;
+    let mut memories = Vec::new(alloc);
+    memories.push(number)?;
     let mut origins = Vec::new(alloc);
     origins.push(Origin {
         from: 0,
         context: 0,
+        turns: 0,
     })?;
     Ok(Explored {
-        places,
+        width: contexts_of(image),
+        pools,
+        memories,
+        rows,
+        by_row: Table::empty(alloc),
         origins,
         halted: Vec::new(alloc),
         trapped: Vec::new(alloc),
         broken: Vec::new(alloc),
-        seen,
         is_complete: false,
     })
 }
 
-// Goes on from a place: by a local turn alone where there is one, and else by the turns of all contexts.
+// The numbers of all contexts of an image, at the start.
+fn seats_at_start(alloc: Global, image: &Image, pools: &mut Pools) -> Result<Vec<u32>, NoMemory>
+    requires seats { pools.old.seats.items ≡ [] }
+    ensures seats { IfOk result (λ rows. AreAtStart image.now pools.new.seats.items rows.items (context_count image.now)) }
+    ensures links { OnOk result (pools.new.links.items ≡ pools.old.links.items) }
+    ensures memories { OnOk result (pools.new.memories.items ≡ pools.old.memories.items) }
+{
+    let count = contexts_of(image);
+    let mut rows = Vec::new(alloc);
+    for number in 0..count {
+        let seat = seat_at_start(image, number, count);
+        let at = seat_number(&mut pools.seats, &mut pools.by_seat, &seat)?;
+        rows.push(at)?;
+    }
+    Ok(rows)
+}
+
+// A context of an image, at the start: Halted where the image has no start for it.
+fn seat_at_start(image: &Image, number: u32, count: u32) -> Seat
+    requires number { number < count }
+    requires count { count ≡ context_count image.now }
+    ensures context { context_of result ≡ context_start image.now number }
+    ensures list { result.list ≡ 0 }
+{
+    let start = image.start(number);
+    let status = status_of(start);
+    let regs = Regs::start(start.unwrap_or(0), number, count);
+    Seat {
+        regs,
+        status,
+        list: 0,
+    }
+}
+
+// The status of a context at the start.
+fn status_of(start: Option<u32>) -> Status
+    ensures { result ≡ status_start start }
+{
+    if start.is_some() {
+        Status::Ready
+    } else {
+        Status::Halted
+    }
+}
+
+// Goes on from a place: by a private turn alone where there is one, and else by the turns of all contexts.
 fn expand(
     image: &Image,
     classes: &[Class],
@@ -135,33 +202,37 @@ fn expand(
     at: u32,
     alone: bool,
 ) -> Result<(), NoMemory>
-    requires at { at < length found.old.places.items }
+    requires at { at < length found.old.memories.items }
+    requires stored { IsStored image.now found.old }
     requires real { IsReal image.now (found_in found.old) }
+    ensures stored { OnOk result (IsStored image.now found.new) }
     ensures goes { OnOk result (GoesTo image.now (found_in found.old) (found_in found.new)) }
     ensures expanded { OnOk result (HasExpanded image.now classes.now (found_in found.new) at) }
 {
     if !alone {
-        goes_all(image, classes, found, at)?;
+        goes_all(image, classes, found, at, alone)?;
         return Ok(());
     }
     if goes_alone(image, classes, found, at)? {
         return Ok(());
     }
-    goes_all(image, classes, found, at)?;
+    goes_all(image, classes, found, at, alone)?;
     Ok(())
 }
 
-// Goes on by a local turn of the first context that has one.
+// Goes on by a private turn of the first context that has one.
 fn goes_alone(
     image: &Image,
     classes: &[Class],
     found: &mut Explored,
     at: u32,
 ) -> Result<bool, NoMemory>
-    requires at { at < length found.old.places.items }
+    requires at { at < length found.old.memories.items }
+    requires stored { IsStored image.now found.old }
     requires real { IsReal image.now (found_in found.old) }
+    ensures stored { OnOk result (IsStored image.now found.new) }
     ensures goes { OnOk result (GoesTo image.now (found_in found.old) (found_in found.new)) }
-    ensures alone { IfOk result (λ alone. IsTrue alone → HasAlone image.now classes.now (found_in found.new) at) }
+    ensures alone { IfOk result (λ alone. IsTrue alone → HasFirst image.now classes.now (found_in found.new) at) }
 {
     for context in 0..contexts_of(image) {
         if add_alone(image, classes, found, at, context)? {
@@ -172,14 +243,22 @@ fn goes_alone(
 }
 
 // Goes on by the turns of all contexts.
-fn goes_all(image: &Image, classes: &[Class], found: &mut Explored, at: u32) -> Result<(), NoMemory>
-    requires at { at < length found.old.places.items }
+fn goes_all(
+    image: &Image,
+    classes: &[Class],
+    found: &mut Explored,
+    at: u32,
+    alone: bool,
+) -> Result<(), NoMemory>
+    requires at { at < length found.old.memories.items }
+    requires stored { IsStored image.now found.old }
     requires real { IsReal image.now (found_in found.old) }
+    ensures stored { OnOk result (IsStored image.now found.new) }
     ensures goes { OnOk result (GoesTo image.now (found_in found.old) (found_in found.new)) }
     ensures full { OnOk result (HasFull image.now classes.now (found_in found.new) at) }
 {
     for context in 0..contexts_of(image) {
-        add_turn(image, classes, found, at, context)?;
+        add_turn(image, classes, found, at, context, alone)?;
     }
     tell_halt(image, found, at)?;
     Ok(())
@@ -187,19 +266,52 @@ fn goes_all(image: &Image, classes: &[Class], found: &mut Explored, at: u32) -> 
 
 // Lists a place where all contexts have halted.
 fn tell_halt(image: &Image, found: &mut Explored, at: u32) -> Result<(), NoMemory>
-    requires at { at < length found.old.places.items }
+    requires at { at < length found.old.memories.items }
+    requires stored { IsStored image.now found.old }
     requires real { IsReal image.now (found_in found.old) }
+    ensures stored { OnOk result (IsStored image.now found.new) }
     ensures goes { OnOk result (GoesTo image.now (found_in found.old) (found_in found.new)) }
     ensures tells { OnOk result (TellsHalt (found_in found.new) at) }
 {
     let _parts = image.parts();
-    if found.places[at as usize].has_halted() {
+    if has_halted(image, found, at) {
         found.halted.push(at)?;
     }
     Ok(())
 }
 
-// Finds the place after a local turn of a context, if its turn is one.
+// All contexts have halted at a place.
+fn has_halted(image: &Image, found: &Explored, at: u32) -> bool
+    requires at { at < length found.now.memories.items }
+    requires stored { IsStored image.now found.now }
+    ensures { result ≡ all_halted (place_in found.now at) }
+{
+    let _parts = image.parts();
+    have_halted(&found.pools.seats, row_of(&found.rows, found.width, at))
+}
+
+// All contexts of a row have halted.
+fn have_halted(seats: &[Seat], row: &[u32]) -> bool
+    requires { (k s : ℕ) → slice_get row.now k ≡ Some s → s < length seats.now }
+    ensures { result ≡ halted_in seats.now row.now }
+{
+    for seat in row {
+        if !seat_halted(seats, *seat) {
+            return false;
+        }
+    }
+    true
+}
+
+// The context with this number has halted.
+fn seat_halted(seats: &[Seat], at: u32) -> bool
+    requires { at < length seats.now }
+    ensures { result ≡ is_halted (slice_index_or seats.now at no_seat).status }
+{
+    seats[at as usize].has_halted()
+}
+
+// Finds the place after a private turn of a context, if its turn is one.
 fn add_alone(
     image: &Image,
     classes: &[Class],
@@ -208,78 +320,38 @@ fn add_alone(
     context: u32,
 ) -> Result<bool, NoMemory>
     requires context { context < context_count image.now }
-    requires at { at < length found.old.places.items }
+    requires at { at < length found.old.memories.items }
+    requires stored { IsStored image.now found.old }
     requires real { IsReal image.now (found_in found.old) }
+    ensures stored { OnOk result (IsStored image.now found.new) }
     ensures goes { OnOk result (GoesTo image.now (found_in found.old) (found_in found.new)) }
-    ensures alone { IfOk result (λ alone. IsTrue alone → HasAlone image.now classes.now (found_in found.new) at) }
+    ensures alone { IfOk result (λ alone. IsTrue alone → HasFirst image.now classes.now (found_in found.new) at) }
 {
-    let next = alone_next(image, classes, &found.places[at as usize], context)?;
-    match next {
-        Some(next) => {
-            add(found, next, Origin { from: at, context })?;
+    if !may_go_first(image, classes, found, at, context) {
+        return Ok(false);
+    }
+    let lead = lead_at(image, classes, found, at, context, true)?;
+    match lead {
+        Lead::Goes { to, more, first } => {
+            if !first {
+                return Ok(false);
+            }
+            add(image, found, at, context, to, more)?;
             Ok(true)
         }
-        None => Ok(false),
+        _ => Ok(false),
     }
 }
 
-// The place after a turn of a context, where that is local and forward.
-fn alone_next(
-    image: &Image,
-    classes: &[Class],
-    place: &Place,
-    context: u32,
-) -> Result<Option<Place>, NoMemory>
+// The turn of a context may be one to take first: it is Ready, and needs no shared line.
+fn may_go_first(image: &Image, classes: &[Class], found: &Explored, at: u32, context: u32) -> bool
     requires context { context < context_count image.now }
-    requires sizes { HasSizes image.now place.now }
-    ensures { IfOk result (λ next. IfSome next (λ next. IsPrivate image.now classes.now place.now context × IsForward image.now place.now context × (next ≡ place_turn image.now place.now context))) }
+    requires at { at < length found.now.memories.items }
+    requires stored { IsStored image.now found.now }
 {
-    let before = place.context(context);
-    if !before.is_ready() || !is_own(image, classes, place, context) {
-        return Ok(None);
-    }
-    let (next, outcome) = next_of(image, place, context)?;
-    if has_trapped(outcome) || next.context(context).to_go() >= before.to_go() {
-        return Ok(None);
-    }
-    Ok(Some(next))
-}
-
-// The context's turn keeps to the hint, and needs no shared line.
-fn is_own(image: &Image, classes: &[Class], place: &Place, context: u32) -> bool
-    requires { context < length place.now.flat.contexts }
-    ensures allowed { IsTrue result → is_allowed classes.now context (need_at image.now place.now context) ≡ true }
-    ensures alone { IsTrue result → is_private classes.now (need_at image.now place.now context) ≡ true }
-{
-    match place.need(image, context) {
-        Some((line, mode)) => {
-            let class = class_at(classes, line);
-            !is_shared(class) && may_access(context, mode, class)
-        }
-        None => true,
-    }
-}
-
-// How the context's turn doesn't keep to the hint, if it doesn't.
-fn break_of(image: &Image, classes: &[Class], place: &Place, context: u32) -> Option<Broken>
-    requires { context < length place.now.flat.contexts }
-    ensures kept { IfNone result (is_allowed classes.now context (need_at image.now place.now context) ≡ true) }
-    ensures broken { IfSome result (λ _. is_allowed classes.now context (need_at image.now place.now context) ≡ false) }
-{
-    match place.need(image, context) {
-        Some((line, mode)) => {
-            if may_access(context, mode, class_at(classes, line)) {
-                None
-            } else {
-                Some(Broken {
-                    context,
-                    line,
-                    mode,
-                })
-            }
-        }
-        None => None,
-    }
+    let here = numbers_at(image, found, at, context);
+    let seat = found.pools.seats[here.seat as usize];
+    seat.is_ready() && is_own(image, classes, &seat.regs)
 }
 
 // Finds what a context's turn leads to.
@@ -289,61 +361,178 @@ fn add_turn(
     found: &mut Explored,
     at: u32,
     context: u32,
+    alone: bool,
 ) -> Result<(), NoMemory>
     requires context { context < context_count image.now }
-    requires at { at < length found.old.places.items }
+    requires at { at < length found.old.memories.items }
+    requires stored { IsStored image.now found.old }
     requires real { IsReal image.now (found_in found.old) }
+    ensures stored { OnOk result (IsStored image.now found.new) }
     ensures goes { OnOk result (GoesTo image.now (found_in found.old) (found_in found.new)) }
     ensures turn { OnOk result (HasTurn image.now classes.now (found_in found.new) at context) }
 {
-    let place = &found.places[at as usize];
-    let before = place.context(context);
-    if !before.is_ready() {
-        return Ok(());
-    }
-    if let Some(turn) = break_of(image, classes, place, context) {
-        found.broken.push(turn)?;
-        return Ok(());
-    }
-    let (next, outcome) = next_of(image, place, context)?;
-    match outcome {
-        Outcome::Trap { tt } => {
+    let lead = lead_at(image, classes, found, at, context, alone)?;
+    match lead {
+        Lead::Idle => Ok(()),
+        Lead::Breaks { turn } => {
+            found.broken.push(turn)?;
+            Ok(())
+        }
+        Lead::Traps { pc, tt } => {
             found.trapped.push(Trapped {
                 at,
                 context,
-                pc: before.regs.pc,
+                pc,
                 tt,
             })?;
             Ok(())
         }
-        _ => {
-            add(found, next, Origin { from: at, context })?;
+        Lead::Goes { to, more, first: _ } => {
+            add(image, found, at, context, to, more)?;
             Ok(())
         }
     }
 }
 
-// Finds a place, which may be found already.
-fn add(found: &mut Explored, place: Place, origin: Origin) -> Result<(), NoMemory>
-    ensures { OnOk result (Adds (found_in found.old) (found_in found.new) place origin) }
+// What the turn of a context leads to from a place.
+fn lead_at(
+    image: &Image,
+    classes: &[Class],
+    found: &mut Explored,
+    at: u32,
+    context: u32,
+    alone: bool,
+) -> Result<Lead, NoMemory>
+    requires context { context < context_count image.now }
+    requires at { at < length found.old.memories.items }
+    requires stored { IsStored image.now found.old }
+    ensures stored { OnOk result (IsStored image.now found.new) }
+    ensures same { OnOk result (found_in found.new ≡ found_in found.old) }
+    ensures memories { OnOk result (found.new.memories.items ≡ found.old.memories.items) }
+    ensures lead { IfOk result (λ lead. IsLead image.now classes.now context (thread_at (place_in found.new at) context) found.new.pools lead) }
 {
-    let digest = place.digest();
-    match found.seen.find(&found.places, &place, digest) {
+    let here = numbers_at(image, found, at, context);
+    let lead = lead_of(image, classes, &mut found.pools, here, context, alone)?;
+    Ok(lead)
+}
+
+// The numbers of a context and the memory at a place.
+fn numbers_at(image: &Image, found: &Explored, at: u32, context: u32) -> Numbers
+    requires context { context < context_count image.now }
+    requires at { at < length found.now.memories.items }
+    requires stored { IsStored image.now found.now }
+    ensures inside { AreIn found.now.pools result }
+    ensures thread { thread_in found.now.pools result ≡ thread_at (place_in found.now at) context }
+{
+    let _parts = image.parts();
+    let row = row_of(&found.rows, found.width, at);
+    Numbers {
+        memory: found.memories[at as usize],
+        seat: row[context as usize],
+    }
+}
+
+// The numbers of the contexts at a place.
+fn row_of(rows: &[u32], width: u32, at: u32) -> &[u32]
+    requires { at * width + width ≤ length rows.now }
+    ensures { result.now ≡ take width (drop (at * width) rows.now) }
+{
+    let (_before, rest) = rows.split_at(at as usize * width as usize);
+    let (row, _after) = rest.split_at(width as usize);
+    row
+}
+
+// Finds the place at which a context's turns from another lead, which may be found already.
+fn add(
+    image: &Image,
+    found: &mut Explored,
+    at: u32,
+    context: u32,
+    to: Numbers,
+    more: u32,
+) -> Result<(), NoMemory>
+    requires context { context < context_count image.now }
+    requires at { at < length found.old.memories.items }
+    requires to { AreIn found.old.pools to }
+    requires stored { IsStored image.now found.old }
+    ensures stored { OnOk result (IsStored image.now found.new) }
+    ensures adds { OnOk result (Adds (found_in found.old) (found_in found.new) (with_thread (place_in found.old at) context (thread_in found.old.pools to)) (record { from = at; context = context; turns = more + 1 })) }
+{
+    let _parts = image.parts();
+    if more == u32::MAX || found.memories.len() >= 4_294_967_295 {
+        return Err(NoMemory);
+    }
+    let row = changed_row(found, at, context, to.seat)?;
+    let digest = digest_of(to.memory, &row);
+    match find_row(found, to.memory, &row, digest) {
         Some(_at) => return Ok(()),
         None => {}
     }
-    if found.places.len() >= 4_294_967_295 {
-        return Err(NoMemory);
-    }
-    found.seen.add(digest, found.places.len() as u32)?;
-    found.places.push(place)?;
-    found.origins.push(origin)?;
+    found.by_row.add(digest, found.memories.len() as u32)?;
+    found.memories.push(to.memory)?;
+    found.rows.extend_from_slice(&row)?;
+    found.origins.push(Origin {
+        from: at,
+        context,
+        turns: more + 1,
+    })?;
     Ok(())
 }
 
-// The turn traps.
-fn has_trapped(outcome: Outcome) -> bool
-    ensures { result ≡ traps outcome }
+// The numbers of the contexts at a place, with another one for a context.
+fn changed_row(found: &Explored, at: u32, context: u32, seat: u32) -> Result<Vec<u32>, NoMemory>
+    requires context { context < found.now.width }
+    requires at { at * found.now.width + found.now.width ≤ length found.now.rows.items }
+    ensures { IfOk result (λ row. row.items ≡ slice_set (row_in found.now at) context seat) }
 {
-    matches!(outcome, Outcome::Trap { .. })
+    let mut row = Vec::with_capacity(*found.rows.allocator(), found.width as usize)?;
+    row.extend_from_slice(row_of(&found.rows, found.width, at))?;
+    row[context as usize] = seat;
+    Ok(row)
+}
+
+// The number of the place with this memory and these contexts, if the table tells one.
+fn find_row(found: &Explored, memory: u32, row: &[u32], digest: u32) -> Option<u32>
+    requires rows { length found.now.rows.items ≡ length found.now.memories.items * found.now.width }
+    ensures { IfSome result (λ at. IsRow found.now at memory row.now) }
+{
+    for behind in 0..found.by_row.len() {
+        match found.by_row.slot(digest, behind) {
+            Slot::Free => return None,
+            Slot::Number(at) => {
+                if is_row(found, at, memory, row) {
+                    return Some(at);
+                }
+            }
+            Slot::Other => {}
+        }
+    }
+    None
+}
+
+// The place with this number has this memory and these contexts.
+fn is_row(found: &Explored, at: u32, memory: u32, row: &[u32]) -> bool
+    requires rows { length found.now.rows.items ≡ length found.now.memories.items * found.now.width }
+    ensures { IsTrue result → IsRow found.now at memory row.now }
+{
+    if at as usize >= found.memories.len() {
+        return false;
+    }
+    found.memories[at as usize] == memory && same_row(row_of(&found.rows, found.width, at), row)
+}
+
+// Both rows are the same.
+fn same_row(one: &[u32], other: &[u32]) -> bool
+    ensures { IsTrue result → one.now ≡ other.now }
+{
+    one == other
+}
+
+// A number that is the same for the same memory and contexts.
+fn digest_of(memory: u32, row: &[u32]) -> u32 {
+    let mut digest = mixed(7, memory);
+    for seat in row {
+        digest = mixed(digest, *seat);
+    }
+    digest
 }

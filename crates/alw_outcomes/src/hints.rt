@@ -2,9 +2,9 @@ ghost use Rattle.std.specs.Prelude.{◌≡◌, IfOk, IsTrue};
 ghost use Rattle.alw_outcomes.specs.Outcomes.{HasEvery};
 ghost use Rattle.alw_outcomes.specs.Explored.{found_in, endings_in, IsReal};
 
-use crate::classes::{Class, class_at};
-use crate::explored::{Broken, Explored, search};
-use crate::places::lines_of;
+use crate::classes::{Broken, Class, class_at};
+use crate::explored::{Explored, search};
+use crate::turns::lines_of;
 use alw_image::Image;
 use alw_num::{Mode, NoMemory};
 use std::alloc::Global;

@@ -5,11 +5,13 @@ mod classes;
 mod explored;
 mod hints;
 mod laws;
-mod places;
-mod seen;
+mod leads;
+mod pools;
+mod tables;
+mod turns;
 
-pub use classes::Class;
-pub use explored::{Broken, Explored, Origin, Trapped, turns_to};
+pub use classes::{Broken, Class};
+pub use explored::{Explored, Origin, Trapped, turns_to};
 pub use hints::{explore, explore_whole};
 pub use laws::{
     each_trap_is_told, local_turns_commute, private_turns_first, reduced_set_tells_all,

@@ -29,7 +29,7 @@ fn crossing_prints_no_two_zeros(rt: HostRuntime) -> Result<(), Fail> {
 fn all_turns_lead_to_as_many_ends(rt: HostRuntime) -> Result<(), Fail> {
     let image = read_image(rt.alloc(), &CROSSING)?;
     let found = explore_whole(rt.alloc(), &image, 1000)?;
-    assert_eq!(rt; found.places.len(), 193);
+    assert_eq!(rt; found.memories.len(), 193);
     assert_eq!(rt; found.halted.len(), 3);
     Ok(())
 }
@@ -48,7 +48,7 @@ fn a_search_that_stops_is_not_complete(rt: HostRuntime) -> Result<(), Fail> {
 fn two_turns_lead_to_the_fourth_place(rt: HostRuntime) -> Result<(), Fail> {
     let image = read_image(rt.alloc(), &CROSSING)?;
     let found = explore_whole(rt.alloc(), &image, 1000)?;
-    if found.places.len() > 3 {
+    if found.memories.len() > 3 {
         let turns = turns_to(rt.alloc(), &image, &found, 3)?;
         assert_eq!(rt; turns.len(), 2);
         assert!(rt; turns.iter().all(|context| *context == 0));

@@ -1,0 +1,71 @@
+-- What one context's turn adds to what was found.
+use Rattle.std.proofs.Common.{◌≡◌, ℕ, ◌+◌, ◌<◌, Bool, true, false, List, [], ◌∷◌, ◌++◌, length, IsTrue, refl, sym, ap, ◌∙◌, subst, arith}
+use Rattle.alw_image.specs.declared.parts.Parts.{Parts}
+use Rattle.alw_image.specs.Images.{context_count}
+use Rattle.alw_msg.specs.Statuses.{is_ready}
+use Rattle.alw_outcomes.specs.declared.classes.Class.{Class}
+use Rattle.alw_outcomes.specs.declared.classes.Broken.{Broken}
+use Rattle.alw_outcomes.specs.declared.pools.Numbers.{Numbers}
+use Rattle.alw_outcomes.specs.declared.pools.Pools.{Pools}
+use Rattle.alw_outcomes.specs.declared.explored.Origin.{Origin}
+use Rattle.alw_outcomes.specs.declared.explored.Trapped.{Trapped}
+use Rattle.alw_outcomes.specs.declared.explored.Explored.{Explored}
+use Rattle.alw_outcomes.specs.Places.{Place}
+use Rattle.alw_outcomes.specs.Sharing.{is_allowed}
+use Rattle.alw_outcomes.specs.Threads.{Thread, thread_at, with_thread, thread_need}
+use Rattle.alw_outcomes.specs.Pools.{thread_in, GoOn}
+use Rattle.alw_outcomes.specs.Leads.{IsTrapOf, IsGoing}
+use Rattle.alw_outcomes.specs.Explored.{Found, Adds, GoesTo, HasFirst, HasTurn, IsReal, IsStored, row_in, place_in, found_in}
+use Rattle.alw_outcomes.proofs.Storing.{number_place, memory_inside, row_inside, place_grows, places_grow}
+use Rattle.alw_outcomes.proofs.Steps.{IsTurnAdded, turn_idle, led_to, turn_led, first_led, trap_added, break_added, goes_refl}
+
+pub found_grows : (parts : Parts) (before after : Explored) → IsStored parts before → GoOn parts before.pools after.pools → after.width ≡ before.width → after.memories.items ≡ before.memories.items → after.rows.items ≡ before.rows.items
+    → after.origins.items ≡ before.origins.items → after.halted.items ≡ before.halted.items → after.trapped.items ≡ before.trapped.items → after.broken.items ≡ before.broken.items → found_in after ≡ found_in before
+found_grows parts before after stored go width memories rows origins halted trapped broken =
+    let places = places_grow parts before after stored go.grow width memories rows in
+    λ i. record { places = places i; origins = origins i; halted = halted i; trapped = trapped i; broken = broken i }
+
+-- a thread at a place, once the pools have grown
+pub thread_stays : (parts : Parts) (before after : Explored) (at context : ℕ) (thread : Thread) → IsStored parts before → at < length before.memories.items → GoOn parts before.pools after.pools → after.width ≡ before.width → after.memories ≡ before.memories → after.rows ≡ before.rows
+    → thread ≡ thread_at (place_in before at) context → thread ≡ thread_at (place_in after at) context
+thread_stays parts before after at context thread stored within go width memories rows is =
+    let grown = place_grows parts before.pools after.pools stored.pools go.grow _ (row_in before at) (memory_inside parts before at stored within) (row_inside parts before at stored within) in
+    let same : place_in after at ≡ place_in before at = (λ i. place_in (record after { width = width i; memories = memories i; rows = rows i }) at) ∙ grown in
+    is ∙ ap (λ (p : Place). thread_at p context) (sym same)
+
+pub record IsDone (parts : Parts) (classes : List Class) (one three : Found) (at context : ℕ) : Type 0 where
+  pub goes : GoesTo parts one three
+  pub turn : HasTurn parts classes three at context
+
+module _ (parts : Parts) (classes : List Class) (one : Found) (two : Explored) (at context : ℕ) (real : IsReal parts one) (same : found_in two ≡ one) (within : at < length two.memories.items) where
+  real_two : IsReal parts (found_in two)
+  real_two = subst (IsReal parts) (sym same) real
+
+  from_one : (three : Found) → GoesTo parts (found_in two) three → GoesTo parts one three
+  from_one three goes = subst (λ (f : Found). GoesTo parts f three) same goes
+
+  done : (three : Found) → IsTurnAdded parts classes (found_in two) three at context → IsDone parts classes one three at context
+  done three added = record { goes = from_one three added.goes; turn = added.turn }
+
+  pub goes_same : GoesTo parts one (found_in two)
+  goes_same = from_one (found_in two) (goes_refl parts (found_in two) real_two)
+
+  pub idle_done : is_ready (thread_at (place_in two at) context).context.status ≡ false → IsDone parts classes one (found_in two) at context
+  idle_done idle = record { goes = goes_same; turn = turn_idle parts classes (found_in two) at context (place_in two at) (number_place two at within) idle }
+
+  pub break_done : (turn : Broken) (broken : List Broken) → is_allowed classes context (thread_need parts (thread_at (place_in two at) context)) ≡ false → broken ≡ two.broken.items ++ turn ∷ [] → IsDone parts classes one (record (found_in two) { broken = broken }) at context
+  break_done turn broken refused pushed = done (record (found_in two) { broken = broken }) (break_added parts classes (found_in two) at context (place_in two at) turn broken (number_place two at within) real_two refused pushed)
+
+  pub trap_done : (pc tt' : ℕ) (trapped : List Trapped) → IsTrapOf parts classes context (thread_at (place_in two at) context) pc tt' → trapped ≡ two.trapped.items ++ record { at = at; context = context; pc = pc; tt = tt' } ∷ [] → IsDone parts classes one (record (found_in two) { trapped = trapped }) at context
+  trap_done pc tt' trapped is pushed = done (record (found_in two) { trapped = trapped }) (trap_added parts classes (found_in two) at context pc (place_in two at) tt' trapped (number_place two at within) real_two is pushed)
+
+  module _ (to : Numbers) (more : ℕ) (first : Bool) (three : Found) (exists : context < context_count parts) (is : IsGoing parts classes context (thread_at (place_in two at) context) two.pools to more first)
+      (adds : Adds (found_in two) three (with_thread (place_in two at) context (thread_in two.pools to)) (record { from = at; context = context; turns = more + 1 })) where
+    pub going_done : IsDone parts classes one three at context
+    going_done = record {
+      goes = from_one three (led_to parts classes (found_in two) three at context more (place_in two at) (thread_in two.pools to) (number_place two at within) real_two exists is.goes is.chain.private is.chain.end adds).goes;
+      turn = turn_led parts classes (found_in two) three at context more (place_in two at) (thread_in two.pools to) (number_place two at within) real_two exists is.goes is.chain.private is.chain.end adds;
+    }
+
+    pub first_done : IsTrue first → HasFirst parts classes three at
+    first_done yes' = first_led parts classes (found_in two) three at context more (place_in two at) (thread_in two.pools to) (number_place two at within) real_two exists is.goes is.chain.private is.chain.end adds (is.first_is yes')

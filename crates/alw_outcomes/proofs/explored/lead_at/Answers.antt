@@ -1,0 +1,17 @@
+-- Pools that have grown leave what was found.
+use Rattle.std.proofs.Common.{refl, subst}
+use Rattle.alw_outcomes.specs.Threads.{Thread}
+use Rattle.alw_outcomes.specs.Leads.{IsLead}
+use Rattle.alw_outcomes.proofs.Going.{found_grows, thread_stays}
+use Rattle.alw_outcomes.proofs.explored.lead_at.Goals as goal
+
+pub returns-clause-same : goal.returns-clause-same
+returns-clause-same c =
+    found_grows c.args.image.now c.args.found.now (record { width = c.args.found.now.width; pools = c.lead_of.new.pools; memories = c.args.found.now.memories; rows = c.args.found.now.rows; by_row = c.args.found.now.by_row; origins = c.args.found.now.origins; halted = c.args.found.now.halted; trapped = c.args.found.now.trapped; broken = c.args.found.now.broken; is_complete = c.args.found.now.is_complete })
+    c.requires.stored c.in_ok-lead.ensures.grow refl refl refl refl refl refl refl
+
+pub returns-clause-lead : goal.returns-clause-lead
+returns-clause-lead c =
+    subst (λ (t : Thread). IsLead c.args.image.now c.args.classes.now c.args.context t c.lead_of.new.pools c.in_ok-lead.lead)
+    (thread_stays c.args.image.now c.args.found.now (record { width = c.args.found.now.width; pools = c.lead_of.new.pools; memories = c.args.found.now.memories; rows = c.args.found.now.rows; by_row = c.args.found.now.by_row; origins = c.args.found.now.origins; halted = c.args.found.now.halted; trapped = c.args.found.now.trapped; broken = c.args.found.now.broken; is_complete = c.args.found.now.is_complete }) c.args.at c.args.context _ c.requires.stored c.requires.at c.in_ok-lead.ensures.grow refl refl refl c.numbers_at-here.ensures.thread)
+    c.in_ok-lead.ensures.lead
