@@ -11,8 +11,10 @@ What is tested:
 - what tools/words.py writes of the command words is current: the launcher's help, the manual's options, the completions. README.md's table has each
   command with its options, and README.md and the manual say the times that the launcher says.
 - each edit still fits: its old text stands once in its file.
-- each block of README.md and docs/EXAMPLES.md that shows commands or C is a file of examples/, of which the checks there run
-  each, and each file *.shell of examples/ stands in one of the two.
+- each block of README.md, docs/EXAMPLES.md and docs/LANGUAGE.md that shows commands, C or assembly is a file of examples/, of
+  which the checks there run each, and each file *.shell of examples/ stands in one of the pages.
+- docs/LANGUAGE.md has each mnemonic and directive in its tables, and no other. Each example of a statement is a line of a case of the group sources
+  that is assembled, as is a statement of each name; and each source with a fault is a case with that fault, of which each has one.
 - docs/ARCHITECTURE.md has each crate of crates.txt, in that order, and no other.
 - a crate of crates.txt stands on crates of its own floor and of those that the floor's line names; what it lists else is of the toolchain.
 - cases/README.md names each group of cases.
@@ -33,6 +35,8 @@ sys.dont_write_bytecode = True
 import words
 from alewife import Findings, ROOT
 
+LANGUAGE = ROOT / 'docs' / 'LANGUAGE.md'
+SPELLING = {LANGUAGE}
 HEADINGS = ['What it does', 'What a contract sees', 'What is proved', 'What is only tested', 'Left open', 'A caller']
 CRATE_TABLE = ['promise', 'function, clause', 'edit that is refused']
 COMMAND_TABLE = ['command', 'reads', 'writes', 'options']
@@ -357,8 +361,8 @@ WORD = re.compile(r'[A-Za-z_◌][\w-]*')
 
 
 def check_names(findings, file, repository, folder):
-    """Each path in `code` is there, and each name that looks like one of the repository's is declared in it."""
-    known = set().union(*(crate.names for crate in repository.values())) | OUTSIDE
+    """Each path in `code` is there, and each name that looks like one of the repository's is declared in it. A page of a language has words of it."""
+    known = set().union(*(crate.names for crate in repository.values())) | OUTSIDE | (spelled_words() if file in SPELLING else set())
     known |= {item for crate in repository.values() for item in crate.types}
     for number, line in enumerate(without_fences(file.read_text()).splitlines(), 1):
         for span in SPAN.findall(line):
@@ -562,19 +566,75 @@ def check_all_refuse(findings, file, named, repository):
             findings.say(file, 0, f'has no row of {", ".join(sorted(missing))} of {name}')
 
 
+WITH_EXAMPLES = ROOT / 'README.md', ROOT / 'docs' / 'EXAMPLES.md', LANGUAGE
+KINDS = {'c': 'c', 'asm': 's'}
+
+
 def check_examples(findings):
-    """Each block of the two pages that shows commands is one of the examples, which examples/check runs, and each in C is a program there."""
-    examples = {kind: {example.read_text(): example for example in (ROOT / 'examples').rglob(f'*.{kind}')} for kind in ('shell', 'c')}
+    """Each block of these pages that shows commands is one of the examples, which examples/check runs, and each in C or assembly is a program there."""
+    examples = {kind: {example.read_text(): example for example in (ROOT / 'examples').rglob(f'*.{kind}')} for kind in ('shell', 'c', 's')}
     shown = set()
-    for file in (ROOT / 'README.md', ROOT / 'docs' / 'EXAMPLES.md'):
+    for file in WITH_EXAMPLES:
         for language, block in re.findall(r'^```(\w*)\n(.*?)^```$', file.read_text(), flags=re.M | re.S):
-            kind = 'c' if language == 'c' else 'shell'
+            kind = KINDS.get(language, 'shell')
             shown.add(block)
-            if (language == 'c' or block.startswith('$ ')) and block not in examples[kind]:
+            if (language in KINDS or block.startswith('$ ')) and block not in examples[kind]:
                 findings.say(file, 0, f"no file *.{kind} of examples/ is the block that begins with '{block.splitlines()[0]}'")
     for text, example in examples['shell'].items():
         if text not in shown:
-            findings.say(example, 0, 'stands neither in README.md nor in docs/EXAMPLES.md')
+            findings.say(example, 0, f'stands in none of {", ".join(file.name for file in WITH_EXAMPLES)}')
+
+
+def cells_below(file, name):
+    """The cells of a page's tables that stand below this name, each with its line."""
+    for head, rows in tables_of(file.read_text()):
+        for place in (k for k, each in enumerate(head) if each == name):
+            yield from ((row.line, row.cells[place]) for row in rows if len(row.cells) == len(head))
+
+
+def check_listed(findings, file, heads, wanted):
+    """What stands in code below these heads begins with each wanted word, and with no other."""
+    said = {span.split()[0] for name in heads for _, cell in cells_below(file, name) for span in SPAN.findall(cell)}
+    for word in sorted(said ^ set(wanted)):
+        findings.say(file, 0, f'says {word} below {heads[0]}, which the sources lack' if word in said else f'lacks {word} below {heads[0]}')
+
+
+FAULT = re.compile(r'^asm_text \(asm\.\w+ line\) = asm_fault_text line \(codes "([^"]+)"\)$', re.M)
+
+
+def check_faults(findings, sources):
+    """Each row of a source with its fault is a case, and each fault has a row."""
+    refused = {(row['input'].rstrip('\n'), row.get('error')) for row in sources if isinstance(row['input'], str)}
+    cells = zip(cells_below(LANGUAGE, 'source'), cells_below(LANGUAGE, 'fault'))
+    said = [(line, '\n'.join(SPAN.findall(source)), fault.strip('`')) for (line, source), (_, fault) in cells]
+    for line, source, fault in said:
+        if (source, f'alewife: input refused: {fault}') not in refused:
+            findings.say(LANGUAGE, line, f'no case of the group sources is this source with the fault {fault}')
+    wanted = set(FAULT.findall((ROOT / 'crates' / 'alw_cli' / 'specs' / 'Texts.antt').read_text()))
+    for fault in sorted(wanted ^ {fault.partition(': ')[2] for _, _, fault in said}):
+        findings.say(LANGUAGE, 0, f'the fault {fault} is in its table of sources or one of the program, and not both')
+
+
+def check_language(findings):
+    """docs/LANGUAGE.md: all names of statements, examples that are assembled, and sources that are refused."""
+    mnemonics, directives = words.read_names()
+    names = [*mnemonics, *(f'.{name}' for name in directives)]
+    check_listed(findings, LANGUAGE, ('mnemonic', 'branch', 'trap'), mnemonics)
+    check_listed(findings, LANGUAGE, ('directive',), names[len(mnemonics):])
+    sources = [json.loads(line) for line in (ROOT / 'cases' / 'sources.jsonl').read_text().splitlines()]
+    lines = {line for row in sources if row['status'] == 0 for line in row['input'].splitlines()}
+    for number, cell in cells_below(LANGUAGE, 'example'):
+        if cell.strip('`') not in lines:
+            findings.say(LANGUAGE, number, f'no case of the group sources has the line {cell}')
+    for name in sorted(set(names) - {re.split('[ ,]', line)[0] for line in lines}):
+        findings.say(LANGUAGE, 0, f'no case of the group sources has a statement {name}')
+    check_faults(findings, sources)
+
+
+def spelled_words():
+    """The words that the program reads or writes, which definitions spell, and letters, which stand for operands."""
+    texts = (file.read_text() for file in (ROOT / 'crates').glob('*/specs/**/*.antt'))
+    return {word for text in texts for spelled in re.findall(r'codes "([^"]*)"', text) for word in WORD.findall(spelled)} | {*'abcdefghijklmnopqrstuvwxyz'}
 
 
 def documents(repository):
@@ -606,6 +666,7 @@ def main():
     check_refusals(findings, repository)
     check_cases(findings)
     check_examples(findings)
+    check_language(findings)
     if findings.count:
         print(f'documents: {findings.count} findings')
     return 1 if findings.count else 0
