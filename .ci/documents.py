@@ -11,10 +11,12 @@ What is tested:
 - what tools/words.py writes of the command words is current: the launcher's help, the manual's options, the completions. README.md's table has each
   command with its options, and README.md and the manual say the times that the launcher says.
 - each edit still fits: its old text stands once in its file.
-- each block of README.md, docs/EXAMPLES.md and docs/LANGUAGE.md that shows commands, C or assembly is a file of examples/, of
+- each block of README.md, docs/EXAMPLES.md, docs/LANGUAGE.md and docs/FORMATS.md that shows commands, C or assembly is a file of examples/, of
   which the checks there run each, and each file *.shell of examples/ stands in one of the pages.
 - docs/LANGUAGE.md has each mnemonic and directive in its tables, and no other. Each example of a statement is a line of a case of the group sources
   that is assembled, as is a statement of each name; and each source with a fault is a case with that fault, of which each has one.
+- docs/FORMATS.md: its rules have the words that the definitions of texts spell, and no other, and what each case writes is of its rule. Its tables have
+  each event, message, state, status, trap type, key, field and fault of the definitions, and no other; each line of a refusal is that of a case.
 - docs/ARCHITECTURE.md has each crate of crates.txt, in that order, and no other.
 - a crate of crates.txt stands on crates of its own floor and of those that the floor's line names; what it lists else is of the toolchain.
 - cases/README.md names each group of cases.
@@ -32,11 +34,13 @@ from pathlib import Path
 
 sys.path.insert(0, str(Path(__file__).resolve().parent.parent / 'tools'))
 sys.dont_write_bytecode = True
+import grammars
 import words
 from alewife import Findings, ROOT
 
 LANGUAGE = ROOT / 'docs' / 'LANGUAGE.md'
-SPELLING = {LANGUAGE}
+FORMATS = ROOT / 'docs' / 'FORMATS.md'
+SPELLING = {LANGUAGE, FORMATS}
 HEADINGS = ['What it does', 'What a contract sees', 'What is proved', 'What is only tested', 'Left open', 'A caller']
 CRATE_TABLE = ['promise', 'function, clause', 'edit that is refused']
 COMMAND_TABLE = ['command', 'reads', 'writes', 'options']
@@ -566,7 +570,7 @@ def check_all_refuse(findings, file, named, repository):
             findings.say(file, 0, f'has no row of {", ".join(sorted(missing))} of {name}')
 
 
-WITH_EXAMPLES = ROOT / 'README.md', ROOT / 'docs' / 'EXAMPLES.md', LANGUAGE
+WITH_EXAMPLES = ROOT / 'README.md', ROOT / 'docs' / 'EXAMPLES.md', LANGUAGE, FORMATS
 KINDS = {'c': 'c', 'asm': 's'}
 
 
@@ -631,10 +635,74 @@ def check_language(findings):
     check_faults(findings, sources)
 
 
+# What the tables of docs/FORMATS.md list: below which head what these files of crates/ have, as an expression finds it.
+LISTED = {
+    'kind': (['alw_save/specs/Lines.antt'], r'^kind_text .*codes "(\w+)"'),
+    'state': (['alw_report/specs/Reports.antt'], r'^state_text .*codes "(\w+)"'),
+    'meta state': (['alw_report/specs/Reports.antt'], r'^meta_text .*codes "([\w-]+)"'),
+    'key': (['alw_report/specs/Json.antt'], r'\(codes "(\w+)",'),
+    'letter': (['alw_trace/specs/Texts.antt'], r'^event_text .*? = codes " (\w) "'),
+    'does': (['alw_save/specs/Lines.antt'], r'^status_text .*codes "(\w+)'),
+    'tt': ([f'sparc_table/specs/{name}.antt' for name in ('Access', 'Meaning', 'Turns')], r'\b(?:Err|Trap) \(?(0x[0-9a-fA-F]{2})\b'),
+    'status': (['alw_cli/specs/Statuses.antt', 'alw_cli/src/main.rt'], r'^(?:status_of .* =|const NO_WORDS: u8 =) (\d+)'),
+    'offset': (['alw_image/specs/Faults.antt'], r'\((?:Magic |Version )?(\d+)(?:, is_within|\))'),
+    'fault of an image': (['alw_cli/specs/Texts.antt'], r'^image_text .*codes "(\w+)"'),
+}
+# The definitions of what is written.
+WRITTEN = ['alw_text/specs/Numbers', 'alw_report/specs/Reports', 'alw_trace/specs/Texts', 'alw_save/specs/Lines', 'alw_save/specs/Checkpoints',
+           'alw_save/specs/States', 'alw_route/specs/Texts', 'alw_cli/specs/Auditing', 'alw_cli/specs/Texts']
+ALONE = {'save': 'checkpoint', 'route': 'route', 'audit': 'verdict'}
+
+
+def spelled_by(file):
+    """The texts that a file of definitions spells, with blanks for line feeds."""
+    return re.findall(r'codes "([^"]*)"', file.read_text().replace('\\n', ' '))
+
+
+def rule_of(called):
+    """The rule of what a call of the program writes, from its words; None where that has none."""
+    command, *options = called.split() or ['']
+    if command in ALONE:
+        return ALONE[command]
+    form = dict(zip(options[::2], options[1::2])).get('--write', 'image' if command == 'asm' else 'report')
+    return form if form in ('listing', 'report', 'summary', 'trace', 'claim') else None
+
+
+def check_written(findings, rules):
+    """What each case writes is of its rule, and each line of a refusal in a table is that of a case."""
+    forms, refused = {name: re.compile(grammars.expression(rules, name)) for name in rules}, set()
+    for group in sorted((ROOT / 'cases').glob('*.jsonl')):
+        for row in map(json.loads, group.read_text().splitlines()):
+            texts = {'refusal': row.get('error'), rule_of(row['words'].rpartition(' | ')[2]): row.get('output')}
+            refused.add(row.get('error', '').partition(': ')[2])
+            for rule, text in texts.items():
+                if rule and text and isinstance(text, str) and not forms[rule].fullmatch(text + '\n' * (rule == 'refusal')):
+                    findings.say(FORMATS, 0, f'what the case {group.stem}: {row["name"]} writes is no {rule}')
+    for number, cell in cells_below(FORMATS, 'line'):
+        if cell.strip('`') not in refused:
+            findings.say(FORMATS, number, f'no case is refused with {cell}')
+
+
+def check_formats(findings):
+    """docs/FORMATS.md: the words and the names of all that is written, and rules that cases are of."""
+    rules = grammars.rules_of(FORMATS.read_text())
+    said = {word for text in grammars.spelled_in(rules) for word in WORD.findall(text)}
+    spelled = {word for name in WRITTEN for text in spelled_by(ROOT / 'crates' / f'{name}.antt') for word in WORD.findall(text)}
+    for word in sorted(said ^ spelled):
+        findings.say(FORMATS, 0, f'its rules say {word}, which no definition spells' if word in said else f'its rules lack {word}, which a definition spells')
+    for name in sorted(grammars.unnamed(rules)):
+        findings.say(FORMATS, 0, f'a rule names {name}, which none has')
+    for head, (files, form) in LISTED.items():
+        texts = ((ROOT / 'crates' / file).read_text() for file in files)
+        check_listed(findings, FORMATS, (head,), {found for text in texts for found in re.findall(form, text, re.M)})
+    if not grammars.unnamed(rules):
+        check_written(findings, rules)
+
+
 def spelled_words():
-    """The words that the program reads or writes, which definitions spell, and letters, which stand for operands."""
-    texts = (file.read_text() for file in (ROOT / 'crates').glob('*/specs/**/*.antt'))
-    return {word for text in texts for spelled in re.findall(r'codes "([^"]*)"', text) for word in WORD.findall(spelled)} | {*'abcdefghijklmnopqrstuvwxyz'}
+    """The words that the program reads or writes, which definitions spell; what rules are given; and letters, which stand for operands."""
+    files = (ROOT / 'crates').glob('*/specs/**/*.antt')
+    return {word for file in files for text in spelled_by(file) for word in WORD.findall(text)} | {*grammars.GIVEN, *'abcdefghijklmnopqrstuvwxyz'}
 
 
 def documents(repository):
@@ -667,6 +735,7 @@ def main():
     check_cases(findings)
     check_examples(findings)
     check_language(findings)
+    check_formats(findings)
     if findings.count:
         print(f'documents: {findings.count} findings')
     return 1 if findings.count else 0
