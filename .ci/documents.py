@@ -15,8 +15,9 @@ What is tested:
   which the checks there run each, and each file *.shell of examples/ stands in one of the pages.
 - docs/LANGUAGE.md has each mnemonic and directive in its tables, and no other. Each example of a statement is a line of a case of the group sources
   that is assembled, as is a statement of each name; and each source with a fault is a case with that fault, of which each has one.
-- docs/FORMATS.md: its rules have the words that the definitions of texts spell, and no other, and what each case writes is of its rule. Its tables have
-  each event, message, state, status, trap type, key, field and fault of the definitions, and no other; each line of a refusal is that of a case.
+- docs/FORMATS.md: its rules have the words that the definitions of texts spell, and no other. What each case writes is of its rule, and what is refused
+  for its form isn't. Its tables have each event, message, state, status, trap type, key, field and fault of the definitions, and no other; each line of a
+  refusal is that of a case.
 - docs/ARCHITECTURE.md has each crate of crates.txt, in that order, and no other.
 - a crate of crates.txt stands on crates of its own floor and of those that the floor's line names; what it lists else is of the toolchain.
 - cases/README.md names each group of cases.
@@ -652,6 +653,7 @@ LISTED = {
 WRITTEN = ['alw_text/specs/Numbers', 'alw_report/specs/Reports', 'alw_trace/specs/Texts', 'alw_save/specs/Lines', 'alw_save/specs/Checkpoints',
            'alw_save/specs/States', 'alw_route/specs/Texts', 'alw_cli/specs/Auditing', 'alw_cli/specs/Texts']
 ALONE = {'save': 'checkpoint', 'route': 'route', 'audit': 'verdict'}
+READ = {'replay': 'trace', 'route': 'trace', 'save': 'trace', 'audit': 'claim', 'resume': 'checkpoint'}
 
 
 def spelled_by(file):
@@ -668,16 +670,24 @@ def rule_of(called):
     return form if form in ('listing', 'report', 'summary', 'trace', 'claim') else None
 
 
-def check_written(findings, rules):
-    """What each case writes is of its rule, and each line of a refusal in a table is that of a case."""
+def texts_of(row):
+    """The texts of a case: what it writes, each with its rule and True; and what it reads, with False where that is refused for its form."""
+    error, output = row.get('error', ''), row.get('output', '')
+    yield 'refusal', error and error + '\n', True
+    yield rule_of(row['words'].rpartition(' | ')[2]), output, True
+    if ' text line ' in error and error.endswith('syntax'):
+        yield READ.get(row['words'].split()[0]), row.get('input'), False
+
+
+def check_texts(findings, rules):
+    """What each case writes is of its rule, what is refused for its form is not, and each line of a refusal in a table is that of a case."""
     forms, refused = {name: re.compile(grammars.expression(rules, name)) for name in rules}, set()
-    for group in sorted((ROOT / 'cases').glob('*.jsonl')):
-        for row in map(json.loads, group.read_text().splitlines()):
-            texts = {'refusal': row.get('error'), rule_of(row['words'].rpartition(' | ')[2]): row.get('output')}
-            refused.add(row.get('error', '').partition(': ')[2])
-            for rule, text in texts.items():
-                if rule and text and isinstance(text, str) and not forms[rule].fullmatch(text + '\n' * (rule == 'refusal')):
-                    findings.say(FORMATS, 0, f'what the case {group.stem}: {row["name"]} writes is no {rule}')
+    rows = [(group.stem, json.loads(line)) for group in sorted((ROOT / 'cases').glob('*.jsonl')) for line in group.read_text().splitlines()]
+    for group, row in rows:
+        refused.add(row.get('error', '').partition(': ')[2])
+        for rule, text, wanted in texts_of(row):
+            if rule and text and isinstance(text, str) and wanted != bool(forms[rule].fullmatch(text) and grammars.is_counted(text)):
+                findings.say(FORMATS, 0, f'a text of the case {group}: {row["name"]} is {"no" if wanted else "a"} {rule}, and it should{"" if wanted else " not"}')
     for number, cell in cells_below(FORMATS, 'line'):
         if cell.strip('`') not in refused:
             findings.say(FORMATS, number, f'no case is refused with {cell}')
@@ -696,7 +706,7 @@ def check_formats(findings):
         texts = ((ROOT / 'crates' / file).read_text() for file in files)
         check_listed(findings, FORMATS, (head,), {found for text in texts for found in re.findall(form, text, re.M)})
     if not grammars.unnamed(rules):
-        check_written(findings, rules)
+        check_texts(findings, rules)
 
 
 def spelled_words():

@@ -29,3 +29,22 @@ def expression(rules, name):
 def unnamed(rules):
     """The names that rules use, and that none of them has."""
     return {part for form in rules.values() for part in PART.findall(form) if part[0].isalpha()} - set(rules) - set(GIVEN)
+
+
+HEADING = re.compile(r'^(image|entries|runs|prints|memory|directory|state|links) (\d+)\n', re.M)
+BEHIND = re.compile(r'^(?:params .*|end)\n', re.M)
+
+
+def count_of(name, lines):
+    """What a heading of this name counts in the lines behind it: bytes, 32 to a line, or lines. None where a line of bytes is of another length."""
+    if name != 'image':
+        return len(lines)
+    return sum(map(len, lines)) // 2 if all(len(line) == 64 for line in lines[:-1]) and all(len(line) <= 64 for line in lines) else None
+
+
+def is_counted(text):
+    """Each heading of a text has the number of what stands behind it, and no number has more than 64 bits."""
+    _, *parts = HEADING.split(text)
+    counts = all(count_of(name, BEHIND.split(body)[0].splitlines()) == int(count) for name, count, body in zip(parts[::3], parts[1::3], parts[2::3]))
+    numbers = (int(part) for line in text.splitlines() if ' ' in line for part in line.split(' ') if part.isdecimal())
+    return counts and all(number < 2 ** 64 for number in numbers)
