@@ -71,15 +71,21 @@ def compiler():
     return found[0]
 
 
-def called(words):
-    """What a tool writes to standard output. What it says else is shown, and is why there is no image where it fails."""
+def answered(words):
+    """What a tool writes to standard output and to standard error. The second is why there is no image where it fails."""
     ran = subprocess.run([str(word) for word in words], stdout=subprocess.PIPE, stderr=subprocess.PIPE, text=True, errors='replace')
     if ran.returncode != 0:
         hints = [hint for pattern, hint in HINTS if pattern.search(ran.stderr)]
         raise BuildError('\n'.join([f'{words[0]} refused it:', ran.stderr.strip(), *hints]))
-    if ran.stderr:
-        print(ran.stderr.strip(), file=sys.stderr)
-    return ran.stdout
+    return ran.stdout, ran.stderr
+
+
+def called(words):
+    """What a tool writes to standard output. What it says else is shown."""
+    out, said = answered(words)
+    if said:
+        print(said.strip(), file=sys.stderr)
+    return out
 
 
 # ---- two loads for one, two stores for one
@@ -192,12 +198,20 @@ def all_compiled(build, files):
     return all_compiled(build, files)
 
 
+UNUSED = re.compile(r"removing unused section '(\S+)' in file '(.*)'")
+UNUSED_AT = 0x80000000
+
+
 def linked(build, files):
-    """The linked program."""
-    objects, made = all_compiled(build, files), build.folder / 'program.elf'
-    called(['sparc64-linux-gnu-ld', '-m', 'elf32_sparc', '-z', 'noexecstack', '--gc-sections', '--orphan-handling=error',
-            '-T', HERE / 'machine.ld', f'--defsym=shared_end={build.end()}', f'--defsym=stack_mark={MARK}',
-            f'--defsym=contexts={build.contexts()}', *objects, '-o', made])
+    """The linked program. It is linked twice. The first time says what isn't used. The second time puts that at addresses of its own, for else
+    the debugger's lines of it would be at addresses of the code."""
+    objects, made, script = all_compiled(build, files), build.folder / 'program.elf', build.folder / 'machine.ld'
+    words = ['sparc64-linux-gnu-ld', '-m', 'elf32_sparc', '-z', 'noexecstack', '--orphan-handling=error', f'--defsym=shared_end={build.end()}',
+             f'--defsym=stack_mark={MARK}', f'--defsym=contexts={build.contexts()}', *objects, '-o', made]
+    said = answered([*words, '--gc-sections', '--print-gc-sections', '-T', HERE / 'machine.ld'])[1]
+    unused = ''.join(f'"{file}"({name}) ' for name, file in UNUSED.findall(said))
+    script.write_text((HERE / 'machine.ld').read_text().replace('SECTIONS\n{\n', f'SECTIONS\n{{\n    .unused {UNUSED_AT:#x} : {{ {unused}}}\n'))
+    called([*words, '--unresolved-symbols=ignore-all', '-T', script])
     return made
 
 
@@ -212,6 +226,19 @@ def symbols_of(program):
     """The values of a program's symbols."""
     rows = (line.split() for line in called(['sparc64-linux-gnu-nm', program]).splitlines())
     return {row[-1]: int(row[0], 16) for row in rows if len(row) == 3}
+
+
+def places_of(elf, addresses):
+    """The place of each address in the sources: the line, and the lines of the calls that are inlined."""
+    if not addresses:
+        return {}
+    text = called(['sparc64-linux-gnu-addr2line', '-a', '-f', '-s', '-i', '-e', elf, *addresses])
+    places = {}
+    for block in text.split('0x')[1:]:
+        address, *pairs = block.split('\n')[:-1]
+        lines = [f'{line.split(" ")[0]} ({function})' for function, line in zip(pairs[::2], pairs[1::2])]
+        places[f'0x{address}'] = ' in '.join(lines)
+    return places
 
 
 def check_stack(build, symbols):
