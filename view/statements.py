@@ -1,0 +1,220 @@
+"""What an event of a run is: a message, or an instruction with its statement, its line of the source, and the registers that it reads."""
+import bisect
+import re
+import struct
+import sys
+import tempfile
+from dataclasses import dataclass
+from pathlib import Path
+
+sys.path.insert(0, str(Path(__file__).resolve().parent.parent / 'examples' / 'c'))
+sys.dont_write_bytecode = True
+import cross
+from alewife import WORD
+from frames import ViewError
+
+LISTED = re.compile(r'([0-9a-f]{8}) ([0-9a-f]{8}) ([0-9]+)')
+CONTEXT = re.compile(r'context (\d+) (ready|halted|(?:wait|hold|trapped) \S+) (0x\S+) 0x\S+ (0x\S+) (\d{4}) (.*)')
+DISASSEMBLED = re.compile(r'^ *[0-9a-f]+:\t(.*)$', re.M)
+BRANCH, TRAP, ALWAYS = 2, 0x3A, (0, 8)
+WITH_RD = {0x04, 0x05, 0x06, 0x0F}
+WAYS = {'ready': 'is ready', 'wait': 'waits for line', 'hold': 'has just got line', 'trapped': 'has trapped with tt', 'halted': 'has halted'}
+LINE_BYTES = 16
+MOST_TOLD = 4
+
+
+# ---- the code
+
+
+class Code:
+    """The code of an image. Its statements are words in hexadecimal."""
+
+    def __init__(self, image):
+        self.words = [word for word, in struct.iter_unpack('>I', image.code)]
+
+    def word(self, address):
+        """The word at an address, or None."""
+        return self.words[address // WORD] if address < WORD * len(self.words) and address % WORD == 0 else None
+
+    def statement(self, address):
+        """The statement at an address, and where it is in the source, in a text."""
+        return f'word 0x{self.word(address):08x}' if self.word(address) is not None else 'no code'
+
+    def name(self, _):
+        """What lies at an address of shared data: no one knows."""
+        return ''
+
+
+class Linked(Code):
+    """The code of a linked program: statements are those of objdump, places those of addr2line, names the linker's."""
+
+    def __init__(self, image, elf):
+        super().__init__(image)
+        cross.compiler()
+        self.elf = elf
+        with tempfile.TemporaryDirectory() as folder:
+            if not Path(elf).is_file():
+                raise ViewError(f"can't read {elf}: it is no file")
+            if cross.section(elf, '.text', folder) != image.code:
+                raise ViewError(f"{elf} isn't the program of this trace: its code is another")
+        symbols = cross.symbols_of(elf)
+        self.symbols = sorted((value, name) for name, value in symbols.items() if cross.SHARED <= value < symbols.get('data_end', 0))
+
+    def statement(self, address):
+        if self.word(address) is None:
+            return super().statement(address)
+        words = ['sparc64-linux-gnu-objdump', '-d', '--no-show-raw-insn', f'--start-address={address}', f'--stop-address={address + WORD}', self.elf]
+        text = ' '.join(DISASSEMBLED.search(cross.called(words))[1].split('!')[0].split())
+        return f'{text}  {cross.places_of(self.elf, [f"0x{address:08x}"])[f"0x{address:08x}"]}'
+
+    def name(self, address):
+        at = bisect.bisect_right(self.symbols, (address, '\x7f')) - 1
+        if at < 0:
+            return ''
+        beyond = address - self.symbols[at][0]
+        return f' ({self.symbols[at][1]}{f"+{beyond}" if beyond else ""})'
+
+
+class Listed(Code):
+    """The code of a source in assembly, by its listing: statements are lines of the source."""
+
+    def __init__(self, image, listing, source):
+        super().__init__(image)
+        rows = [LISTED.fullmatch(row) for row in read_text(listing).splitlines()]
+        if not all(rows) or [int(row[2], 16) for row in rows] != self.words:
+            raise ViewError(f"{listing} isn't the listing of this trace's code")
+        self.source, self.lines = Path(source).name, read_text(source).splitlines()
+        self.numbers = {int(row[1], 16): int(row[3]) for row in rows}
+        if max(self.numbers.values(), default=0) > len(self.lines):
+            raise ViewError(f'{source} has {len(self.lines)} lines, and the listing names line {max(self.numbers.values())}')
+
+    def statement(self, address):
+        if address not in self.numbers:
+            return super().statement(address)
+        number = self.numbers[address]
+        return f'{" ".join(self.lines[number - 1].split("!")[0].split())}  {self.source}:{number}'
+
+
+def read_text(path):
+    """A file's text."""
+    try:
+        return Path(path).read_text(errors='replace')
+    except OSError as fault:
+        raise ViewError(f"can't read {path}: {fault.strerror}") from fault
+
+
+# ---- the state before an event
+
+
+@dataclass(frozen=True)
+class Context:
+    """A context: its number, its status, its PC, Y and condition codes, and its registers from register 0 on."""
+    number: int
+    status: str
+    pc: int
+    y: int
+    codes: str
+    registers: tuple
+
+
+def context_of(line):
+    """The context of a line of a state, or None of another line."""
+    match = CONTEXT.fullmatch(line)
+    if not match:
+        return None
+    return Context(int(match[1]), match[2], int(match[3], 16), int(match[4], 16), match[5], (0, *(int(word, 16) for word in match[6].split())))
+
+
+def next_of(state, node, contexts):
+    """The context that runs next on a node."""
+    slot = next(int(line.split()[5]) for line in state if line.startswith(f'node {node} clock '))
+    return next(context for context in map(context_of, state) if context and context.number == int(node) * contexts + slot)
+
+
+def waiting_for(state, line):
+    """The contexts that wait for a line."""
+    return [context for context in map(context_of, state) if context and context.status == f'wait {line}']
+
+
+def of_node(state, node):
+    """The lines of a state that are about a node."""
+    start = next(at for at, line in enumerate(state) if line.startswith(f'node {node} clock '))
+    end = next((at for at, line in enumerate(state) if at > start and line.startswith(('node ', 'link '))), len(state))
+    return state[start:end]
+
+
+# ---- an instruction
+
+
+def read_by(word):
+    """The numbers of the registers that an instruction reads, in its order, and whether it reads the condition codes."""
+    op, op3, rd, rs1 = word >> 30, word >> 19 & 63, word >> 25 & 31, word >> 14 & 31
+    if op < 2:
+        return [], op == 0 and word >> 22 & 7 == BRANCH and rd & 15 not in ALWAYS
+    if op == 2 and op3 == cross.READ_Y:
+        return [], False
+    numbers = [rd] * (op == 3 and op3 in WITH_RD) + [rs1] + [word & 31] * (not word >> 13 & 1)
+    return [number for number in dict.fromkeys(numbers) if number], op == 2 and op3 == TRAP and rd & 15 not in ALWAYS
+
+
+def reached_by(word, registers):
+    """The address that a load or store is of, or None of another instruction."""
+    if word >> 30 != 3:
+        return None
+    beyond = (word & 0x1fff) - (word & 0x1000) * 2 if word >> 13 & 1 else registers[word & 31]
+    return (registers[word >> 14 & 31] + beyond) % (1 << 32)
+
+
+def told_place(code, address):
+    """An address of shared data, with its line and what lies there."""
+    if address < cross.SHARED:
+        return f'0x{address:08x}'
+    return f'0x{address:08x}, line {(address - cross.SHARED) // LINE_BYTES}{code.name(address)}'
+
+
+def told_instruction(code, context, name):
+    """The lines of the instruction that a context is at: its statement, what it reads, and the address that it loads or stores."""
+    yield f'  {name} at 0x{context.pc:08x}: {code.statement(context.pc)}'
+    word = code.word(context.pc)
+    if word is None:
+        return
+    numbers, of_codes = read_by(word)
+    reads = [f'{cross.REGISTERS[number]} 0x{context.registers[number]:08x}' for number in numbers] + [f'NZVC {context.codes}'] * of_codes
+    if reads:
+        yield f'    reads {", ".join(reads)}'
+    if reached_by(word, context.registers) is not None:
+        yield f'    of {told_place(code, reached_by(word, context.registers))}'
+
+
+# ---- an event
+
+
+def message_of(state, event):
+    """What an event that is no instruction is, in words that lack the line, and the number of its line."""
+    kind, node, *rest = event.split()
+    own = [text.split() for text in of_node(state, node)]
+    if kind == 'D':
+        words = next(text.split()[3:] for text in state if text.startswith(f'link {node} {rest[0]} '))
+        return f'node {rest[0]} takes {words[0]} from node {node}', words[1]
+    if kind == 'H':
+        words = next(words for words in own if words[0] == 'packet')
+        return f'the trap handler of node {node} takes {words[1]}', words[2]
+    return f'node {node} evicts its copy', next(words[2] for words in own if words[:2] == ['cache', rest[0]])
+
+
+def told_event(code, state, event, contexts):
+    """The lines of an event, by the state before it: what it is, the instruction that runs or those that wait for its line, and where others are."""
+    if event[0] == 'I':
+        node = event.split()[1]
+        concerned = [next_of(state, node, contexts)]
+        yield f'node {node} runs an instruction of context {concerned[0].number}'
+    else:
+        text, line = message_of(state, event)
+        concerned = waiting_for(state, line)
+        yield f'{text}: line {line}{code.name(cross.SHARED + LINE_BYTES * int(line))}'
+    others = [each for each in map(context_of, state) if each and each not in concerned and each.status != 'halted']
+    for context in [*concerned[:MOST_TOLD], *others[:MOST_TOLD]]:
+        way, _, of = context.status.partition(' ')
+        yield from told_instruction(code, context, f'context {context.number} {WAYS[way]}{of and f" {of}"}')
+    if len(others) > MOST_TOLD:
+        yield f'  and {len(others) - MOST_TOLD} more contexts'
