@@ -645,7 +645,7 @@ LISTED = {
     'letter': (['alw_trace/specs/Texts.antt'], r'^event_text .*? = codes " (\w) "'),
     'does': (['alw_save/specs/Lines.antt'], r'^status_text .*codes "(\w+)'),
     'tt': ([f'sparc_table/specs/{name}.antt' for name in ('Access', 'Meaning', 'Turns')], r'\b(?:Err|Trap) \(?(0x[0-9a-fA-F]{2})\b'),
-    'status': (['alw_cli/specs/Statuses.antt', 'alw_cli/src/main.rt'], r'^(?:status_of .* =|const NO_WORDS: u8 =) (\d+)'),
+    'status': (['alw_cli/specs/Outputs.antt', 'alw_cli/src/main.rt'], r'^(?:status_of .* =|const NO_WORDS: u8 =) (\d+)'),
     'offset': (['alw_image/specs/Faults.antt'], r'\((?:Magic |Version )?(\d+)(?:, is_within|\))'),
     'fault of an image': (['alw_cli/specs/Texts.antt'], r'^image_text .*codes "(\w+)"'),
 }
