@@ -4,6 +4,7 @@ import re
 import struct
 import sys
 import tempfile
+from collections import Counter
 from dataclasses import dataclass
 from pathlib import Path
 
@@ -203,7 +204,8 @@ def message_of(state, event):
 
 
 def told_event(code, state, event, contexts):
-    """The lines of an event, by the state before it: what it is, the instruction that runs or those that wait for its line, and where others are."""
+    """The lines of an event, by the state before it: what it is, the instruction that runs or those that wait for its line, and where others are, first
+    those of a place with few."""
     if event[0] == 'I':
         node = event.split()[1]
         concerned = [next_of(state, node, contexts)]
@@ -213,6 +215,8 @@ def told_event(code, state, event, contexts):
         concerned = waiting_for(state, line)
         yield f'{text}: line {line}{code.name(cross.SHARED + LINE_BYTES * int(line))}'
     others = [each for each in map(context_of, state) if each and each not in concerned and each.status != 'halted']
+    at = Counter(each.pc for each in others)
+    others.sort(key=lambda each: (at[each.pc], each.number))
     for context in [*concerned[:MOST_TOLD], *others[:MOST_TOLD]]:
         way, _, of = context.status.partition(' ')
         yield from told_instruction(code, context, f'context {context.number} {WAYS[way]}{of and f" {of}"}')
