@@ -638,16 +638,16 @@ def check_language(findings):
 
 # What the tables of docs/FORMATS.md list: below which head what these files of crates/ have, as an expression finds it.
 LISTED = {
-    'kind': (['alw_save/specs/Lines.antt'], r'^kind_text .*codes "(\w+)"'),
-    'state': (['alw_report/specs/Reports.antt'], r'^state_text .*codes "(\w+)"'),
-    'meta state': (['alw_report/specs/Reports.antt'], r'^meta_text .*codes "([\w-]+)"'),
-    'key': (['alw_report/specs/Json.antt'], r'\(codes "(\w+)",'),
-    'letter': (['alw_trace/specs/Texts.antt'], r'^event_text .*? = codes " (\w) "'),
-    'does': (['alw_save/specs/Lines.antt'], r'^status_text .*codes "(\w+)'),
-    'tt': ([f'sparc_table/specs/{name}.antt' for name in ('Access', 'Meaning', 'Turns')], r'\b(?:Err|Trap) \(?(0x[0-9a-fA-F]{2})\b'),
-    'status': (['alw_cli/specs/Outputs.antt', 'alw_cli/src/main.rt'], r'^(?:status_of .* =|const NO_WORDS: u8 =) (\d+)'),
+    'kind': (['alw_save/specs/*.antt'], r'^kind_text .*codes "(\w+)"'),
+    'state': (['alw_report/specs/*.antt'], r'^state_text .*codes "(\w+)"'),
+    'meta state': (['alw_report/specs/*.antt'], r'^meta_text .*codes "([\w-]+)"'),
+    'key': (['alw_report/specs/*.antt'], r'\(codes "(\w+)",'),
+    'letter': (['alw_trace/specs/*.antt'], r'^event_text .*? = codes " (\w) "'),
+    'does': (['alw_save/specs/*.antt'], r'^status_text .*codes "(\w+)'),
+    'tt': (['sparc_table/specs/*.antt'], r'\b(?:Err|Trap) \(?(0x[0-9a-fA-F]{2})\b'),
+    'status': (['alw_cli/specs/*.antt', 'alw_cli/src/main.rt'], r'^(?:status_of .* =|const NO_WORDS: u8 =) (\d+)'),
     'offset': (['alw_image/specs/Faults.antt'], r'\((?:Magic |Version )?(\d+)(?:, is_within|\))'),
-    'fault of an image': (['alw_cli/specs/Texts.antt'], r'^image_text .*codes "(\w+)"'),
+    'fault of an image': (['alw_cli/specs/*.antt'], r'^image_text .*codes "(\w+)"'),
 }
 # The definitions of what is written.
 WRITTEN = ['alw_text/specs/Numbers', 'alw_report/specs/Reports', 'alw_trace/specs/Texts', 'alw_save/specs/Lines', 'alw_save/specs/Checkpoints',
@@ -656,9 +656,15 @@ ALONE = {'save': 'checkpoint', 'route': 'route', 'audit': 'verdict'}
 READ = {'replay': 'trace', 'route': 'trace', 'save': 'trace', 'audit': 'claim', 'resume': 'checkpoint'}
 
 
-def spelled_by(file):
-    """The texts that a file of definitions spells, with blanks for line feeds."""
-    return re.findall(r'codes "([^"]*)"', file.read_text().replace('\\n', ' '))
+def texts_in(patterns):
+    """The text of the files of crates/ that patterns name."""
+    return ''.join(file.read_text() for pattern in patterns for file in sorted((ROOT / 'crates').glob(pattern)))
+
+
+def spelled_by(patterns):
+    """The words of the texts that definitions spell."""
+    spelled = re.findall(r'codes "([^"]*)"', texts_in(patterns).replace('\\n', ' '))
+    return {word for text in spelled for word in WORD.findall(text)}
 
 
 def rule_of(called):
@@ -697,22 +703,20 @@ def check_formats(findings):
     """docs/FORMATS.md: the words and the names of all that is written, and rules that cases are of."""
     rules = grammars.rules_of(FORMATS.read_text())
     said = {word for text in grammars.spelled_in(rules) for word in WORD.findall(text)}
-    spelled = {word for name in WRITTEN for text in spelled_by(ROOT / 'crates' / f'{name}.antt') for word in WORD.findall(text)}
+    spelled = spelled_by(f'{name}.antt' for name in WRITTEN)
     for word in sorted(said ^ spelled):
         findings.say(FORMATS, 0, f'its rules say {word}, which no definition spells' if word in said else f'its rules lack {word}, which a definition spells')
     for name in sorted(grammars.unnamed(rules)):
         findings.say(FORMATS, 0, f'a rule names {name}, which none has')
     for head, (files, form) in LISTED.items():
-        texts = ((ROOT / 'crates' / file).read_text() for file in files)
-        check_listed(findings, FORMATS, (head,), {found for text in texts for found in re.findall(form, text, re.M)})
+        check_listed(findings, FORMATS, (head,), set(re.findall(form, texts_in(files), re.M)))
     if not grammars.unnamed(rules):
         check_texts(findings, rules)
 
 
 def spelled_words():
     """The words that the program reads or writes, which definitions spell; what rules are given; and letters, which stand for operands."""
-    files = (ROOT / 'crates').glob('*/specs/**/*.antt')
-    return {word for file in files for text in spelled_by(file) for word in WORD.findall(text)} | {*grammars.GIVEN, *'abcdefghijklmnopqrstuvwxyz'}
+    return spelled_by(['*/specs/**/*.antt']) | {*grammars.GIVEN, *'abcdefghijklmnopqrstuvwxyz'}
 
 
 def documents(repository):
