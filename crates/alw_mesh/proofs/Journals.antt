@@ -1,5 +1,5 @@
 -- A machine's journal, and one event more.
-use Rattle.std.proofs.Common.{◌≡◌, ℕ, suc, ◌+◌, ◌*◌, ◌<◌, ◌≤◌, ◌&&◌, Bool, true, false, not, IsTrue, List, [], ◌∷◌, ◌++◌, length, drop, filter, refl, sym, ap, subst, ◌∙◌, arith}
+use Rattle.std.proofs.Common.{◌≡◌, ℕ, suc, ◌<◌, ◌≤◌, ◌&&◌, Bool, true, false, not, IsTrue, List, [], ◌∷◌, ◌++◌, length, drop, filter, refl, sym, ap, subst, ◌∙◌, arith}
 use Rattle.std.proofs.lemmas.Nat.{mul-le}
 use Rattle.std.proofs.lemmas.List.{drop-append-le, length-append}
 use Rattle.alw_msg.specs.declared.messages.Msg.{Msg}
@@ -13,7 +13,7 @@ use Rattle.alw_model.specs.Machine.{MachineState, machine_start, state, has_halt
 use Rattle.alw_model.specs.Runs.{Moment, moment_of, moments_from, moments}
 use Rattle.alw_model.proofs.Journals.{and_parts, state_push, legal_push, moments_push}
 use Rattle.law_lines.specs.Links.{GoBelow}
-use Rattle.law_order.proofs.Aimed.{sends_below}
+use Rattle.law_order.proofs.Aimed.{IsAimed, sends_below}
 use Rattle.law_order.proofs.Reached.{state_aimed}
 use Rattle.law_machine.proofs.Bound.{sets_range}
 use Rattle.law_machine.proofs.RunFacts.{always_bounded, always_halted}
@@ -32,10 +32,11 @@ use Rattle.alw_ready.proofs.MainEvents.{filter_main}
 use Rattle.alw_mesh.specs.declared.stepping.Happening.{Happening}
 use Rattle.alw_mesh.specs.Grids.{Grid, grid_start, Happens}
 use Rattle.alw_mesh.specs.Histories.{History, state_of, entry_of, grown, stamps_of, may_be_next, IsRun, sent_last, last_sends}
-use Rattle.alw_mesh.specs.Keeping.{IsMachine}
+use Rattle.alw_mesh.specs.Keeping.{is_quiet, IsMachine}
 use Rattle.alw_mesh.specs.Ends.{next_events}
 use Rattle.alw_mesh.proofs.OneNode.{few_nodes}
 use Rattle.alw_mesh.proofs.Remaining.{remains_few}
+use Rattle.alw_mesh.proofs.Quiet.{quiet_rows}
 
 -- no machine's journal comes near 2^32 entries
 pub journal_fits : (h : History) → IsRun h → length h.journal < 4294967295
@@ -159,12 +160,10 @@ module _ {grid : Grid} {journal : List Entry} {joined : ℕ} {sent : Sending} {t
       )
 
       -- the machine after an event
-      pub machine_grows : {journal' : List Entry} {tally' : Tallied} {ready' : List Row} (stamp : ℕ) (wide flips : Bool)
-          → stamp ≡ stamp_at grid.image grid.machine event → journal' ≡ journal ++ record { stamp = stamp; event = event } ∷ []
-          → Adds after.image tally tally' happening.told sent'.messages
-          → wide ≡ is_wide happening.told.did happening.told.taken happening.changes_holds → flips ≡ (not (has_halted grid.machine) && has_halted after.machine)
-          → Renews after ready ready' (record { event = event; wide = wide; halted = flips }) sent'.messages → IsMachine after journal' joined sent' tally' ready'
-      machine_grows {journal' = journal'} {tally' = tally'} {ready' = ready'} stamp wide flips stamp_at_is pushed adds wide_is flips_is renews =
+      pub machine_grows : {journal' : List Entry} {tally' : Tallied} {ready' : List Row} (stamp : ℕ) → stamp ≡ stamp_at grid.image grid.machine event
+          → journal' ≡ journal ++ record { stamp = stamp; event = event } ∷ [] → Adds after.image tally tally' happening.told sent'.messages
+          → RowsFit after.image after.parameters after.machine ready' → IsMachine after journal' joined sent' tally' ready'
+      machine_grows {journal' = journal'} {tally' = tally'} stamp stamp_at_is pushed adds rows =
           let entry : Entry = record { stamp = stamp; event = event } in
           let stamp_is = stamp_at_is ∙ ap (λ (m : MachineState). stamp_at grid.image m event) is.state_is in
           let entry_is : entry ≡ entry_of here event = λ i. record { stamp = stamp_is i; event = event } in
@@ -186,27 +185,36 @@ module _ {grid : Grid} {journal : List Entry} {joined : ℕ} {sent : Sending} {t
             told = adds_so (moment_of grid.image grid.parameters grid.machine entry) (happens.told stamp)
                 ∙ ((λ i. told_with grid.image (is.told i) (moment_of grid.image grid.parameters (is.state_is i) (entry_is i)))
                 ∙ (sym (told_entry grid.image grid.parameters journal (entry_of here event)) ∙ sym (ap told_by grown_so)));
-            rows = rows_renewed ready' renews;
+            rows = rows;
           }
         where
           told_by : History → Told
           told_by h = told_of h.image (moments h.image h.parameters h.journal)
 
-          change : changes.Happened
-          change = record { event = event; wide = wide; halted = flips }
+      -- rows that were renewed fit it, over the image and the parameters as they were
+      pub rows_renewed : {ready' : List Row} (wide flips : Bool) → wide ≡ is_wide happening.told.did happening.told.taken happening.changes_holds
+          → flips ≡ (not (has_halted grid.machine) && has_halted after.machine) → Renews after ready ready' (record { event = event; wide = wide; halted = flips }) sent'.messages
+          → RowsFit after.image after.parameters after.machine ready'
+      rows_renewed wide flips wide_is flips_is renews =
+          let told = told_is wide flips wide_is flips_is in
+          let fits = subst (λ (m : MachineState). RowsFit grid.image grid.parameters m ready) is.state_is is.rows in
+          renews journal
+          (subst (λ (p : Parts × Parameters). IsLegal p.0 p.1 journal) same is.run.legal)
+          (subst (λ (p : Parts × Parameters). EventIsTold p.0 p.1 (state p.0 p.1 journal) after.machine (record { event = event; wide = wide; halted = flips }) sent'.messages) same told)
+          (subst (λ (p : Parts × Parameters). RowsFit p.0 p.1 (state p.0 p.1 journal) ready) same fits)
+        where
+          same : ◌≡◌ {A = Parts × Parameters} (grid.image, grid.parameters) (after.image, after.parameters)
+          same = λ i. (sym happens.image i, sym happens.parameters i)
 
-          -- over the image and the parameters as they were
-          rows_renewed : (ready' : List Row) → Renews after ready ready' change sent'.messages → RowsFit after.image after.parameters after.machine ready'
-          rows_renewed ready' renews =
-              let told = told_is wide flips wide_is flips_is in
-              let fits = subst (λ (m : MachineState). RowsFit grid.image grid.parameters m ready) is.state_is is.rows in
-              renews journal
-              (subst (λ (p : Parts × Parameters). IsLegal p.0 p.1 journal) same is.run.legal)
-              (subst (λ (p : Parts × Parameters). EventIsTold p.0 p.1 (state p.0 p.1 journal) after.machine change sent'.messages) same told)
-              (subst (λ (p : Parts × Parameters). RowsFit p.0 p.1 (state p.0 p.1 journal) ready) same fits)
-            where
-              same : ◌≡◌ {A = Parts × Parameters} (grid.image, grid.parameters) (after.image, after.parameters)
-              same = λ i. (sym happens.image i, sym happens.parameters i)
+      -- behind a quiet turn before the limit they fit as they were
+      pub rows_stay : (stamp limit : ℕ) → stamp ≡ stamp_at grid.image grid.machine event → limit ≡ after.parameters.limit → stamp < limit
+          → is_quiet event happening.told.did happening.changes_holds ≡ true → RowsFit after.image after.parameters after.machine ready
+      rows_stay stamp limit stamp_is limit_is early quiet =
+          let aimed = subst (IsAimed grid.image) (sym is.state_is) (state_aimed grid.image grid.parameters journal is.run.legal) in
+          let allowed = ap (λ (p : Parameters). p.limit) happens.parameters in
+          let stay = quiet_rows grid.image grid.parameters grid.machine event happening.told.did happening.changes_holds ready quiet aimed may (happens.told 0).did happens.holds
+          (omega (arith, stamp_is, limit_is, allowed)) is.run.parameters.limit is.rows in
+          subst (λ (p : Parts × (Parameters × MachineState)). RowsFit p.0 p.1.0 p.1.1 ready) (λ i. (sym happens.image i, (sym happens.parameters i, sym happens.machine i))) stay
 
 -- the machine at the start
 pub machine_begins : {grid : Grid} {sent : Sending} {tally : Tallied} {ready : List Row} (image : Parts) (parameters : Parameters) → grid ≡ grid_start image parameters

@@ -4,6 +4,7 @@ pub mod Turning
 pub mod Grids
 pub mod Starts
 pub mod Remaining
+pub mod Quiet
 pub mod Journals
 pub mod Endings
 pub mod Finding

@@ -4,6 +4,7 @@ ghost use Rattle.alw_mesh.specs.Histories.{Starts, Takes, Steps, may_be_next, en
 use crate::errors::{FitErr, StepErr, fit};
 use crate::meshes::Mesh;
 use crate::parts::MachineParts;
+use crate::stepping::is_quiet;
 use alw_image::{Image, Params};
 use alw_model::Did;
 use alw_msg::{Entry, Event, Journal, Sends};
@@ -85,7 +86,20 @@ impl Machine {
     }
 
     /// An event that may be next happens; or nothing does, where memory is refused.
+    #[inline(always)]
     pub fn take(&mut self, event: Event) -> Result<Did, NoMemory>
+        requires { IsTrue (may_be_next self.old event) }
+        ensures { Takes self.old event self.new result }
+    {
+        match event {
+            Event::Instr { node } => self.happen(Event::Instr { node }),
+            other => self.happen(other),
+        }
+    }
+
+    // The same: a copy of it is compiled for instructions alone.
+    #[inline(always)]
+    fn happen(&mut self, event: Event) -> Result<Did, NoMemory>
         requires { IsTrue (may_be_next self.old event) }
         ensures { Takes self.old event self.new result }
     {
@@ -95,6 +109,11 @@ impl Machine {
         self.journal.push(Entry { stamp, event })?;
         let had_halted = self.mesh.has_halted();
         let happening = self.mesh.happen(event, &mut self.sent);
+        if is_quiet(event, &happening) && stamp < self.mesh.params().limit() {
+            self.tally
+                .add(self.mesh.image(), &happening.told, &self.sent);
+            return Ok(happening.told.did);
+        }
         self.tally
             .add(self.mesh.image(), &happening.told, &self.sent);
         let changes = Changes {

@@ -104,6 +104,7 @@ impl Mesh {
     }
 
     /// The node with a number.
+    #[inline(always)]
     pub fn node(&self, n: NodeNo) -> &Node
         requires { n.0 < node_count self.now.image }
         ensures { IsNodeAt self.now n.0 result.now }
@@ -112,6 +113,7 @@ impl Mesh {
     }
 
     /// There is a node with this number.
+    #[inline(always)]
     pub fn has_node(&self, n: NodeNo) -> bool
         ensures { result ≡ nat_lt n.0 (node_count self.now.image) }
     {
@@ -143,6 +145,7 @@ impl Mesh {
     }
 
     /// The message that an event takes: the head of its link for a delivery, and none else.
+    #[inline(always)]
     pub fn head(&self, event: Event) -> Option<&Msg>
         requires { node_of event < node_count self.now.image }
         ensures { option_copied result ≡ taken_by self.now.image self.now.machine event }
@@ -181,6 +184,7 @@ impl Mesh {
     }
 
     /// An event is enabled and within the limit. The event may be of any nodes.
+    #[inline(always)]
     pub fn may_be_next(&self, event: Event) -> bool
         ensures { result ≡ may_happen self.now.image self.now.parameters self.now.machine event }
     {
@@ -194,6 +198,7 @@ impl Mesh {
     }
 
     /// The stamp that an event has.
+    #[inline(always)]
     pub fn stamp(&self, event: Event) -> u32
         requires { IsTrue (is_enabled self.now.image self.now.parameters self.now.machine event) }
         ensures { result ≡ stamp_at self.now.image self.now.machine event }
@@ -215,6 +220,7 @@ impl Mesh {
     }
 
     /// An event happens. What it sends is in `sent`, and on its way.
+    #[inline(always)]
     pub fn happen(&mut self, event: Event, sent: &mut Sends) -> Happening
         requires enabled { IsTrue (is_enabled self.old.image self.old.parameters self.old.machine event) }
         requires links { node_count self.old.image ≤ self.old.room }

@@ -6,7 +6,7 @@ ghost use Rattle.alw_model.specs.NodeStates.{stamp_of};
 ghost use Rattle.alw_model.specs.Counts.{is_turn};
 ghost use Rattle.alw_ready.specs.Changes.{hold_count};
 ghost use Rattle.alw_node.specs.Nodes.{whole_start, MessageIsGiven};
-ghost use Rattle.alw_mesh.specs.Keeping.{taken_from, after_taking, NodesAreWithin, HasTrapPc, whole_in, may_act, Acts};
+ghost use Rattle.alw_mesh.specs.Keeping.{taken_from, after_taking, NodesAreWithin, HasTrapPc, whole_in, may_act, Acts, is_quiet};
 
 use alw_image::{Code, Image, Params};
 use alw_links::Links;
@@ -40,6 +40,7 @@ pub fn nodes_start(
 
 /// Takes the message that an event takes off its link: the head for a delivery, and none else. It is
 /// written in place, since a message that is answered is copied at each event.
+#[inline(always)]
 pub fn take(links: &mut Links, event: Event, taken: &mut Option<Msg>)
     requires within { NodesAreWithin links.old.nodes event }
     requires none { taken.old ≡ None }
@@ -62,6 +63,7 @@ pub fn is_in_time(clock: u32, head: Option<&Msg>, limit: u32) -> bool
 }
 
 /// What a node did is a turn that ended a hold, where its number of holds changed or not.
+#[inline(always)]
 pub fn uses_hold(did: Did, changes_holds: bool) -> bool
     ensures { result ≡ (is_turn did && changes_holds) }
 {
@@ -69,6 +71,7 @@ pub fn uses_hold(did: Did, changes_holds: bool) -> bool
 }
 
 /// PC of the slot that trapped, where what a node did is a trapping turn.
+#[inline(always)]
 pub fn trap_pc(node: &Node, did: Did) -> u32
     ensures { HasTrapPc node.now.state.slots result did }
 {
@@ -94,6 +97,7 @@ pub struct Acted {
 }
 
 /// One event of a node, with the message that it takes.
+#[inline(always)]
 pub fn act(
     nodes: &mut Vec<Node>,
     at: usize,
@@ -119,6 +123,7 @@ pub fn act(
 }
 
 // A node has another number of holds than before, when it had this many. A turn gives none.
+#[inline(always)]
 fn changes_holds(node: &Node, did: Did, before: u32) -> bool
     ensures { result ≡ (not (before == 0 && is_turn did) && not (hold_count node.now.state.slots == before)) }
 {
@@ -131,4 +136,22 @@ fn changes_holds(node: &Node, did: Did, before: u32) -> bool
 pub struct Happening {
     pub told: Happened,
     pub changes_holds: bool,
+}
+
+/// An event was a quiet turn: it was Done, and ended no hold. Behind it, before the limit, the same main
+/// events may happen as before it.
+#[inline(always)]
+pub fn is_quiet(event: Event, happening: &Happening) -> bool
+    ensures { result ≡ is_quiet event happening.now.told.did happening.now.changes_holds }
+{
+    match (event, happening.told.did) {
+        (
+            Event::Instr { .. },
+            Did::Turn {
+                outcome: Outcome::Done,
+                ..
+            },
+        ) => !happening.changes_holds,
+        _ => false,
+    }
 }

@@ -90,6 +90,7 @@ impl Node {
     /// An event is enabled at this node, the limit aside: it is of this node, whose clock isn't the
     /// greatest, and nothing keeps it back. `head` is the message at the head of the link that a
     /// delivery names; other events don't look at it.
+    #[inline(always)]
     pub fn may(&self, event: Event, head: Option<&Msg>) -> bool
         ensures { result ≡ is_enabled_at self.now.parts self.now.parameters self.now.number self.now.state event (option_copied head.entry) }
     {
@@ -109,6 +110,7 @@ impl Node {
 
     /// One event of the node, which is enabled, with the message that it takes: none, but for a
     /// delivery. What is sent is in `sent`, which has room for a message to each node.
+    #[inline(always)]
     pub fn local(&mut self, event: Event, taken: &Option<Msg>, sent: &mut Sends) -> Did
         requires enabled { is_enabled_at self.old.parts self.old.parameters self.old.number self.old.state event taken.now ≡ true }
         requires taken { MessageIsGiven event taken.now }
@@ -314,6 +316,7 @@ impl Node {
 }
 
 // The stamp of an event that takes this message, at a clock that isn't the greatest.
+#[inline(always)]
 fn next_stamp(clock: u32, taken: &Option<Msg>) -> u32
     requires clock { clock < 4294967295 }
     requires taken { FitsStamp taken.now }

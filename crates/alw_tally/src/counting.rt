@@ -12,6 +12,7 @@ use alw_msg::{Kind, Msg, Sends};
 use alw_num::{MOST_NODES, NodeNo, State};
 
 /// One event more is counted. Of each number it is at most 2^25.
+#[inline(always)]
 pub fn count_event(counts: &mut Counts, image: &Image, happened: &Happened, sends: &Sends)
     requires sends { length sends.now.messages ≤ MOST_NODES }
     requires few { CountsAreAtMost (2 ^ 62) counts.old }
@@ -34,6 +35,7 @@ pub fn count_logged(counts: &mut Counts, image: &Image, happened: &Happened, sen
 }
 
 // An event is counted, but for what it sent.
+#[inline(always)]
 fn count_act(counts: &mut Counts, happened: &Happened)
     requires { CountsAreAtMost (2 ^ 62) counts.old }
     ensures { counts.new ≡ with_event happened.now counts.old }
@@ -49,6 +51,7 @@ fn count_act(counts: &mut Counts, happened: &Happened)
 }
 
 // What a node did is counted.
+#[inline(always)]
 fn count_did(counts: &mut Counts, did: Did)
     requires { CountsAreAtMost (2 ^ 62 + 1) counts.old }
     ensures { counts.new ≡ with_did counts.old did }
@@ -143,6 +146,7 @@ fn is_spill(kind: Kind, state: State) -> bool
 }
 
 // A message, if there is one, brings a line to a cache.
+#[inline(always)]
 fn brings_line(taken: &Option<Msg>) -> bool
     ensures { result ≡ brings_line taken.now }
 {

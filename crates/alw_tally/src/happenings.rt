@@ -24,6 +24,7 @@ pub struct Happened {
 }
 
 /// The turn that an event was, if it was one, as its context and its outcome.
+#[inline(always)]
 pub fn turn_of(image: &Image, happened: &Happened) -> Option<(u32, Outcome)>
     ensures { option_to_list result ≡ turn_in image.now happened.now.node.0 happened.now.did }
 {
@@ -39,6 +40,7 @@ pub fn turn_of(image: &Image, happened: &Happened) -> Option<(u32, Outcome)>
 
 /// Notes where a trapping turn stands, if the event was one and none is noted: `entry` is the event's
 /// place in the journal.
+#[inline(always)]
 pub fn note_trap(trap: &mut Option<TrapAt>, entry: u32, happened: &Happened)
     ensures { trap.new ≡ option_or trap.old (trap_by entry happened.now happened.now.did) }
 {

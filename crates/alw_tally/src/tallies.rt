@@ -110,6 +110,7 @@ impl Tally {
     }
 
     /// One event more of a run of this image, with what the event sent.
+    #[inline(always)]
     pub fn add(&mut self, image: &Image, happened: &Happened, sends: &Sends)
         requires room { 1 ≤ self.old.room }
         requires few { length sends.now.messages ≤ MOST_NODES }
@@ -182,6 +183,7 @@ impl Tally {
 }
 
 // A turn more, if there is one, and the word that it printed, if it printed one.
+#[inline(always)]
 fn add_turn(turns: &mut Roomy<u32>, prints: &mut Roomy<(u32, u32)>, turn: Option<(u32, Outcome)>)
     requires turn { 1 ≤ turns.old.room }
     requires print { 1 ≤ prints.old.room }
