@@ -1,4 +1,4 @@
--- A full-map directory entry and its home table: what the home of a line does with each message to memory (Chaiken, Kubiatowicz and Agarwal, ASPLOS 1991, the states and transitions of a memory-side entry).
+-- A full-map directory entry and its home table: what the home of a line does with each message to memory. The states are those of Chaiken, Kubiatowicz and Agarwal, ASPLOS 1991; the table is this project's own.
 use Rattle.std.specs.Prelude.{ℕ, zero, suc, Bool, true, false, ◌==◌, Option, Some, None, List, [], ◌∷◌, length, map}
 use Rattle.alw_num.specs.declared.addresses.Line.{Line}
 use Rattle.alw_num.specs.declared.states.State.{State}

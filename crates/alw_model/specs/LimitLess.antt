@@ -97,7 +97,7 @@ keeping h i _ _ = Kept
 abbrev pub meta_of : Nodes → Meta
 meta_of software = cond (count_nodes software == 0) Normal TrapWrite
 
--- H, S and the meta state that the handler leaves, by the paper's four rules
+-- H, S and the meta state that the handler leaves, by the four rules of this project
 abbrev pub kept : Nodes → Nodes → ℕ → Keeping → Nodes × Nodes × Meta
 kept hardware software i Joined = (no_nodes, add_node (join_nodes hardware software) i, TrapWrite)
 kept hardware software i Alone = (one_node i, no_nodes, Normal)
