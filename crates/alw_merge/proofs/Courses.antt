@@ -14,7 +14,8 @@ use Rattle.alw_model.specs.NodeStates.{NodeState}
 use Rattle.alw_model.specs.Machine.{MachineState, machine_start, node_at, is_enabled, stepped_by, step, after, state, AreLegal, IsLegal}
 use Rattle.alw_model.specs.Runs.{Moment, number_of, moment_of, moments_from, moments}
 use Rattle.alw_model.specs.Rows.{log_in}
-use Rattle.law_order.proofs.Aimed.{IsAimed, start_aimed, step_aimed, node_at_start}
+use Rattle.law_order.specs.Aims.{IsAimed}
+use Rattle.law_order.proofs.Aimed.{start_aimed, step_aimed, node_at_start}
 use Rattle.law_order.proofs.Clocks.{node_stepped}
 use Rattle.law_order.proofs.Local.{node_kept}
 use Rattle.law_order.proofs.JournalLogs.{logged_of}

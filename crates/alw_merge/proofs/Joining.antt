@@ -18,7 +18,7 @@ use Rattle.alw_model.specs.Rows.{log_in}
 use Rattle.alw_model.specs.Counts.{counts_of, count_holds}
 use Rattle.alw_model.specs.Threads.{Logged, log_at, merged}
 use Rattle.law_machine.proofs.RunFacts.{always_used}
-use Rattle.law_order.proofs.Aimed.{IsAimed}
+use Rattle.law_order.specs.Aims.{IsAimed}
 use Rattle.law_order.proofs.Reached.{state_aimed}
 use Rattle.law_order.proofs.Merging.{merged_legal, merged_nodes}
 use Rattle.law_order.proofs.MergedLogs.{log_again}

@@ -24,7 +24,8 @@ use Rattle.alw_model.specs.Threads.{Logged, Logs, log_at, merged}
 use Rattle.alw_model.proofs.Journals.{and_parts, state_push, legal_take}
 use Rattle.law_lines.proofs.Links.{read_set}
 use Rattle.law_lines.proofs.Steps.{enabled_is}
-use Rattle.law_order.proofs.Aimed.{IsAimed, sends_below}
+use Rattle.law_order.specs.Aims.{IsAimed}
+use Rattle.law_order.proofs.Aimed.{sends_below}
 use Rattle.law_order.proofs.Reached.{state_aimed}
 use Rattle.law_order.proofs.JournalLogs.{logged_of}
 use Rattle.alw_links.specs.Traffic.{Traffic, links_with_all}

@@ -38,8 +38,9 @@ use Rattle.law_entry.specs.Entries.{PointsBelow}
 use Rattle.law_entry.proofs.Pointers.{no_points}
 use Rattle.law_lines.specs.Links.{GoBelow}
 use Rattle.law_lines.proofs.Steps.{enabled_is}
-use Rattle.law_order.proofs.Aims.{NodeAims, every_at}
-use Rattle.law_order.proofs.Aimed.{IsAimed, start_aimed, step_aimed, sends_below}
+use Rattle.law_order.specs.Aims.{NodeAims, IsAimed}
+use Rattle.law_order.proofs.Aims.{every_at}
+use Rattle.law_order.proofs.Aimed.{start_aimed, step_aimed, sends_below}
 use Rattle.alw_tally.specs.Told.{told_of}
 use Rattle.alw_tally.specs.Tallies.{EventIsWithin}
 use Rattle.alw_tally.proofs.Within.{SendsFew, within}

@@ -19,7 +19,8 @@ use Rattle.alw_model.specs.Machine.{MachineState, node_at, taken_by, links_sent,
 use Rattle.law_lines.specs.Links.{GoBelow}
 use Rattle.law_lines.proofs.Links.{read_set}
 use Rattle.law_lines.proofs.Steps.{enabled_is}
-use Rattle.law_order.proofs.Aimed.{IsAimed, sends_below, step_aimed}
+use Rattle.law_order.specs.Aims.{IsAimed}
+use Rattle.law_order.proofs.Aimed.{sends_below, step_aimed}
 use Rattle.alw_links.specs.Traffic.{Traffic, after_sends}
 use Rattle.alw_ready.specs.Changes.{changes_holds}
 use Rattle.alw_tally.specs.declared.remains.Remains.{Remains}

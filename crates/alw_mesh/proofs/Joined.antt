@@ -16,7 +16,7 @@ use Rattle.alw_model.specs.Runs.{Moment, moments, turns_of, prints_of}
 use Rattle.alw_model.specs.Counts.{counts_of}
 use Rattle.alw_model.specs.Ends.{first_trap}
 use Rattle.alw_model.proofs.Journals.{and_is, legal_take}
-use Rattle.law_order.proofs.Aimed.{IsAimed}
+use Rattle.law_order.specs.Aims.{IsAimed}
 use Rattle.law_order.proofs.Reached.{state_aimed}
 use Rattle.alw_links.specs.Traffic.{Traffic}
 use Rattle.alw_tally.specs.declared.remains.Remains.{Remains}

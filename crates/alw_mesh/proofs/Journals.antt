@@ -13,7 +13,8 @@ use Rattle.alw_model.specs.Machine.{MachineState, machine_start, state, has_halt
 use Rattle.alw_model.specs.Runs.{Moment, moment_of, moments_from, moments}
 use Rattle.alw_model.proofs.Journals.{and_parts, state_push, legal_push, moments_push}
 use Rattle.law_lines.specs.Links.{GoBelow}
-use Rattle.law_order.proofs.Aimed.{IsAimed, sends_below}
+use Rattle.law_order.specs.Aims.{IsAimed}
+use Rattle.law_order.proofs.Aimed.{sends_below}
 use Rattle.law_order.proofs.Reached.{state_aimed}
 use Rattle.law_machine.proofs.Bound.{sets_range}
 use Rattle.law_machine.proofs.RunFacts.{always_bounded, always_halted}

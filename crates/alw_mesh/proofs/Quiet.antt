@@ -26,7 +26,7 @@ use Rattle.alw_model.specs.NodeSteps.{Stepped, access, instr_by, instr}
 use Rattle.alw_model.specs.Machine.{MachineState, node_at, no_node, is_enabled, has_halted, stamp_at, stepped_by, step}
 use Rattle.alw_model.proofs.Journals.{and_parts}
 use Rattle.law_lines.proofs.Steps.{enabled_is}
-use Rattle.law_order.proofs.Aimed.{IsAimed}
+use Rattle.law_order.specs.Aims.{IsAimed}
 use Rattle.law_machine.proofs.MainEvents.{ready_runs}
 use Rattle.alw_tally.specs.declared.remains.Remains.{Remains}
 use Rattle.alw_tally.specs.Remaining.{remains_of, remains_after}

@@ -8,7 +8,8 @@ use Rattle.alw_image.specs.Images.{IsImage, node_count}
 use Rattle.alw_image.specs.Parameters.{Parameters}
 use Rattle.alw_model.specs.NodeStates.{node_start}
 use Rattle.alw_model.specs.Machine.{machine_start}
-use Rattle.law_order.proofs.Aimed.{IsAimed, start_aimed}
+use Rattle.law_order.specs.Aims.{IsAimed}
+use Rattle.law_order.proofs.Aimed.{start_aimed}
 use Rattle.alw_links.specs.Traffic.{Traffic}
 use Rattle.alw_tally.specs.declared.remains.Remains.{Remains}
 use Rattle.alw_tally.specs.Remaining.{remains_of}

@@ -19,7 +19,7 @@ use Rattle.alw_model.specs.Runs.{moments}
 use Rattle.alw_model.specs.NodeStates.{is_enabled_at}
 use Rattle.alw_model.specs.NodeSteps.{Stepped, node_step}
 use Rattle.alw_model.specs.Machine.{MachineState, no_node, state}
-use Rattle.law_order.proofs.Aimed.{IsAimed}
+use Rattle.law_order.specs.Aims.{IsAimed}
 use Rattle.alw_links.specs.Traffic.{Traffic, link_in, after_take}
 use Rattle.alw_tally.specs.declared.remains.Remains.{Remains}
 use Rattle.alw_tally.specs.Told.{told_of}

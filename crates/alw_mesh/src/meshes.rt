@@ -9,7 +9,7 @@ ghost use Rattle.alw_model.specs.Lines.{entry_of};
 ghost use Rattle.alw_memory.specs.Views.{IsViewOf};
 ghost use Rattle.alw_ready.specs.Fits.{may_happen};
 ghost use Rattle.alw_tally.specs.Remaining.{remains_of, AreFew};
-ghost use Rattle.law_order.proofs.Aimed.{IsAimed};
+ghost use Rattle.law_order.specs.Aims.{IsAimed};
 ghost use Rattle.alw_mesh.specs.Grids.{grid_start, IsNodeAt, IsSlotOf, Happens};
 ghost use Rattle.alw_mesh.specs.Keeping.{machine_of, AreNodes};
 ghost use Rattle.alw_mesh.specs.Joins.{IsGridOf};

@@ -26,7 +26,7 @@ use Rattle.law_lines.proofs.Steps.{enabled_is}
 use Rattle.law_order.specs.Orders.{SeesAlike, takes_from}
 use Rattle.law_order.proofs.Local.{enabled_alike, stamp_alike, node_kept}
 use Rattle.law_order.proofs.LinksAfter.{link_is}
-use Rattle.law_order.proofs.Aimed.{IsAimed}
+use Rattle.law_order.specs.Aims.{IsAimed}
 use Rattle.alw_ready.specs.declared.rows.Row.{Row}
 use Rattle.alw_ready.specs.Rows.{instr_at, handle_at, delivery, no_row, row_at}
 use Rattle.alw_ready.specs.Fits.{may_happen, is_in_time, SaysBut, RowFitsBut, RowsFit}

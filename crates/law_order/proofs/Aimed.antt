@@ -15,13 +15,8 @@ use Rattle.alw_model.specs.Machine.{MachineState, machine_start, node_at, link_p
 use Rattle.law_lines.specs.Links.{GoBelow}
 use Rattle.law_lines.proofs.Links.{read_set, length-sent}
 use Rattle.law_lines.proofs.Steps.{enabled_is}
-use Rattle.law_order.proofs.Aims.{NodeAims, StepAims, start_aims, step_aims}
-
--- a machine has the image's nodes and links, and its nodes name nodes and lines that exist
-pub record IsAimed (parts : Parts) (s : MachineState) : Type 0 where
-  pub nodes : length s.nodes ≡ node_count parts
-  pub links : length s.links ≡ node_count parts * node_count parts
-  pub each : (n : ℕ) → n < node_count parts → NodeAims parts (node_at s n)
+use Rattle.law_order.specs.Aims.{NodeAims, IsAimed}
+use Rattle.law_order.proofs.Aims.{StepAims, start_aims, step_aims}
 
 module _ (parts : Parts) (parameters : Parameters) where
   pub node_at_start : (n : ℕ) → n < node_count parts → node_at (machine_start parts) n ≡ node_start parts n

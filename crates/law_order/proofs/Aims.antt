@@ -37,6 +37,7 @@ use Rattle.law_lines.proofs.Leaving.{told_below}
 use Rattle.law_lines.proofs.Steps.{fit_is}
 use Rattle.law_entry.specs.Entries.{PointsBelow}
 use Rattle.law_entry.proofs.Pointers.{hardware_points, handler_points, trap_points, no_points}
+use Rattle.law_order.specs.Aims.{CachesExist, NodeAims}
 use Rattle.law_order.proofs.Pointers.{hardware_sends, handler_sends}
 
 pub every_set : {X : Type 0} (P : X → Type 0) (xs : List X) (i : ℕ) (x : X) → AllByRecursion P xs → P x → AllByRecursion P (set xs i x)
@@ -56,16 +57,6 @@ every_push P (y ∷ rest) x all is = (all.0, every_push P rest x all.1 is)
 pub every_of : {X Y : Type 0} (P : Y → Type 0) (f : X → Y) (xs : List X) → ((x : X) → P (f x)) → AllByRecursion P (map f xs)
 every_of P f [] each = tt
 every_of P f (x ∷ rest) each = (each x, every_of P f rest each)
-
--- each copy in a cache is of a line that exists
-abbrev pub CachesExist : Parts → Cache → Type 0
-CachesExist parts cache = (at : ℕ) → (copy : Copy) → value_at cache at ≡ Some copy → copy.line < line_count parts
-
--- the pointers of a node's home lines and the senders of its packets are nodes, and the lines that it has in its cache exist
-pub record NodeAims (parts : Parts) (node : NodeState) : Type 0 where
-  pub homes : AllByRecursion (PointsBelow (node_count parts)) node.homes
-  pub cache : CachesExist parts node.cache
-  pub packets : AllByRecursion (λ (packet : Msg). packet.src.0 < node_count parts) node.packets
 
 -- an event leaves its node so, and sends to nodes that exist
 pub record StepAims (parts : Parts) (stepped : Stepped) : Type 0 where

@@ -14,7 +14,8 @@ use Rattle.alw_model.specs.Machine.{MachineState, node_at, taken_by, is_enabled,
 use Rattle.law_order.specs.Orders.{NodesRise}
 use Rattle.law_lines.proofs.Steps.{enabled_is}
 use Rattle.law_order.proofs.Local.{node_kept}
-use Rattle.law_order.proofs.Aimed.{IsAimed, step_aimed}
+use Rattle.law_order.specs.Aims.{IsAimed}
+use Rattle.law_order.proofs.Aimed.{step_aimed}
 
 pub stamp_above : (clock : ℕ) (taken : Option Msg) → clock < stamp_of clock taken
 stamp_above clock None = omega arith

@@ -9,7 +9,8 @@ use Rattle.alw_image.specs.declared.parts.Parts.{Parts}
 use Rattle.alw_image.specs.Parameters.{Parameters}
 use Rattle.alw_model.specs.Machine.{MachineState, step, after, AreLegal}
 use Rattle.law_order.specs.Orders.{kept_by, later_than}
-use Rattle.law_order.proofs.Aimed.{IsAimed, step_aimed}
+use Rattle.law_order.specs.Aims.{IsAimed}
+use Rattle.law_order.proofs.Aimed.{step_aimed}
 use Rattle.law_order.proofs.Sorting.{LeavesSame, swap_legal}
 
 kept_le : (t : ℕ) (journal : List Entry) → AllByRecursion (λ (entry : Entry). entry.stamp ≤ t) (kept_by t journal)

@@ -19,7 +19,8 @@ use Rattle.alw_model.specs.Rows.{log_in, logs_of}
 use Rattle.alw_model.specs.Threads.{Logged, IsNextLogged, IsRunFrom, takes_rightly, took_from, sent_to, log_at}
 use Rattle.law_order.specs.Merges.{AreLocalRuns, JournalIsWithin}
 use Rattle.law_order.proofs.Local.{node_kept, has_front}
-use Rattle.law_order.proofs.Aimed.{IsAimed, start_aimed, step_aimed, node_at_start}
+use Rattle.law_order.specs.Aims.{IsAimed}
+use Rattle.law_order.proofs.Aimed.{start_aimed, step_aimed, node_at_start}
 use Rattle.law_order.proofs.Clocks.{node_stepped}
 use Rattle.law_order.proofs.LogOrders.{mine, entries}
 use Rattle.law_order.proofs.LogSends.{took_here, sent_here, took_split, sent_split}

@@ -19,7 +19,7 @@ use Rattle.alw_model.specs.Machine.{MachineState, node_at, link_at, taken_by, st
 use Rattle.alw_model.specs.Threads.{Logged, IsNextLogged, IsRunFrom, IsFront, takes_rightly, is_from, took_from, sent_to}
 use Rattle.alw_model.proofs.Journals.{and_parts}
 use Rattle.law_order.proofs.Local.{node_kept}
-use Rattle.law_order.proofs.Aimed.{IsAimed}
+use Rattle.law_order.specs.Aims.{IsAimed}
 use Rattle.law_order.proofs.Clocks.{node_stepped}
 use Rattle.law_order.proofs.LogOrders.{mine, StampsAscend}
 use Rattle.law_order.proofs.LogMoves.{moves_on, link_moves}

@@ -15,7 +15,8 @@ use Rattle.law_lines.specs.Links.{msgs_to}
 use Rattle.law_lines.proofs.Links.{link_sent, link_taken}
 use Rattle.law_lines.proofs.Steps.{enabled_is}
 use Rattle.law_order.specs.Orders.{takes_from, link_after}
-use Rattle.law_order.proofs.Aimed.{IsAimed, sends_below, links_fit}
+use Rattle.law_order.specs.Aims.{IsAimed}
+use Rattle.law_order.proofs.Aimed.{sends_below, links_fit}
 
 module _ (parts : Parts) (parameters : Parameters) (s : MachineState) (aimed : IsAimed parts s) where
   -- a link once an event has taken its message

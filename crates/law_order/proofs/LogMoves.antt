@@ -18,7 +18,7 @@ use Rattle.law_lines.specs.Links.{msgs_to}
 use Rattle.law_lines.proofs.Taken.{split_front}
 use Rattle.law_order.specs.Orders.{takes_from}
 use Rattle.law_order.proofs.Local.{has_front}
-use Rattle.law_order.proofs.Aimed.{IsAimed}
+use Rattle.law_order.specs.Aims.{IsAimed}
 use Rattle.law_order.proofs.LinksAfter.{link_is}
 use Rattle.law_order.proofs.LogSends.{eqb_turned, picked, msgs_picked, took_here, sent_here}
 

@@ -11,7 +11,8 @@ use Rattle.alw_model.specs.Runs.{moments, moments_from}
 use Rattle.alw_model.specs.Rows.{log_in, logs_of}
 use Rattle.alw_model.specs.Threads.{Logged, Logs, log_at, merged}
 use Rattle.law_order.specs.Merges.{AreLocalRuns}
-use Rattle.law_order.proofs.Aimed.{IsAimed, start_aimed, step_aimed}
+use Rattle.law_order.specs.Aims.{IsAimed}
+use Rattle.law_order.proofs.Aimed.{start_aimed, step_aimed}
 use Rattle.law_order.proofs.LogOrders.{entries, mine}
 use Rattle.law_order.proofs.Leftovers.{IsLeft, next_legal, left_next, taken_right, stepped_is, run}
 use Rattle.law_order.proofs.JournalLogs.{logged_run, log_is_mine}

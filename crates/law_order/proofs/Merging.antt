@@ -20,7 +20,8 @@ use Rattle.alw_model.proofs.Logs.{stamps_rise}
 use Rattle.law_order.specs.Orders.{Ascends}
 use Rattle.law_order.specs.Merges.{AreLocalRuns, entries_of}
 use Rattle.law_order.proofs.Local.{node_kept}
-use Rattle.law_order.proofs.Aimed.{IsAimed, start_aimed, step_aimed, node_at_start}
+use Rattle.law_order.specs.Aims.{IsAimed}
+use Rattle.law_order.proofs.Aimed.{start_aimed, step_aimed, node_at_start}
 use Rattle.law_order.proofs.Orders.{sorted_same, sorted_ascends}
 use Rattle.law_order.proofs.Reached.{rise}
 use Rattle.law_order.proofs.LogOrders.{entries, mine, all_logs, in_log_order, entries_in_order, entries_all, order_ascends, mine_in_order, mine_among}

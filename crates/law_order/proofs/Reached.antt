@@ -8,7 +8,8 @@ use Rattle.alw_model.specs.Machine.{MachineState, machine_start, step, after, st
 use Rattle.alw_model.specs.Threads.{in_order}
 use Rattle.alw_model.proofs.Journals.{after-append}
 use Rattle.law_order.specs.Orders.{NodesRise, Ascends, kept_by, later_than}
-use Rattle.law_order.proofs.Aimed.{IsAimed, start_aimed, step_aimed}
+use Rattle.law_order.specs.Aims.{IsAimed}
+use Rattle.law_order.proofs.Aimed.{start_aimed, step_aimed}
 use Rattle.law_order.proofs.Clocks.{nodes_rise}
 use Rattle.law_order.proofs.Sorting.{LeavesSame, swap_legal, sorted_legal}
 use Rattle.law_order.proofs.Orders.{sorted_ascends}

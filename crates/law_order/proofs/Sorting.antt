@@ -9,7 +9,8 @@ use Rattle.alw_model.specs.Machine.{MachineState, stamp_at, has_halted, step, af
 use Rattle.alw_model.specs.Threads.{is_before, placed, in_order}
 use Rattle.law_order.proofs.Halting.{halted_stays}
 use Rattle.law_order.proofs.Swaps.{enabled_before, swapped}
-use Rattle.law_order.proofs.Aimed.{IsAimed, sends_below, step_aimed}
+use Rattle.law_order.specs.Aims.{IsAimed}
+use Rattle.law_order.proofs.Aimed.{sends_below, step_aimed}
 use Rattle.law_order.proofs.Clocks.{nodes_rise}
 use Rattle.law_order.proofs.Keys.{stamps_le}
 
