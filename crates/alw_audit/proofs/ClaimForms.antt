@@ -5,7 +5,7 @@ use Rattle.std.proofs.lemmas.List.{length-set}
 use Rattle.std.proofs.lemmas.List.FromFn.{length-map-range_with_len}
 use Rattle.std.specs.List.{AllByRecursion, range_with_len}
 use Rattle.std.specs.List.Sorted.{IsStrictlyIncreasing}
-use Rattle.alw_num.specs.declared.addresses.TheConstants.{SHARED_BASE}
+use Rattle.alw_num.specs.Limits.{shared_base}
 use Rattle.alw_num.specs.declared.addresses.Line.{Line}
 use Rattle.sparc_table.specs.Registers.{start_of}
 use Rattle.sparc_table.specs.Turns.{need_of}
@@ -114,7 +114,7 @@ listed_forms parts value =
       subst (λ (words : List (ℕ × ℕ)). AllByRecursion (λ word. IsSharedAddress parts word.0 × (word.1 ≢ 0)) words) is
           (kept_all (IsSharedAddress parts) (all_words value 0 lines) (all_shared parts value 0 lines (omega arith))),
       subst (λ (words : List (ℕ × ℕ)). IsStrictlyIncreasing (map (λ word. word.0) words)) is
-          (ascending SHARED_BASE (filter is_nonzero (all_words value 0 lines)) (kept_from SHARED_BASE (all_words value 0 lines) (all_from value 0 lines))),
+          (ascending shared_base (filter is_nonzero (all_words value 0 lines)) (kept_from shared_base (all_words value 0 lines) (all_from value 0 lines))),
     )
 
 pub runs_claim : (image : Parts) → (parameters : Parameters) → (journal : List Entry) → (ended : Ended) → IsImage image → IsCoherentRun image parameters journal ended → length (turns_of image parameters journal) ≤ most_turns → IsClaim (claim_of image parameters journal)

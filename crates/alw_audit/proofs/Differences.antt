@@ -2,7 +2,7 @@
 use Rattle.std.proofs.Common.{◌≡◌, ℕ, zero, suc, ◌+◌, ◌-◌, ◌*◌, ◌/◌, ◌%◌, ◌<◌, ◌≤◌, ◌==◌, ◌&&◌, ◌↔◌, Bool, true, false, if◌then◌else◌, List, [], ◌∷◌, length, refl, sym, ap, subst, ◌∙◌, arith}
 use Rattle.std.proofs.lemmas.Bool.{eqb-true, true≢false}
 use Rattle.std.proofs.lemmas.Bool.Decides.{nat_tests}
-use Rattle.alw_num.specs.declared.addresses.TheConstants.{SHARED_BASE}
+use Rattle.alw_num.specs.Limits.{shared_base}
 use Rattle.alw_msg.specs.Statuses.{is_ready}
 use Rattle.alw_image.specs.declared.parts.Parts.{Parts}
 use Rattle.alw_image.specs.Images.{line_count}
@@ -117,11 +117,11 @@ words_sound memory flat addr (suc count) same =
 -- ---- the whole
 
 -- the number of a word of shared data
-number_is : (lines addr : ℕ) → addr % 4 ≡ 0 → SHARED_BASE ≤ addr → addr < SHARED_BASE + 16 * lines → (SHARED_BASE + 4 * ((addr - SHARED_BASE) / 4) ≡ addr) × ((addr - SHARED_BASE) / 4 < 4 * lines)
+number_is : (lines addr : ℕ) → addr % 4 ≡ 0 → shared_base ≤ addr → addr < shared_base + 16 * lines → (shared_base + 4 * ((addr - shared_base) / 4) ≡ addr) × ((addr - shared_base) / 4 < 4 * lines)
 number_is lines addr aligned low high = (omega arith, omega arith)
 
 -- and the address of one
-address_is : (parts : Parts) (i : ℕ) → i < 4 * line_count parts → IsSharedWord parts (SHARED_BASE + 4 * i)
+address_is : (parts : Parts) (i : ℕ) → i < 4 * line_count parts → IsSharedWord parts (shared_base + 4 * i)
 address_is parts i l = (omega arith, omega arith, omega arith)
 
 sound_one : (claim : Claim) → verdict_of claim ≡ Sound → ClaimIsSound claim
@@ -129,14 +129,14 @@ unfolding verdict_of are_ready
 sound_one claim e =
     let parts = claim.image in
     let flat = flat_after parts claim.turns in
-    let first = both_sound (turns_verdict parts (flat_start parts) 0 claim.turns) (or_else (prints_verdict claim.prints (flat_prints parts claim.turns)) (words_verdict claim.memory flat SHARED_BASE (4 * line_count parts))) e in
-    let second = both_sound (prints_verdict claim.prints (flat_prints parts claim.turns)) (words_verdict claim.memory flat SHARED_BASE (4 * line_count parts)) first.1 in
+    let first = both_sound (turns_verdict parts (flat_start parts) 0 claim.turns) (or_else (prints_verdict claim.prints (flat_prints parts claim.turns)) (words_verdict claim.memory flat shared_base (4 * line_count parts))) e in
+    let second = both_sound (prints_verdict claim.prints (flat_prints parts claim.turns)) (words_verdict claim.memory flat shared_base (4 * line_count parts)) first.1 in
     record {
       turns = (turns_sound parts (flat_start parts) 0 claim.turns).0 first.0;
       prints = (prints_sound claim.prints (flat_prints parts claim.turns)).0 second.0;
       memory = λ addr is.
           let n = number_is (line_count parts) addr is.0 is.1 is.2 in
-          subst (λ (a : ℕ). claimed_word claim.memory a ≡ word_of flat a) n.0 (words_same claim.memory flat SHARED_BASE (4 * line_count parts) ((addr - SHARED_BASE) / 4) n.1 second.1);
+          subst (λ (a : ℕ). claimed_word claim.memory a ≡ word_of flat a) n.0 (words_same claim.memory flat shared_base (4 * line_count parts) ((addr - shared_base) / 4) n.1 second.1);
     }
 
 sound_other : (claim : Claim) → ClaimIsSound claim → verdict_of claim ≡ Sound
@@ -146,9 +146,9 @@ sound_other claim s =
     let flat = flat_after parts claim.turns in
     let turns : turns_verdict parts (flat_start parts) 0 claim.turns ≡ Sound = (turns_sound parts (flat_start parts) 0 claim.turns).1 s.turns in
     let prints : prints_verdict claim.prints (flat_prints parts claim.turns) ≡ Sound = (prints_sound claim.prints (flat_prints parts claim.turns)).1 s.prints in
-    let memory : words_verdict claim.memory flat SHARED_BASE (4 * line_count parts) ≡ Sound = words_sound claim.memory flat SHARED_BASE (4 * line_count parts) (λ i l. s.memory (SHARED_BASE + 4 * i) (address_is parts i l)) in
-    ap (λ (v : Verdict). or_else v (or_else (prints_verdict claim.prints (flat_prints parts claim.turns)) (words_verdict claim.memory flat SHARED_BASE (4 * line_count parts)))) turns
-    ∙ ap (λ (v : Verdict). or_else v (words_verdict claim.memory flat SHARED_BASE (4 * line_count parts))) prints ∙ memory
+    let memory : words_verdict claim.memory flat shared_base (4 * line_count parts) ≡ Sound = words_sound claim.memory flat shared_base (4 * line_count parts) (λ i l. s.memory (shared_base + 4 * i) (address_is parts i l)) in
+    ap (λ (v : Verdict). or_else v (or_else (prints_verdict claim.prints (flat_prints parts claim.turns)) (words_verdict claim.memory flat shared_base (4 * line_count parts)))) turns
+    ∙ ap (λ (v : Verdict). or_else v (words_verdict claim.memory flat shared_base (4 * line_count parts))) prints ∙ memory
 
 pub sound_is : (claim : Claim) → (verdict_of claim ≡ Sound) ↔ ClaimIsSound claim
 sound_is claim = (sound_one claim, sound_other claim)

@@ -2,7 +2,7 @@
 use Rattle.std.proofs.Common.{◌≡◌, ℕ, ◌+◌, ◌*◌, ◌^◌, ◌<◌, ◌≤◌, List, refl, sym, ap, subst, ◌∙◌, arith}
 use Rattle.std.proofs.lemmas.Nat.{mul-le}
 use Rattle.std.specs.List.{AllByRecursion}
-use Rattle.alw_num.specs.declared.addresses.TheConstants.{SHARED_BASE}
+use Rattle.alw_num.specs.Limits.{shared_base}
 use Rattle.alw_image.specs.declared.parts.Parts.{Parts}
 use Rattle.alw_image.specs.Images.{IsImage, context_count, line_count}
 use Rattle.alw_model.specs.Flat.{Flat, flat_start, turns_after, turns_print, flat_after, flat_prints}
@@ -46,7 +46,7 @@ pub turn_found : (claim : Claim) (machine : FlatMachine) (list : List ℕ) (foun
     → found ≡ verdict_of claim
 unfolding verdict_of
 turn_found claim machine list found place claimed real started same is differs =
-    let rest = or_else (prints_verdict claim.prints (flat_prints claim.image claim.turns)) (words_verdict claim.memory (flat_after claim.image claim.turns) SHARED_BASE (4 * line_count claim.image)) in
+    let rest = or_else (prints_verdict claim.prints (flat_prints claim.image claim.turns)) (words_verdict claim.memory (flat_after claim.image claim.turns) shared_base (4 * line_count claim.image)) in
     differs ∙ ap (λ (v : Verdict). or_else v rest) (sym differs) ∙ ap (λ (v : Verdict). or_else v rest) (turns_are claim machine list found started same is)
 
 -- no turn does, and a print differs
@@ -54,7 +54,7 @@ pub print_found : (claim : Claim) (machine : FlatMachine) (list : List ℕ) (tur
     → claims ≡ claim.prints → prints ≡ flat_prints claim.image claim.turns → found ≡ prints_verdict claims prints → found ≡ Differs place claimed real → found ≡ verdict_of claim
 unfolding verdict_of
 print_found claim machine list turns found claims prints place claimed real started same is sound claims_are real_are printed differs =
-    let rest = words_verdict claim.memory (flat_after claim.image claim.turns) SHARED_BASE (4 * line_count claim.image) in
+    let rest = words_verdict claim.memory (flat_after claim.image claim.turns) shared_base (4 * line_count claim.image) in
     let second : found ≡ prints_verdict claim.prints (flat_prints claim.image claim.turns) = printed ∙ ap (λ (c : List (ℕ × ℕ)). prints_verdict c prints) claims_are ∙ ap (prints_verdict claim.prints) real_are in
     differs ∙ ap (λ (v : Verdict). or_else v rest) (sym differs) ∙ ap (λ (v : Verdict). or_else v rest) second
     ∙ ap (λ (v : Verdict). or_else v (or_else (prints_verdict claim.prints (flat_prints claim.image claim.turns)) rest)) (sym sound ∙ turns_are claim machine list turns started same is)
@@ -62,12 +62,12 @@ print_found claim machine list turns found claims prints place claimed real star
 -- neither a turn nor a print does
 pub words_left : (claim : Claim) (machine after : FlatMachine) (list : List ℕ) (turns printed found : Verdict) (claims prints memory : List (ℕ × ℕ)) (lines : ℕ) → IsStarted claim.image machine → list ≡ claim.turns → turns ≡ turns_verdict machine.parts machine.flat 0 list → turns ≡ Sound
     → claims ≡ claim.prints → prints ≡ flat_prints claim.image claim.turns → printed ≡ prints_verdict claims prints → printed ≡ Sound
-    → after ≡ record machine { flat = turns_after machine.parts machine.flat list } → memory ≡ claim.memory → lines ≡ line_count claim.image → found ≡ words_verdict memory after.flat SHARED_BASE (4 * lines) → found ≡ verdict_of claim
+    → after ≡ record machine { flat = turns_after machine.parts machine.flat list } → memory ≡ claim.memory → lines ≡ line_count claim.image → found ≡ words_verdict memory after.flat shared_base (4 * lines) → found ≡ verdict_of claim
 unfolding verdict_of
 words_left claim machine after list turns printed found claims prints memory lines started same is sound claims_are real_are printed_is printed_sound state memory_is lines_are last =
-    let rest = words_verdict claim.memory (flat_after claim.image claim.turns) SHARED_BASE (4 * line_count claim.image) in
+    let rest = words_verdict claim.memory (flat_after claim.image claim.turns) shared_base (4 * line_count claim.image) in
     let second : Sound ≡ prints_verdict claim.prints (flat_prints claim.image claim.turns) = sym printed_sound ∙ printed_is ∙ ap (λ (c : List (ℕ × ℕ)). prints_verdict c prints) claims_are ∙ ap (prints_verdict claim.prints) real_are in
-    last ∙ ap (λ (m : List (ℕ × ℕ)). words_verdict m after.flat SHARED_BASE (4 * lines)) memory_is ∙ ap (λ (f : Flat). words_verdict claim.memory f SHARED_BASE (4 * lines)) (after_is claim machine after list started same state)
-    ∙ ap (λ (n : ℕ). words_verdict claim.memory (flat_after claim.image claim.turns) SHARED_BASE (4 * n)) lines_are
+    last ∙ ap (λ (m : List (ℕ × ℕ)). words_verdict m after.flat shared_base (4 * lines)) memory_is ∙ ap (λ (f : Flat). words_verdict claim.memory f shared_base (4 * lines)) (after_is claim machine after list started same state)
+    ∙ ap (λ (n : ℕ). words_verdict claim.memory (flat_after claim.image claim.turns) shared_base (4 * n)) lines_are
     ∙ ap (λ (v : Verdict). or_else v rest) second
     ∙ ap (λ (v : Verdict). or_else v (or_else (prints_verdict claim.prints (flat_prints claim.image claim.turns)) rest)) (sym sound ∙ turns_are claim machine list turns started same is)

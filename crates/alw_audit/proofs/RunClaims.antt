@@ -4,7 +4,7 @@ use Rattle.std.proofs.lemmas.Bool.{eqb-true}
 use Rattle.std.proofs.lemmas.Bool.Decides.{nat_tests}
 use Rattle.std.proofs.lemmas.List.Elements.{filter-append}
 use Rattle.std.specs.List.{range_with_len}
-use Rattle.alw_num.specs.declared.addresses.TheConstants.{SHARED_BASE}
+use Rattle.alw_num.specs.Limits.{shared_base}
 use Rattle.alw_num.specs.declared.addresses.Line.{Line}
 use Rattle.alw_num.specs.declared.addresses.Width.TheVariants.{Word}
 use Rattle.alw_num.specs.Lanes.{lane_of}
@@ -52,7 +52,7 @@ kept_same low addr (word ∷ rest) from = by_test (word.1 == 0) refl (word.0 == 
 -- ---- all words, by lines
 
 abbrev pub four : ℕ → Line → List (ℕ × ℕ)
-four line body = map (λ offset. (SHARED_BASE + 16 * line + offset, lane_of body offset Word)) (0 ∷ 4 ∷ 8 ∷ 12 ∷ [])
+four line body = map (λ offset. (shared_base + 16 * line + offset, lane_of body offset Word)) (0 ∷ 4 ∷ 8 ∷ 12 ∷ [])
 
 abbrev pub all_words : (ℕ → Line) → ℕ → ℕ → List (ℕ × ℕ)
 all_words value first lines = flat_map (λ line. four line (value line)) (range_with_len first lines)
@@ -66,11 +66,11 @@ kept_is value first (suc lines) =
     ap (λ (rest : List (ℕ × ℕ)). words_of first (value first) ++ rest) (kept_is value (first + 1) lines)
     ∙ sym (filter-append is_nonzero (four first (value first)) (all_words value (first + 1) lines))
 
-pub all_from : (value : ℕ → Line) (first lines : ℕ) → WordsAreFrom (SHARED_BASE + 16 * first) (all_words value first lines)
+pub all_from : (value : ℕ → Line) (first lines : ℕ) → WordsAreFrom (shared_base + 16 * first) (all_words value first lines)
 all_from value first zero = tt
 all_from value first (suc lines) =
-    let rest : WordsAreFrom (SHARED_BASE + 16 * first + 12 + 4) (all_words value (first + 1) lines) =
-    lower (SHARED_BASE + 16 * first + 12 + 4) (SHARED_BASE + 16 * (first + 1)) (all_words value (first + 1) lines) (omega arith) (all_from value (first + 1) lines) in
+    let rest : WordsAreFrom (shared_base + 16 * first + 12 + 4) (all_words value (first + 1) lines) =
+    lower (shared_base + 16 * first + 12 + 4) (shared_base + 16 * (first + 1)) (all_words value (first + 1) lines) (omega arith) (all_from value (first + 1) lines) in
     (omega arith, omega arith, (omega arith, omega arith, (omega arith, omega arith, (omega arith, omega arith, rest))))
 
 -- the words of one line, and those behind it
@@ -100,17 +100,17 @@ behind_line base addr word rest high = by_test (base + 0 == addr) (other 0 (omeg
         → (if a then word 0 else if b then word 4 else if c then word 8 else if d then word 12 else claimed_word rest addr) ≡ claimed_word rest addr
     by_test a e b f c g d h = rw (e, f, g, h) refl
 
-all_give : (value : ℕ → Line) (first lines addr : ℕ) → addr % 4 ≡ 0 → SHARED_BASE + 16 * first ≤ addr → addr < SHARED_BASE + 16 * (first + lines)
-    → claimed_word (all_words value first lines) addr ≡ lane_of (value ((addr - SHARED_BASE) / 16)) (addr % 16) Word
+all_give : (value : ℕ → Line) (first lines addr : ℕ) → addr % 4 ≡ 0 → shared_base + 16 * first ≤ addr → addr < shared_base + 16 * (first + lines)
+    → claimed_word (all_words value first lines) addr ≡ lane_of (value ((addr - shared_base) / 16)) (addr % 16) Word
 all_give value first zero addr whole low high = absurd (omega arith)
-all_give value first (suc lines) addr whole low high = cases_lt_then (SHARED_BASE + 16 * first + 16) addr
+all_give value first (suc lines) addr whole low high = cases_lt_then (shared_base + 16 * first + 16) addr
     (λ here.
-    let line : first ≡ (addr - SHARED_BASE) / 16 = omega (arith, low, here) in
-    let place : addr - (SHARED_BASE + 16 * first) ≡ addr % 16 = omega (arith, low, here) in
-    of_line (SHARED_BASE + 16 * first) addr (λ offset. lane_of (value first) offset Word) (all_words value (first + 1) lines) (omega arith) whole low here
+    let line : first ≡ (addr - shared_base) / 16 = omega (arith, low, here) in
+    let place : addr - (shared_base + 16 * first) ≡ addr % 16 = omega (arith, low, here) in
+    of_line (shared_base + 16 * first) addr (λ offset. lane_of (value first) offset Word) (all_words value (first + 1) lines) (omega arith) whole low here
     ∙ ap (λ (n : ℕ). lane_of (value first) n Word) place ∙ ap (λ (n : ℕ). lane_of (value n) (addr % 16) Word) line)
     (λ there.
-    behind_line (SHARED_BASE + 16 * first) addr (λ offset. lane_of (value first) offset Word) (all_words value (first + 1) lines) there
+    behind_line (shared_base + 16 * first) addr (λ offset. lane_of (value first) offset Word) (all_words value (first + 1) lines) there
     ∙ all_give value (first + 1) lines addr whole (omega (arith, there)) (omega (arith, high)))
 
 -- ---- runs
@@ -120,7 +120,7 @@ unfolding word_of
 listed_gives parts flat addr is =
     let lines = line_count parts in
     ap (λ (words : List (ℕ × ℕ)). claimed_word words addr) (kept_is (line_at flat) 0 lines)
-    ∙ kept_same (SHARED_BASE + 16 * 0) addr (all_words (line_at flat) 0 lines) (all_from (line_at flat) 0 lines)
+    ∙ kept_same (shared_base + 16 * 0) addr (all_words (line_at flat) 0 lines) (all_from (line_at flat) 0 lines)
     ∙ all_give (line_at flat) 0 lines addr is.0 is.1 (omega (arith, is.2))
 
 pub runs_sound : (image : Parts) → (parameters : Parameters) → (journal : List Entry) → (ended : Ended) → IsCoherentRun image parameters journal ended → ClaimIsSound (claim_of image parameters journal)

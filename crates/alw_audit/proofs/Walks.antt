@@ -4,7 +4,7 @@ use Rattle.std.specs.Prelude.{⊤}
 use Rattle.std.proofs.lemmas.Bool.Decides.{nat_tests}
 use Rattle.std.specs.List.{AllByRecursion}
 use Rattle.std.specs.List.Sorted.{IsStrictlyIncreasing}
-use Rattle.alw_num.specs.declared.addresses.TheConstants.{SHARED_BASE}
+use Rattle.alw_num.specs.Limits.{shared_base}
 use Rattle.alw_image.specs.declared.parts.Parts.{Parts}
 use Rattle.alw_flat.specs.Machines.{IsSharedWord}
 use Rattle.alw_audit.specs.Verdicts.{WordsAreFrom, claimed_word}
@@ -43,9 +43,9 @@ rises_from parts low (word ∷ next ∷ rest) begins all ascends =
     (begins, here, rises_from parts (word.0 + 4) (next ∷ rest) (omega (arith, up, here, there)) all.1 (tail_ascends word.0 (map (λ (w : ℕ × ℕ). w.0) (next ∷ rest)) ascends))
 
 -- words of shared data that ascend
-pub are_from : (parts : Parts) (words : List (ℕ × ℕ)) → AllByRecursion (λ word. IsSharedWord parts word.0 × (word.1 ≢ 0)) words → IsStrictlyIncreasing (map (λ word. word.0) words) → WordsAreFrom SHARED_BASE words
+pub are_from : (parts : Parts) (words : List (ℕ × ℕ)) → AllByRecursion (λ word. IsSharedWord parts word.0 × (word.1 ≢ 0)) words → IsStrictlyIncreasing (map (λ word. word.0) words) → WordsAreFrom shared_base words
 are_from parts [] all ascends = tt
-are_from parts (word ∷ rest) all ascends = rises_from parts SHARED_BASE (word ∷ rest) all.0.0.1 all ascends
+are_from parts (word ∷ rest) all ascends = rises_from parts shared_base (word ∷ rest) all.0.0.1 all ascends
 
 -- an address that isn't the first one is listed nowhere
 pub not_first : (addr : ℕ) (words : List (ℕ × ℕ)) (word : ℕ × ℕ) (rest : List (ℕ × ℕ)) → words ≡ word ∷ rest → addr % 4 ≡ 0 → word.0 ≢ addr → WordsAreFrom addr words → (0 ≡ claimed_word words addr) × WordsAreFrom (addr + 4) words

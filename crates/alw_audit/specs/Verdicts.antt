@@ -2,7 +2,7 @@
 use Rattle.std.specs.Prelude.{◌≡◌, ℕ, zero, suc, ◌+◌, ◌*◌, ◌%◌, ◌^◌, ◌<◌, ◌≤◌, ◌≢◌, ◌==◌, if◌then◌else◌, List, [], ◌∷◌, length, map, ⊤}
 use Rattle.std.specs.List.{AllByRecursion}
 use Rattle.std.specs.List.Sorted.{IsStrictlyIncreasing}
-use Rattle.alw_num.specs.declared.addresses.TheConstants.{SHARED_BASE}
+use Rattle.alw_num.specs.Limits.{shared_base}
 use Rattle.alw_msg.specs.declared.contexts.Status.{Status}
 use Rattle.alw_msg.specs.declared.contexts.Status.TheVariants.{Halted, Trapped}
 use Rattle.alw_msg.specs.Statuses.{is_ready}
@@ -77,7 +77,7 @@ unfoldable pub verdict_of : Claim → Verdict
 verdict_of claim =
     or_else (turns_verdict claim.image (flat_start claim.image) 0 claim.turns) (
     or_else (prints_verdict claim.prints (flat_prints claim.image claim.turns)) (
-    words_verdict claim.memory (flat_after claim.image claim.turns) SHARED_BASE (4 * line_count claim.image)))
+    words_verdict claim.memory (flat_after claim.image claim.turns) shared_base (4 * line_count claim.image)))
 
 -- ---- claims that can be audited
 

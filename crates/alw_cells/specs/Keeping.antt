@@ -2,7 +2,7 @@
 use Rattle.std.specs.Prelude.{◌≡◌, ℕ, ◌≤◌, List, length}
 use Rattle.alw_num.specs.NodeSets.{has_node, nodes_of}
 use Rattle.alw_num.specs.declared.node_sets.NodeSet.{NodeSet}
-use Rattle.alw_num.specs.declared.node_sets.TheConstants.{MOST_NODES}
+use Rattle.alw_num.specs.Limits.{most_nodes}
 use Rattle.alw_msg.specs.declared.messages.Msg.{Msg}
 use Rattle.alw_msg.specs.Lists.{is_nonempty}
 use Rattle.alw_msg.specs.Sending.{Sending}
@@ -22,7 +22,7 @@ pub record CellIsKept (node : Whole) (log : List Logged) (come : List (List Msg)
   pub replayed : IsReplayed node log come pending dids
   pub sent_by : AreSenders come senders
   pub room : sent.room ≡ node_count node.parts
-  pub few : length come ≤ MOST_NODES
+  pub few : length come ≤ most_nodes
 
 -- all of that, and the log is the node's
 pub record LogIsFiled (node : Whole) (log : Written) (come : List (List Msg)) (senders : NodeSet) (pending : List (ℕ × Msg)) (sent : Sending)

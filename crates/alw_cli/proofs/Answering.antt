@@ -4,7 +4,7 @@ use Rattle.std.specs.Prelude.{Result, Err}
 use Rattle.std.specs.Io.KnownBytes.{Keeps}
 use Rattle.alw_io.specs.Outside.{Took}
 use Rattle.alw_msg.specs.declared.events.Entry.{Entry}
-use Rattle.alw_cli.specs.declared.answers.TheConstants.{MOST_INPUT}
+use Rattle.alw_cli.specs.Limits.{most_input}
 use Rattle.alw_cli.specs.declared.answers.Cause.{Cause}
 use Rattle.alw_cli.specs.declared.answers.Cause.TheVariants as cause
 use Rattle.alw_cli.specs.declared.answers.InputErr.TheVariants as reason
@@ -26,7 +26,7 @@ keeps None = tt
 keeps (Some bytes) = refl
 
 -- what was read is the whole rest of the source
-pub reads_all : (before after : Option (List ℕ)) (faults faults' : ℕ) (bytes : List ℕ) → Took MOST_INPUT before after (Ok bytes) →
+pub reads_all : (before after : Option (List ℕ)) (faults faults' : ℕ) (bytes : List ℕ) → Took most_input before after (Ok bytes) →
     IsRead true (stream_of before faults) (stream_of after faults') bytes
 reads_all before after faults faults' bytes took =
     subst (λ (bs : List ℕ). IsRead true (stream_of before faults) (stream_of after faults') bs) (sym took.told.0)

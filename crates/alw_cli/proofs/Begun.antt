@@ -22,7 +22,7 @@ use Rattle.alw_tally.specs.Remaining.{trapped_in}
 use Rattle.alw_work.specs.Works.{holds_trap}
 use Rattle.alw_mesh.specs.declared.errors.FitErr.{FitErr}
 use Rattle.alw_mesh.specs.declared.errors.FitErr.TheVariants as fits
-use Rattle.alw_mesh.specs.declared.errors.TheConstants.{MOST_STEPS}
+use Rattle.alw_mesh.specs.Limits.{most_steps}
 use Rattle.alw_mesh.specs.Histories.{History, Fits, joined_of, stamps_of}
 use Rattle.alw_sched.specs.Schedules.{MachineIsSeeded, RunIsFinished}
 use Rattle.alw_sched.proofs.Seeded.{seeded_front, seeded_stays, seeded_evicts}
@@ -149,7 +149,7 @@ pub not_worked : (Makes : Output → Type 0) (workers : ℕ) (params : Parameter
 not_worked Makes workers params bytes image read (refusal.Fault (reason.LimitDoesNotFit number most)) is =
     (read.accepted, subst (λ (p : Parts). IsTooMuch p params number most) read.same is)
 not_worked Makes workers params bytes image read (refusal.Fault (reason.WorkersDoNotFit number most)) is =
-    (read.accepted, (subst (λ (p : Parts). stamps_of p params ≤ MOST_STEPS) read.same is.0, subst (λ (p : Parts). AreTooMany p workers number most) read.same is.1))
+    (read.accepted, (subst (λ (p : Parts). stamps_of p params ≤ most_steps) read.same is.0, subst (λ (p : Parts). AreTooMany p workers number most) read.same is.1))
 not_worked Makes workers params bytes image read (refusal.Fault _) is = absurd is
 not_worked Makes workers params bytes image read refusal.NoMemory is = absurd is
 

@@ -13,7 +13,7 @@ use Rattle.alw_model.specs.Ends.{IsEnd}
 use Rattle.alw_model.specs.Headline.{IsScheduled}
 use Rattle.law_machine.proofs.CoherentRuns.{coherent_run}
 use Rattle.alw_mesh.specs.Histories.{History, IsRun, begun, state_of, stamps_of}
-use Rattle.alw_mesh.specs.declared.errors.TheConstants.{MOST_STEPS}
+use Rattle.alw_mesh.specs.Limits.{most_steps}
 use Rattle.alw_sched.specs.Schedules.{IsSeededRun, RunIsFinished}
 use Rattle.alw_sched.proofs.Seeded.{of_start, seeded_run, seeded_scheduled}
 use Rattle.alw_replay.specs.Replays.{IsReplayed}
@@ -70,7 +70,7 @@ ran seed params form bytes image read before after e started finished =
 
 module _ (trace : Trace) (after : History) (kept : ℕ) (replayed : IsReplayed trace.image trace.params trace.journal after kept) where
   fits_so : IsFit trace
-  fits_so = subst (λ (h : History). stamps_of h.image h.parameters ≤ MOST_STEPS) replayed.is replayed.run.fits
+  fits_so = subst (λ (h : History). stamps_of h.image h.parameters ≤ most_steps) replayed.is replayed.run.fits
 
   -- all its entries are legal
   pub all_legal : length trace.journal ≤ kept → after ≡ whole_of trace

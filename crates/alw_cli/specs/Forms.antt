@@ -6,7 +6,7 @@ use Rattle.alw_image.specs.Images.{IsImage}
 use Rattle.alw_image.specs.Parameters.{Parameters, AreParameters}
 use Rattle.alw_model.specs.declared.ends.Ended.{Ended}
 use Rattle.alw_model.specs.Headline.{IsCoherentRun}
-use Rattle.alw_mesh.specs.declared.errors.TheConstants.{MOST_STEPS}
+use Rattle.alw_mesh.specs.Limits.{most_steps}
 use Rattle.alw_mesh.specs.Histories.{History, stamps_of}
 use Rattle.alw_report.specs.Reports.{report_of, summary_of}
 use Rattle.alw_report.specs.Json.{json_of}
@@ -35,7 +35,7 @@ output_of machine ended form = output_with machine ended (run_text form machine.
 pub record IsTold (image : Parts) (parameters : Parameters) (form : Form) (output : Output) : Type 0 where
   pub image_is : IsImage image
   pub parameters_are : AreParameters parameters
-  pub fits : stamps_of image parameters ≤ MOST_STEPS
+  pub fits : stamps_of image parameters ≤ most_steps
   pub ended : Ended
   pub run : IsCoherentRun image parameters output.journal ended
   pub ending : output.ending ≡ ending_of ended
@@ -43,6 +43,6 @@ pub record IsTold (image : Parts) (parameters : Parameters) (form : Form) (outpu
 
 -- the image doesn't fit, by these numbers
 pub record IsTooMuch (image : Parts) (parameters : Parameters) (number most : ℕ) : Type 0 where
-  pub most_is : most ≡ MOST_STEPS
+  pub most_is : most ≡ most_steps
   pub number_is : number ≡ stamps_of image parameters
-  pub above : MOST_STEPS < stamps_of image parameters
+  pub above : most_steps < stamps_of image parameters

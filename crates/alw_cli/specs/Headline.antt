@@ -7,7 +7,7 @@ use Rattle.alw_image.specs.Images.{IsImage, spelling}
 use Rattle.alw_image.specs.Parameters.{Parameters, AreParameters}
 use Rattle.alw_model.specs.declared.ends.Ended.{Ended}
 use Rattle.alw_model.specs.Headline.{IsCoherentRun, IsScheduled}
-use Rattle.alw_mesh.specs.declared.errors.TheConstants.{MOST_STEPS}
+use Rattle.alw_mesh.specs.Limits.{most_steps}
 use Rattle.alw_mesh.specs.Histories.{stamps_of}
 use Rattle.alw_sched.specs.Schedules.{IsSeededRun}
 use Rattle.alw_config.specs.declared.commands.Command.{Command}
@@ -31,7 +31,7 @@ has_journal _ = false
 pub record IsCoherent (image : Parts) (parameters : Parameters) (answered : Cause) (journal : List Entry) : Type 0 where
   pub image_is : IsImage image
   pub parameters_are : AreParameters parameters
-  pub fits : stamps_of image parameters ≤ MOST_STEPS
+  pub fits : stamps_of image parameters ≤ most_steps
   pub ended : Ended
   pub run : IsCoherentRun image parameters journal ended
   pub told : (answered ≡ cause_of (ending_of ended)) ⊎ (answered ≡ cause.WriteFault)

@@ -15,3 +15,4 @@ pub mod Saving
 pub mod Resuming
 pub mod Headline
 pub mod Answers
+pub mod Limits

@@ -10,7 +10,7 @@ use Rattle.alw_model.specs.Ends.{IsEnd}
 use Rattle.alw_model.specs.Headline.{IsCoherentRun}
 use Rattle.alw_model.specs.Machine.{IsLegal, state, end_of}
 use Rattle.alw_mesh.specs.Histories.{History, stamps_of}
-use Rattle.alw_mesh.specs.declared.errors.TheConstants.{MOST_STEPS}
+use Rattle.alw_mesh.specs.Limits.{most_steps}
 use Rattle.alw_replay.specs.Replays as replays
 use Rattle.alw_report.specs.Reports.{report_of}
 use Rattle.alw_trace.specs.declared.values.Trace.{Trace}
@@ -44,7 +44,7 @@ pub record IsTraceThat (Holds : Trace → Type 0) (bytes : List ℕ) : Type 0 wh
 
 -- the trace fits
 abbrev pub IsFit : Trace → Type 0
-IsFit trace = stamps_of trace.image trace.params ≤ MOST_STEPS
+IsFit trace = stamps_of trace.image trace.params ≤ most_steps
 
 -- an entry is the first that isn't legal
 abbrev pub IsFirstIllegal : Trace → ℕ → Type 0
@@ -106,7 +106,7 @@ pub record IsRunThatFits (image : Parts) (parameters : Parameters) (journal : Li
   pub image_is : IsImage image
   pub words : HasWords image
   pub parameters_are : AreParameters parameters
-  pub fits : stamps_of image parameters ≤ MOST_STEPS
+  pub fits : stamps_of image parameters ≤ most_steps
   pub run : IsCoherentRun image parameters journal ended
 
 -- an output that tells the same as this run does, as a report

@@ -5,7 +5,7 @@ use Rattle.alw_image.specs.Images.{spelling}
 use Rattle.alw_image.specs.Parameters.{Parameters}
 use Rattle.alw_model.specs.Headline.{IsScheduled}
 use Rattle.alw_mesh.specs.Histories.{stamps_of}
-use Rattle.alw_mesh.specs.declared.errors.TheConstants.{MOST_STEPS}
+use Rattle.alw_mesh.specs.Limits.{most_steps}
 use Rattle.alw_sched.specs.Schedules.{IsSeededRun}
 use Rattle.alw_config.specs.declared.commands.Form.{Form}
 use Rattle.alw_cli.specs.declared.answers.InputErr.{InputErr}
@@ -35,6 +35,6 @@ run_task seed parameters form = record {
   reads = true;
   Makes = Runs seed parameters form;
   Refuses = IsNoRun parameters;
-  Accepts = λ bytes. (image_fault bytes ≡ None) × (stamps_of (image_in bytes) parameters ≤ MOST_STEPS);
+  Accepts = λ bytes. (image_fault bytes ≡ None) × (stamps_of (image_in bytes) parameters ≤ most_steps);
   is_done = is_run;
 }

@@ -2,7 +2,7 @@
 use Rattle.std.specs.Prelude.{◌≡◌, ℕ, ◌<◌, ◌≤◌, Bool, true, false, Option, Some, List, [], length}
 use Rattle.std.specs.Io.KnownBytes.{Appends, Consumes, IsAtEnd, Keeps}
 use Rattle.alw_io.specs.Outside.{Rose, AppendsPart}
-use Rattle.alw_cli.specs.declared.answers.TheConstants.{MOST_INPUT}
+use Rattle.alw_cli.specs.Limits.{most_input}
 
 -- a source or a sink at one moment: the bytes that it tells of its rest or contents, and its fault count
 pub record Stream : Type 0 where
@@ -14,7 +14,7 @@ stream_of known faults = record { known = known; faults = faults }
 
 -- the bytes are the whole rest of a source
 abbrev pub ReadsAll : Stream → Stream → List ℕ → Type 0
-ReadsAll before after bytes = Consumes before.known after.known bytes × IsAtEnd after.known × (length bytes ≤ MOST_INPUT)
+ReadsAll before after bytes = Consumes before.known after.known bytes × IsAtEnd after.known × (length bytes ≤ most_input)
 
 -- nothing is taken of a source, or put to a sink
 abbrev pub Stays : Stream → Stream → Type 0
@@ -29,12 +29,12 @@ IsRead false before after bytes = Stays before after × (bytes ≡ [])
 pub record TookSome (before after : Stream) : Type 0 where
   pub taken : List ℕ
   pub read : Consumes before.known after.known taken
-  pub few : length taken ≤ MOST_INPUT
+  pub few : length taken ≤ most_input
 
 pub record TookTooMany (before after : Stream) : Type 0 where
   pub taken : List ℕ
   pub read : Consumes before.known after.known taken
-  pub many : MOST_INPUT < length taken
+  pub many : most_input < length taken
 
 -- some bytes were taken of a source that is read, and none of another
 abbrev pub IsTaken : Bool → Stream → Stream → Type 0
@@ -43,7 +43,7 @@ IsTaken false before after = Stays before after
 
 -- what a command may be handed: no more bytes than an input may have, which are a source's whole rest, or no bytes
 abbrev pub IsInput : Bool → Stream → List ℕ → Type 0
-IsInput true before bytes = (before.known ≡ Some bytes) × (length bytes ≤ MOST_INPUT)
+IsInput true before bytes = (before.known ≡ Some bytes) × (length bytes ≤ most_input)
 IsInput false before bytes = bytes ≡ []
 
 -- a sink gained the whole text, or a front of it, and then its count rose

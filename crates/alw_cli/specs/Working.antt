@@ -14,7 +14,7 @@ use Rattle.law_order.specs.Merges.{AreLocalRuns}
 use Rattle.alw_work.specs.Works.{AreSpent}
 use Rattle.alw_cells.specs.Cells.{IsSpent}
 use Rattle.alw_mesh.specs.Histories.{History, stamps_of, joined_of}
-use Rattle.alw_mesh.specs.declared.errors.TheConstants.{MOST_STEPS}
+use Rattle.alw_mesh.specs.Limits.{most_steps}
 use Rattle.alw_sched.specs.Schedules.{MachineIsSeeded}
 use Rattle.alw_config.specs.declared.commands.Form.{Form}
 use Rattle.alw_cli.specs.declared.answers.InputErr.{InputErr}
@@ -59,12 +59,12 @@ pub record AreTooMany (image : Parts) (workers number most : ℕ) : Type 0 where
 abbrev pub IsNoWork : ℕ → Parameters → Parts → InputErr → Type 0
 IsNoWork workers parameters image (reason.LimitDoesNotFit number most) = IsTooMuch image parameters number most
 IsNoWork workers parameters image (reason.WorkersDoNotFit number most) =
-    (stamps_of image parameters ≤ MOST_STEPS) × AreTooMany image workers number most
+    (stamps_of image parameters ≤ most_steps) × AreTooMany image workers number most
 IsNoWork workers parameters image _ = ⊥
 
 -- whether it fits, with a node for each worker, or why not
 abbrev pub HasRoom : ℕ → Parameters → Parts → Result (Unit {0}) Refusal → Type 0
-HasRoom workers parameters image (Ok done) = (stamps_of image parameters ≤ MOST_STEPS) × (workers ≤ node_count image)
+HasRoom workers parameters image (Ok done) = (stamps_of image parameters ≤ most_steps) × (workers ≤ node_count image)
 HasRoom workers parameters image (Err (refusal.Fault fault)) = IsNoWork workers parameters image fault
 HasRoom workers parameters image (Err refusal.NoMemory) = ⊥
 
@@ -76,7 +76,7 @@ IsNotWorked workers parameters bytes fault = (image_fault bytes ≡ None) × IsN
 -- the bytes are an image that fits, with a node for each worker
 pub record IsWorkable (workers : ℕ) (parameters : Parameters) (bytes : List ℕ) : Type 0 where
   pub accepted : image_fault bytes ≡ None
-  pub fits : stamps_of (image_in bytes) parameters ≤ MOST_STEPS
+  pub fits : stamps_of (image_in bytes) parameters ≤ most_steps
   pub few : workers ≤ node_count (image_in bytes)
 
 abbrev pub work_task : ℕ → Parameters → Form → Task

@@ -2,7 +2,7 @@
 use Rattle.std.specs.Prelude.{◌≡◌, ℕ, ◌+◌, ◌-◌, ◌*◌, ◌/◌, ◌%◌, ◌≤◌, ◌<◌, Option, List, [], length, option_map, slice_get}
 use Rattle.alw_num.specs.declared.addresses.Line.{Line}
 use Rattle.alw_num.specs.declared.addresses.Width.TheVariants.{Word}
-use Rattle.alw_num.specs.declared.addresses.TheConstants.{SHARED_BASE}
+use Rattle.alw_num.specs.Limits.{shared_base}
 use Rattle.alw_num.specs.declared.states.Mode.{Mode}
 use Rattle.alw_num.specs.declared.states.Mode.TheVariants.{Write}
 use Rattle.alw_num.specs.Lanes.{lane_of}
@@ -30,8 +30,8 @@ pub record HasSizes (machine : FlatMachine) : Type 0 where
 
 -- the address of a word of shared data
 abbrev pub IsSharedWord : Parts → ℕ → Type 0
-IsSharedWord parts addr = (addr % 4 ≡ 0) × (SHARED_BASE ≤ addr) × (addr < SHARED_BASE + 16 * line_count parts)
+IsSharedWord parts addr = (addr % 4 ≡ 0) × (shared_base ≤ addr) × (addr < shared_base + 16 * line_count parts)
 
 -- the word at an address of shared data
 unfoldable pub word_of : Flat → ℕ → ℕ
-word_of flat addr = lane_of (line_at flat ((addr - SHARED_BASE) / 16)) (addr % 16) Word
+word_of flat addr = lane_of (line_at flat ((addr - shared_base) / 16)) (addr % 16) Word

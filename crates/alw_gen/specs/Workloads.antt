@@ -2,7 +2,7 @@
 use Rattle.std.specs.Prelude.{ℕ, ◌≤◌, zero, suc, ◌+◌, ◌*◌, ◌/◌, ◌%◌, ◌^◌, ◌==◌, ◌&&◌, nat_le, if◌then◌else◌, List, [], ◌∷◌, ◌++◌, map}
 use Rattle.std.specs.List.{range_with_len}
 use Rattle.alw_num.specs.declared.addresses.NodeNo.{NodeNo}
-use Rattle.alw_num.specs.declared.addresses.TheConstants.{SHARED_BASE}
+use Rattle.alw_num.specs.Limits.{shared_base}
 use Rattle.alw_num.specs.Draws.{drawn, drawn_number, drawn_times}
 use Rattle.sparc_table.specs.declared.instructions.Operand.TheVariants.{Reg, Imm}
 use Rattle.sparc_table.specs.declared.instructions.Instr.{Instr}
@@ -12,7 +12,7 @@ use Rattle.alw_image.specs.declared.parts.Parts.{Parts}
 
 -- the word that an operation is about: in which of so many lines, and which of the line's four words
 abbrev pub address_drawn : ℕ → ℕ → ℕ
-address_drawn lines number = SHARED_BASE + 16 * (number % lines) + 4 * (number / 2 ^ 26 % 4)
+address_drawn lines number = shared_base + 16 * (number % lines) + 4 * (number / 2 ^ 26 % 4)
 
 -- `set address, %g1`
 abbrev pub set_g1 : ℕ → List Instr

@@ -9,6 +9,13 @@ pub record Parameters : Type 0 where
   pub limit : ℕ
   pub evict : ℕ
 
+-- the most hardware pointers of an entry, and the greatest stamp that a limit may be
+abbrev pub most_pointers : ℕ
+most_pointers = 8
+
+abbrev pub most_limit : ℕ
+most_limit = 1048576
+
 -- the powers of two from 4 to 4096
 abbrev pub set_counts : List ℕ
 set_counts = 4 ∷ 8 ∷ 16 ∷ 32 ∷ 64 ∷ 128 ∷ 256 ∷ 512 ∷ 1024 ∷ 2048 ∷ 4096 ∷ []
@@ -16,8 +23,8 @@ set_counts = 4 ∷ 8 ∷ 16 ∷ 32 ∷ 64 ∷ 128 ∷ 256 ∷ 512 ∷ 1024 ∷ 2
 -- each is within its range
 pub record AreParameters (p : Parameters) : Type 0 where
   pub some_pointer : 1 ≤ p.pointers
-  pub pointers : p.pointers ≤ 8
+  pub pointers : p.pointers ≤ most_pointers
   pub sets : IsTrue (list_any (λ n. p.sets == n) set_counts)
   pub some_limit : 1 ≤ p.limit
-  pub limit : p.limit ≤ 1048576
+  pub limit : p.limit ≤ most_limit
   pub evict : p.evict ≤ 255

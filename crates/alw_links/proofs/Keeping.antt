@@ -4,7 +4,7 @@ use Rattle.std.proofs.Common.{get_or, set, refl, sym, ap, ◌∙◌, arith}
 use Rattle.std.proofs.lemmas.Bool.{eq-eqb, ne_eqb, lt-ltb}
 use Rattle.std.proofs.lemmas.List.{get_or-set_same, get_or-set_other, get_or-replicate, length-replicate, length-set, length_push}
 use Rattle.alw_num.specs.declared.node_sets.NodeSet.{NodeSet}
-use Rattle.alw_num.specs.declared.node_sets.TheConstants.{MOST_NODES}
+use Rattle.alw_num.specs.Limits.{most_nodes}
 use Rattle.alw_num.specs.NodeSets.{no_nodes, has_node, add_node, drop_node, nodes_of}
 use Rattle.alw_num.proofs.Weigh.{is_node}
 use Rattle.alw_num.proofs.Sets.{has-none, has-add, has-drop}
@@ -32,7 +32,7 @@ link-start zero i = refl
 link-start (suc n) zero = refl
 link-start (suc n) (suc i) = link-start n i
 
-pub starts : (nodes : ℕ) → nodes ≤ MOST_NODES → IsTraffic nodes (replicate (nodes * nodes) []) (replicate nodes nobody) [] 0
+pub starts : (nodes : ℕ) → nodes ≤ most_nodes → IsTraffic nodes (replicate (nodes * nodes) []) (replicate nodes nobody) [] 0
 starts nodes few = record {
   few_nodes = few;
   links_are = length-replicate (nodes * nodes) [];

@@ -1,7 +1,7 @@
 -- What the links keep beside the messages: how many are on the way, and which nodes have something on the way to a node.
 use Rattle.std.specs.Prelude.{◌≡◌, ◌<◌, ◌≤◌, ℕ, ◌+◌, ◌*◌, ◌^◌, nat_lt, ◌&&◌, List, length, slice_index_or}
 use Rattle.alw_num.specs.declared.node_sets.NodeSet.{NodeSet}
-use Rattle.alw_num.specs.declared.node_sets.TheConstants.{MOST_NODES}
+use Rattle.alw_num.specs.Limits.{most_nodes}
 use Rattle.alw_num.specs.NodeSets.{has_node, nodes_of}
 use Rattle.alw_msg.specs.declared.messages.Msg.{Msg}
 use Rattle.alw_msg.specs.Lists.{is_nonempty}
@@ -16,7 +16,7 @@ AreSenders nodes links senders = (from to : ℕ) → to < nodes
     → has_node (nodes_of (slice_index_or senders to nobody)) from ≡ (nat_lt from nodes && is_nonempty (link_of nodes links from to))
 
 pub record IsTraffic (nodes : ℕ) (links : List (List Msg)) (senders : List NodeSet) (spare : List Msg) (count : ℕ) : Type 0 where
-  pub few_nodes : nodes ≤ MOST_NODES
+  pub few_nodes : nodes ≤ most_nodes
   pub links_are : length links ≡ nodes * nodes
   pub senders_are : length senders ≡ nodes
   pub sent_by : AreSenders nodes links senders

@@ -1,7 +1,7 @@
 -- What workers leave, as it is read in the order of the merge.
 use Rattle.std.specs.Prelude.{◌≡◌, ℕ, ◌<◌, ◌≤◌, false, Option, None, List, [], ◌∷◌, map, filter, ◌==◌, is_some, length, slice_index_or, slice_set}
 use Rattle.std.specs.List.{All}
-use Rattle.alw_num.specs.declared.node_sets.TheConstants.{MOST_NODES}
+use Rattle.alw_num.specs.Limits.{most_nodes}
 use Rattle.alw_num.specs.Weights.{digit, weigh}
 use Rattle.alw_msg.specs.declared.messages.Msg.{Msg}
 use Rattle.alw_msg.specs.declared.events.Event.{Event}
@@ -89,7 +89,7 @@ pub record MayFollow (nodes : ℕ) (event : Event) (sends : List (ℕ × Msg)) (
   pub sender : node_of event < nodes
   pub within : NodesAreWithin nodes event
   pub did : 1 ≤ length dids
-  pub few : length sends ≤ MOST_NODES
+  pub few : length sends ≤ most_nodes
   pub go : All (λ (send : ℕ × Msg). send.0 < nodes) sends
 
 -- it has been read, its messages are moved, and it is told

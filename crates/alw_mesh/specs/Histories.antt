@@ -16,7 +16,7 @@ use Rattle.alw_mesh.specs.declared.errors.FitErr.TheVariants as fits
 use Rattle.alw_mesh.specs.declared.errors.StepErr.{StepErr}
 use Rattle.alw_mesh.specs.declared.errors.StepErr.TheVariants as steps
 use Rattle.alw_mesh.specs.declared.parts.MachineParts.{MachineParts}
-use Rattle.alw_mesh.specs.declared.errors.TheConstants.{MOST_STEPS}
+use Rattle.alw_mesh.specs.Limits.{most_steps}
 
 pub record History : Type 0 where
   pub image : Parts
@@ -57,21 +57,21 @@ stamps_of image parameters = node_count image * parameters.limit
 pub record IsRun (h : History) : Type 0 where
   pub image : IsImage h.image
   pub parameters : AreParameters h.parameters
-  pub fits : stamps_of h.image h.parameters ≤ MOST_STEPS
+  pub fits : stamps_of h.image h.parameters ≤ most_steps
   pub legal : IsLegal h.image h.parameters h.journal
   pub joined : h.joined ≤ length h.journal
 
 -- a machine of an image under parameters fits; or its nodes may have more stamps together than the most
 abbrev pub Fits : Parts → Parameters → Result (Unit {0}) FitErr → Type 0
-Fits image parameters (Ok done) = stamps_of image parameters ≤ MOST_STEPS
-Fits image parameters (Err (fits.DoesNotFit number most)) = (MOST_STEPS < number) × (number ≡ stamps_of image parameters) × (most ≡ MOST_STEPS)
+Fits image parameters (Ok done) = stamps_of image parameters ≤ most_steps
+Fits image parameters (Err (fits.DoesNotFit number most)) = (most_steps < number) × (number ≡ stamps_of image parameters) × (most ≡ most_steps)
 Fits image parameters (Err fits.NoMemory) = ⊥
 
 -- what the start of a machine answers: it hasn't begun, or its nodes may have more stamps together than the most, or memory was refused
 abbrev pub Starts : Parts → Parameters → Result History FitErr → Type 0
-Starts image parameters (Ok machine) = (machine ≡ begun image parameters) × (stamps_of image parameters ≤ MOST_STEPS)
-Starts image parameters (Err (fits.DoesNotFit number most)) = (MOST_STEPS < number) × (number ≡ stamps_of image parameters) × (most ≡ MOST_STEPS)
-Starts image parameters (Err fits.NoMemory) = stamps_of image parameters ≤ MOST_STEPS
+Starts image parameters (Ok machine) = (machine ≡ begun image parameters) × (stamps_of image parameters ≤ most_steps)
+Starts image parameters (Err (fits.DoesNotFit number most)) = (most_steps < number) × (number ≡ stamps_of image parameters) × (most ≡ most_steps)
+Starts image parameters (Err fits.NoMemory) = stamps_of image parameters ≤ most_steps
 
 -- what taking an event that may be next leaves and answers: it has happened, and did what it does; or memory was refused, and all is as it was
 abbrev pub Takes : History → Event → History → Result Did NoMemory → Type 0

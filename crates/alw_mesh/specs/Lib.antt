@@ -5,3 +5,4 @@ pub mod Readings
 pub mod Values
 pub mod Ends
 pub mod Joins
+pub mod Limits

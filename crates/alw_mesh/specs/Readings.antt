@@ -1,7 +1,7 @@
 -- What a machine's readers tell: parts of its state, and what its journal says.
 use Rattle.std.specs.Prelude.{◌≡◌, ℕ, ◌+◌, ◌-◌, ◌*◌, ◌/◌, ◌%◌, ◌<◌, ◌≤◌, List}
 use Rattle.alw_num.specs.declared.addresses.Width.TheVariants.{Word}
-use Rattle.alw_num.specs.declared.addresses.TheConstants.{SHARED_BASE}
+use Rattle.alw_num.specs.Limits.{shared_base}
 use Rattle.alw_num.specs.Lanes.{lane_of}
 use Rattle.alw_image.specs.Images.{line_count}
 use Rattle.alw_model.specs.declared.steps.Counts.{Counts}
@@ -36,11 +36,11 @@ flat_in h = flat_after h.image (turns_in h)
 
 -- the address of a word of shared data
 abbrev pub IsSharedWord : History → ℕ → Type 0
-IsSharedWord h addr = (addr % 4 ≡ 0) × (SHARED_BASE ≤ addr) × (addr < SHARED_BASE + 16 * line_count h.image)
+IsSharedWord h addr = (addr % 4 ≡ 0) × (shared_base ≤ addr) × (addr < shared_base + 16 * line_count h.image)
 
 -- the line that an address of shared data is in
 abbrev pub line_of : ℕ → ℕ
-line_of addr = (addr - SHARED_BASE) / 16
+line_of addr = (addr - shared_base) / 16
 
 -- the current value's word at an address
 abbrev pub word_in : History → ℕ → ℕ

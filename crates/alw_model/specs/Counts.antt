@@ -3,7 +3,7 @@ use Rattle.std.specs.Prelude.{ℕ, ◌+◌, ◌-◌, ◌*◌, ◌/◌, ◌%◌, 
 use Rattle.std.specs.List.{range_with_len}
 use Rattle.alw_num.specs.Lanes.{lane_of}
 use Rattle.alw_num.specs.Weights.{digit, weigh}
-use Rattle.alw_num.specs.declared.addresses.TheConstants.{SHARED_BASE}
+use Rattle.alw_num.specs.Limits.{shared_base}
 use Rattle.alw_num.specs.declared.addresses.Line.{Line}
 use Rattle.alw_num.specs.declared.addresses.Width.TheVariants.{Word}
 use Rattle.alw_num.specs.declared.states.State.{State}
@@ -107,7 +107,7 @@ count_holds machine = weigh (λ node. weigh (λ slot. digit (is_some slot.hold))
 
 -- the words of a line that aren't 0, each with its address
 abbrev pub words_of : ℕ → Line → List (ℕ × ℕ)
-words_of line body = filter (λ (word : ℕ × ℕ). not (word.1 == 0)) (map (λ offset. (SHARED_BASE + 16 * line + offset, lane_of body offset Word)) (0 ∷ 4 ∷ 8 ∷ 12 ∷ []))
+words_of line body = filter (λ (word : ℕ × ℕ). not (word.1 == 0)) (map (λ offset. (shared_base + 16 * line + offset, lane_of body offset Word)) (0 ∷ 4 ∷ 8 ∷ 12 ∷ []))
 
 -- the words that aren't 0 of so many lines with these values, each with its address, ascending
 abbrev pub listed_words : (ℕ → Line) → ℕ → List (ℕ × ℕ)

@@ -6,3 +6,4 @@ pub mod Rooms
 pub mod Draws
 pub mod Ranks
 pub mod PlaceCounts
+pub mod Limits

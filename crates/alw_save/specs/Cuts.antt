@@ -8,7 +8,7 @@ use Rattle.law_order.specs.Orders.{kept_by, later_than}
 use Rattle.alw_mesh.specs.Histories.{History, IsRun, stamps_of}
 use Rattle.alw_mesh.specs.declared.errors.FitErr.{FitErr}
 use Rattle.alw_mesh.specs.declared.errors.FitErr.TheVariants as fits
-use Rattle.alw_mesh.specs.declared.errors.TheConstants.{MOST_STEPS}
+use Rattle.alw_mesh.specs.Limits.{most_steps}
 use Rattle.alw_replay.specs.Replays.{IsFirstIllegal}
 use Rattle.alw_trace.specs.declared.values.Trace.{Trace}
 use Rattle.alw_save.specs.declared.values.Cut.{Cut}
@@ -17,7 +17,7 @@ use Rattle.alw_save.specs.declared.faults.CutErr.TheVariants.{DoesNotFit, NotLeg
 
 -- the trace fits, and all its entries are legal
 pub record TraceIsSound (trace : Trace) : Type 0 where
-  pub fits : stamps_of trace.image trace.params ≤ MOST_STEPS
+  pub fits : stamps_of trace.image trace.params ≤ most_steps
   pub legal : IsLegal trace.image trace.params trace.journal
 
 -- a legal journal is cut at a stamp: the entries with at most this stamp are legal, and the others behind them, which leaves the same state
@@ -30,9 +30,9 @@ pub record JournalIsCut (trace : Trace) (at : ℕ) (kept rest : List Entry) : Ty
 
 -- why a trace isn't cut: its nodes may have more stamps together than the most, or this is its first entry that isn't legal, or memory was refused
 abbrev pub IsNoCut : Trace → CutErr → Type 0
-IsNoCut trace (DoesNotFit number most) = (MOST_STEPS < number) × (number ≡ stamps_of trace.image trace.params) × (most ≡ MOST_STEPS)
-IsNoCut trace (NotLegal k) = (stamps_of trace.image trace.params ≤ MOST_STEPS) × IsFirstIllegal trace.image trace.params trace.journal k
-IsNoCut trace NoMemory = stamps_of trace.image trace.params ≤ MOST_STEPS
+IsNoCut trace (DoesNotFit number most) = (most_steps < number) × (number ≡ stamps_of trace.image trace.params) × (most ≡ most_steps)
+IsNoCut trace (NotLegal k) = (stamps_of trace.image trace.params ≤ most_steps) × IsFirstIllegal trace.image trace.params trace.journal k
+IsNoCut trace NoMemory = stamps_of trace.image trace.params ≤ most_steps
 
 abbrev pub Cuts : Trace → ℕ → Result Cut CutErr → Type 0
 Cuts trace at (Ok cut) = TraceIsSound trace × JournalIsCut trace at cut.kept cut.rest

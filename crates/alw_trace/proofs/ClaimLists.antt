@@ -5,7 +5,7 @@ use Rattle.std.specs.List.Sorted.{IsStrictlyIncreasing}
 use Rattle.std.proofs.lemmas.Bool.{true≢false, and_parts}
 use Rattle.std.proofs.lemmas.Bool.Decides.{nat_tests}
 use Rattle.std.proofs.lemmas.Option.{none-some}
-use Rattle.alw_num.specs.declared.addresses.TheConstants.{SHARED_BASE}
+use Rattle.alw_num.specs.Limits.{shared_base}
 use Rattle.alw_msg.specs.Stretches.{in_front, stretches, turns_in, AreLongest}
 use Rattle.alw_image.specs.declared.parts.Parts.{Parts}
 use Rattle.alw_image.specs.Images.{line_count}
@@ -116,8 +116,8 @@ prints_fit contexts line (print ∷ rest) none =
 
 shared-is : (parts : Parts) (address : ℕ) → is_shared (line_count parts) address ≡ true → IsSharedAddress parts address
 shared-is parts address is =
-    let a = and_parts (address % 4 == 0) (nat_le SHARED_BASE address && nat_lt address (SHARED_BASE + 16 * line_count parts)) is in
-    let b = and_parts (nat_le SHARED_BASE address) (nat_lt address (SHARED_BASE + 16 * line_count parts)) a.1 in
+    let a = and_parts (address % 4 == 0) (nat_le shared_base address && nat_lt address (shared_base + 16 * line_count parts)) is in
+    let b = and_parts (nat_le shared_base address) (nat_lt address (shared_base + 16 * line_count parts)) a.1 in
     ((let t = a.0 in grind (arith, nat_tests)), (let t = b.0 in grind (arith, nat_tests)), (let t = b.1 in grind (arith, nat_tests)))
 
 not_zero : (word : ℕ) → not (word == 0) ≡ true → word ≢ 0

@@ -5,7 +5,7 @@ use Rattle.std.specs.List.Sorted.{IsStrictlyIncreasing}
 use Rattle.std.proofs.lemmas.Bool.{and_from}
 use Rattle.std.proofs.lemmas.Bool.Decides.{nat_tests}
 use Rattle.std.proofs.lemmas.Option.{none-some}
-use Rattle.alw_num.specs.declared.addresses.TheConstants.{SHARED_BASE}
+use Rattle.alw_num.specs.Limits.{shared_base}
 use Rattle.alw_msg.specs.Stretches.{stretches, turns_in, AreLongest}
 use Rattle.alw_msg.proofs.StretchLaws.{same_turns, are_longest}
 use Rattle.alw_image.specs.declared.parts.Parts.{Parts}
@@ -94,8 +94,8 @@ prints_are contexts (print ∷ rest) few all words =
 shared-is : (parts : Parts) (address : ℕ) → IsSharedAddress parts address → is_shared (line_count parts) address ≡ true
 shared-is parts address is =
     let aligned = is.0 in let low = is.1 in let high = is.2 in
-    and_from (address % 4 == 0) (nat_le SHARED_BASE address && nat_lt address (SHARED_BASE + 16 * line_count parts)) (grind (arith, nat_tests))
-    (and_from (nat_le SHARED_BASE address) (nat_lt address (SHARED_BASE + 16 * line_count parts)) (grind (arith, nat_tests)) (grind (arith, nat_tests)))
+    and_from (address % 4 == 0) (nat_le shared_base address && nat_lt address (shared_base + 16 * line_count parts)) (grind (arith, nat_tests))
+    (and_from (nat_le shared_base address) (nat_lt address (shared_base + 16 * line_count parts)) (grind (arith, nat_tests)) (grind (arith, nat_tests)))
 
 -- words are above an address, if there is one
 abbrev above-is : Option ℕ → List (ℕ × ℕ) → Type 0

@@ -3,16 +3,15 @@
 use Rattle.std.specs.Prelude.{◌≡◌, ◌≢◌, ℕ, ◌+◌, ◌*◌, ◌%◌, ◌^◌, ◌<◌, ◌≤◌, ◌==◌, ◌&&◌, Bool, true, not, nat_le, nat_lt, Option, None, Some, Result, Ok, Err, List, [], ◌∷◌, ◌++◌, length, map, ⊤}
 use Rattle.std.specs.List.{AllByRecursion, list_any}
 use Rattle.std.specs.List.Sorted.{IsStrictlyIncreasing}
-use Rattle.alw_num.specs.declared.addresses.TheConstants.{SHARED_BASE}
+use Rattle.alw_num.specs.Limits.{shared_base}
 use Rattle.alw_msg.specs.declared.events.Event.{Event}
 use Rattle.alw_msg.specs.declared.events.Event.TheVariants.{Instr, Handle, Deliver, Evict}
 use Rattle.alw_msg.specs.declared.events.Entry.{Entry}
 use Rattle.alw_image.specs.declared.parts.Parts.{Parts}
-use Rattle.alw_image.specs.declared.parameters.TheConstants.{MOST_POINTERS, MOST_LIMIT}
 use Rattle.alw_image.specs.declared.faults.ImageErr.{ImageErr}
 use Rattle.alw_image.specs.Images.{IsImage, node_count, context_count, line_count}
 use Rattle.alw_image.specs.Numbers.{IsWord, HasWords}
-use Rattle.alw_image.specs.Parameters.{Parameters, AreParameters, set_counts}
+use Rattle.alw_image.specs.Parameters.{Parameters, AreParameters, set_counts, most_pointers, most_limit}
 use Rattle.alw_image.specs.Faults.{image_fault, image_in, first_unfit, is_above, is_within}
 use Rattle.alw_trace.specs.declared.values.Trace.{Trace}
 use Rattle.alw_trace.specs.declared.values.Claim.{Claim}
@@ -35,7 +34,7 @@ abbrev pub fits_entry : ℕ → ℕ → Entry → Bool
 fits_entry nodes sets entry = is_within 1 4294967295 entry.stamp && fits_event nodes sets entry.event
 
 abbrev pub are_parameters : Parameters → Bool
-are_parameters p = is_within 1 MOST_POINTERS p.pointers && (list_any (λ n. p.sets == n) set_counts && is_within 1 MOST_LIMIT p.limit)
+are_parameters p = is_within 1 most_pointers p.pointers && (list_any (λ n. p.sets == n) set_counts && is_within 1 most_limit p.limit)
 
 -- a list of which the number of members has 32 bits
 abbrev pub is_short : {X : Type 0} → List X → Bool
@@ -82,7 +81,7 @@ fits_print contexts print = nat_lt print.0 contexts
 
 -- the address of a word of so many lines of shared data
 abbrev pub is_shared : ℕ → ℕ → Bool
-is_shared lines address = (address % 4 == 0) && (nat_le SHARED_BASE address && nat_lt address (SHARED_BASE + 16 * lines))
+is_shared lines address = (address % 4 == 0) && (nat_le shared_base address && nat_lt address (shared_base + 16 * lines))
 
 -- a word of shared data that isn't 0, above the one before
 abbrev pub fits_word : ℕ → Option ℕ → ℕ × ℕ → Bool
@@ -141,7 +140,7 @@ HasTraceTypes trace = HasWords trace.image × (length trace.journal < 2 ^ 32)
 
 -- the address of a word of an image's shared data
 abbrev pub IsSharedAddress : Parts → ℕ → Type 0
-IsSharedAddress parts address = (address % 4 ≡ 0) × (SHARED_BASE ≤ address) × (address < SHARED_BASE + 16 * line_count parts)
+IsSharedAddress parts address = (address % 4 ≡ 0) × (shared_base ≤ address) × (address < shared_base + 16 * line_count parts)
 
 -- what a claim can be: it speaks of the image's contexts, and of words that aren't 0, by address
 pub record IsClaim (claim : Claim) : Type 0 where

@@ -2,7 +2,7 @@
 use Rattle.std.proofs.Common.{◌≡◌, ◌≢◌, ℕ, ◌-◌, ◌/◌, ◌%◌, ◌^◌, ◌<◌, ◌==◌, ◌&&◌, Bool, true, false, cond, not, List, [], ◌∷◌, Result, Ok, Err, refl, ap, arith}
 use Rattle.std.proofs.lemmas.Bool.{ltb-true}
 use Rattle.alw_num.specs.Lanes.{bytes_in}
-use Rattle.alw_num.specs.declared.addresses.TheConstants.{SHARED_BASE}
+use Rattle.alw_num.specs.Limits.{shared_base}
 use Rattle.alw_num.specs.declared.addresses.Line.{Line}
 use Rattle.alw_num.specs.declared.addresses.LineNo.{LineNo}
 use Rattle.alw_num.specs.declared.states.Mode.{Mode}
@@ -113,7 +113,7 @@ second : (a b : Bool) → a && b ≡ true → b ≡ true
 second true b e = e
 second false b e = cc
 
-below : (address lines : ℕ) → is_shared address lines ≡ true → (address - SHARED_BASE) / 16 < lines
+below : (address lines : ℕ) → is_shared address lines ≡ true → (address - shared_base) / 16 < lines
 below address lines e = ltb-true _ _ (second _ _ e)
 
 -- the mode of an access, from its need
@@ -138,9 +138,9 @@ needed_exists (Jmpl rd rs1 operand) regs lines line mode e = cc
 needed_exists (TrapOn condition rs1 operand) regs lines line mode e = cc
 needed_exists (Memory op3 rd rs1 operand) regs lines line mode e =
     let address = address_of rs1 operand regs in
-    let k = chosen_is (address % bytes_in (width_of op3) == 0) (is_shared address lines) (record { 0 = (address - SHARED_BASE) / 16 }) line (mode_of op3) mode e in
+    let k = chosen_is (address % bytes_in (width_of op3) == 0) (is_shared address lines) (record { 0 = (address - shared_base) / 16 }) line (mode_of op3) mode e in
     let b = below address lines k.0 in
-    let f : (address - SHARED_BASE) / 16 ≡ line.0 = ap (λ (l : LineNo). l.0) k.1 in
+    let f : (address - shared_base) / 16 ≡ line.0 = ap (λ (l : LineNo). l.0) k.1 in
     omega arith
 
 -- an instruction that only needs to read leaves the line as it is
@@ -157,7 +157,7 @@ read_stays (Jmpl rd rs1 operand) regs lines line e = refl
 read_stays (TrapOn condition rs1 operand) regs lines line e = refl
 read_stays (Memory op3 rd rs1 operand) regs lines line e =
     let address = address_of rs1 operand regs in
-    mode_is_read op3 (chosen_is (address % bytes_in (width_of op3) == 0) (is_shared address lines) (record { 0 = (address - SHARED_BASE) / 16 }) line (mode_of op3) Read e).2
+    mode_is_read op3 (chosen_is (address % bytes_in (width_of op3) == 0) (is_shared address lines) (record { 0 = (address - shared_base) / 16 }) line (mode_of op3) Read e).2
 
 -- the same of turns
 turn_exists_at : (found : Result Instr ℕ) (regs : Regs) (lines : ℕ) (line : LineNo) (mode : Mode) → need_at found regs lines ≡ needs.Copy line mode → line.0 < lines

@@ -1,7 +1,7 @@
 -- What loads, stores, LDSTUB and SWAP need, read and write (SPARC V8 manual, appendix B.1, B.4, B.7 and B.8).
 use Rattle.std.specs.Prelude.{ℕ, ◌-◌, ◌/◌, ◌%◌, Bool, cond, ◌&&◌, ◌==◌, nat_le, nat_lt, [], ◌∷◌}
 use Rattle.alw_num.specs.Lanes.{bytes_in, lane_of, with_lane_of}
-use Rattle.alw_num.specs.declared.addresses.TheConstants.{SHARED_BASE}
+use Rattle.alw_num.specs.Limits.{shared_base}
 use Rattle.alw_num.specs.declared.addresses.Line.{Line}
 use Rattle.alw_num.specs.declared.addresses.Width.{Width}
 use Rattle.alw_num.specs.declared.addresses.Width.TheVariants.{Byte, Half, Word}
@@ -26,13 +26,13 @@ mode_of op3 = cond (is_load op3) Read Write
 
 -- an address lies in one of the lines of shared data
 abbrev pub is_shared : ℕ → ℕ → Bool
-is_shared address lines = nat_le SHARED_BASE address && nat_lt ((address - SHARED_BASE) / 16) lines
+is_shared address lines = nat_le shared_base address && nat_lt ((address - shared_base) / 16) lines
 
 -- an access needs a copy of its line: it traps where the address isn't aligned, and then where it lies in no line
 abbrev pub needed : ℕ → Width → Mode → ℕ → Need
 needed address width mode lines =
     cond (address % bytes_in width == 0)
-    (cond (is_shared address lines) (Copy (record { 0 = (address - SHARED_BASE) / 16 }) mode) (Trap 0x09))
+    (cond (is_shared address lines) (Copy (record { 0 = (address - shared_base) / 16 }) mode) (Trap 0x09))
     (Trap 0x07)
 
 -- what a load, LDSTUB or SWAP gives rd: the lane's number, sign-extended by LDSB and LDSH
