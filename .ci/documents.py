@@ -615,7 +615,7 @@ def check_faults(findings, sources):
     for line, source, fault in said:
         if (source, f'alewife: input refused: {fault}') not in refused:
             findings.say(LANGUAGE, line, f'no case of the group sources is this source with the fault {fault}')
-    wanted = set(FAULT.findall((ROOT / 'crates' / 'alw_cli' / 'specs' / 'Texts.antt').read_text()))
+    wanted = set(FAULT.findall((ROOT / 'crates' / 'alw_answers' / 'specs' / 'ErrLines.antt').read_text()))
     for fault in sorted(wanted ^ {fault.partition(': ')[2] for _, _, fault in said}):
         findings.say(LANGUAGE, 0, f'the fault {fault} is in its table of sources or one of the program, and not both')
 
@@ -645,13 +645,13 @@ LISTED = {
     'letter': (['alw_trace/specs/*.antt'], r'^event_text .*? = codes " (\w) "'),
     'does': (['alw_save/specs/*.antt'], r'^status_text .*codes "(\w+)'),
     'tt': (['sparc_table/specs/*.antt'], r'\b(?:Err|Trap) \(?(0x[0-9a-fA-F]{2})\b'),
-    'status': (['alw_cli/specs/*.antt', 'alw_cli/src/main.rt'], r'^(?:status_of .* =|const NO_WORDS: u8 =) (\d+)'),
+    'status': (['alw_answers/specs/*.antt', 'alw_cli/src/main.rt'], r'^(?:status_of .* =|const NO_WORDS: u8 =) (\d+)'),
     'offset': (['alw_image/specs/Faults.antt'], r'\((?:Magic |Version )?(\d+)(?:, is_within|\))'),
-    'fault of an image': (['alw_cli/specs/*.antt'], r'^image_text .*codes "(\w+)"'),
+    'fault of an image': (['alw_answers/specs/*.antt'], r'^image_text .*codes "(\w+)"'),
 }
 # The definitions of what is written.
 WRITTEN = ['alw_text/specs/Numbers', 'alw_report/specs/Reports', 'alw_trace/specs/Texts', 'alw_save/specs/Lines', 'alw_save/specs/Checkpoints',
-           'alw_save/specs/States', 'alw_route/specs/Texts', 'alw_cli/specs/Auditing', 'alw_cli/specs/Texts']
+           'alw_save/specs/States', 'alw_route/specs/Texts', 'alw_commands/specs/Auditing', 'alw_answers/specs/ErrLines']
 ALONE = {'save': 'checkpoint', 'route': 'route', 'audit': 'verdict'}
 READ = {'replay': 'trace', 'route': 'trace', 'save': 'trace', 'audit': 'claim', 'resume': 'checkpoint'}
 

@@ -4,21 +4,22 @@ use Rattle.std.specs.Prelude.{Result, Err}
 use Rattle.std.specs.Io.KnownBytes.{Keeps}
 use Rattle.alw_io.specs.Outside.{Took}
 use Rattle.alw_msg.specs.declared.events.Entry.{Entry}
-use Rattle.alw_cli.specs.Limits.{most_input}
-use Rattle.alw_cli.specs.declared.answers.Cause.{Cause}
-use Rattle.alw_cli.specs.declared.answers.Cause.TheVariants as cause
-use Rattle.alw_cli.specs.declared.answers.InputErr.TheVariants as reason
-use Rattle.alw_cli.specs.declared.outputs.Ending.{Ending}
-use Rattle.alw_cli.specs.declared.outputs.Ending.TheVariants as ending
-use Rattle.alw_cli.specs.declared.outputs.Output.{Output}
-use Rattle.alw_cli.specs.declared.outputs.Refusal.{Refusal}
-use Rattle.alw_cli.specs.declared.outputs.Refusal.TheVariants as refusal
-use Rattle.alw_cli.specs.Outputs.{Gives, cause_of}
+use Rattle.alw_answers.specs.Limits.{most_input}
+use Rattle.alw_answers.specs.declared.answers.Cause.{Cause}
+use Rattle.alw_answers.specs.declared.answers.Cause.TheVariants as cause
+use Rattle.alw_answers.specs.declared.answers.InputErr.TheVariants as reason
+use Rattle.alw_answers.specs.declared.outputs.Ending.{Ending}
+use Rattle.alw_answers.specs.declared.outputs.Ending.TheVariants as ending
+use Rattle.alw_answers.specs.declared.outputs.Output.{Output}
+use Rattle.alw_answers.specs.declared.outputs.Refusal.{Refusal}
+use Rattle.alw_answers.specs.declared.outputs.Refusal.TheVariants as refusal
+use Rattle.alw_answers.specs.Outputs.{Gives, cause_of}
 use Rattle.alw_cli.specs.Streams.{Stream, stream_of, IsRead, IsTaken, Stays, Gained}
 use Rattle.alw_config.specs.declared.commands.Command.{Command}
 use Rattle.alw_config.specs.Places.{IsCommand}
 use Rattle.alw_cli.specs.Answers.{task_of, Answers}
-use Rattle.alw_cli.specs.Tasks.{Task, IsNothing, Outputs, Answered, Hands, Writes, Puts}
+use Rattle.alw_answers.specs.Tasks.{Task, IsNothing}
+use Rattle.alw_cli.specs.Answered.{Outputs, Answered, Hands, Writes, Puts}
 
 -- a stream that nothing is done to
 pub keeps : (known : Option (List ℕ)) → Keeps known known

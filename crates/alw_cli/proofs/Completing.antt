@@ -7,15 +7,17 @@ use Rattle.alw_msg.specs.declared.events.Entry.{Entry}
 use Rattle.alw_config.specs.declared.commands.Command.{Command}
 use Rattle.alw_config.specs.Places.{IsCommand}
 use Rattle.alw_config.proofs.Laws.{not_both, one_command}
-use Rattle.alw_cli.specs.declared.answers.Cause.{Cause}
-use Rattle.alw_cli.specs.declared.answers.Cause.TheVariants as cause
-use Rattle.alw_cli.specs.declared.answers.InputErr.TheVariants as reason
-use Rattle.alw_cli.specs.declared.answers.InputErr.{InputErr}
-use Rattle.alw_cli.specs.Outputs.{cause_of}
+use Rattle.alw_answers.specs.declared.answers.Cause.{Cause}
+use Rattle.alw_answers.specs.declared.answers.Cause.TheVariants as cause
+use Rattle.alw_answers.specs.declared.answers.InputErr.TheVariants as reason
+use Rattle.alw_answers.specs.declared.answers.InputErr.{InputErr}
+use Rattle.alw_answers.specs.Outputs.{cause_of}
 use Rattle.alw_cli.specs.Streams.{Stream, IsRead, IsInput, TookTooMany, HadNoFault, Gained}
-use Rattle.alw_cli.specs.Tasks.{Task, Reads, Answered, Outputs}
+use Rattle.alw_answers.specs.Tasks.{Task}
+use Rattle.alw_cli.specs.Answered.{Reads, Answered, Outputs}
 use Rattle.alw_cli.specs.Answers.{task_of, Performed, Answers, IsComplete}
-use Rattle.alw_cli.proofs.Tasks.{IsKept, each_kept}
+use Rattle.alw_commands.proofs.Tasks.{IsKept}
+use Rattle.alw_cli.proofs.Each.{each_kept}
 
 -- no more bytes are taken than a source has
 longer : (before after : Option (List ℕ)) (bytes taken : List ℕ) → before ≡ Some bytes → Consumes before after taken → length bytes < length taken → ⊥

@@ -11,17 +11,18 @@ use Rattle.alw_config.specs.declared.commands.Form.{Form}
 use Rattle.alw_config.specs.declared.commands.Command.{Command}
 use Rattle.alw_config.specs.declared.commands.Command.TheVariants as commands
 use Rattle.alw_config.specs.declared.commands.How.TheVariants as hows
-use Rattle.alw_cli.specs.declared.answers.Cause.{Cause}
-use Rattle.alw_cli.specs.declared.answers.Cause.TheVariants as cause
-use Rattle.alw_cli.specs.declared.outputs.Output.{Output}
-use Rattle.alw_cli.specs.Outputs.{cause_of, ending_of}
+use Rattle.alw_answers.specs.declared.answers.Cause.{Cause}
+use Rattle.alw_answers.specs.declared.answers.Cause.TheVariants as cause
+use Rattle.alw_answers.specs.declared.outputs.Output.{Output}
+use Rattle.alw_answers.specs.Outputs.{cause_of, ending_of}
 use Rattle.alw_cli.specs.Streams.{Stream}
-use Rattle.alw_cli.specs.Tasks.{Task, Reads, Answered}
-use Rattle.alw_cli.specs.Forms.{IsTold}
-use Rattle.alw_cli.specs.Running.{run_task}
-use Rattle.alw_cli.specs.Working.{work_task}
-use Rattle.alw_cli.specs.Replaying.{replay_task}
-use Rattle.alw_cli.specs.Resuming.{resume_task}
+use Rattle.alw_answers.specs.Tasks.{Task}
+use Rattle.alw_cli.specs.Answered.{Reads, Answered}
+use Rattle.alw_commands.specs.Forms.{IsTold}
+use Rattle.alw_commands.specs.Running.{run_task}
+use Rattle.alw_commands.specs.Working.{work_task}
+use Rattle.alw_commands.specs.Replaying.{replay_task}
+use Rattle.alw_commands.specs.Resuming.{resume_task}
 use Rattle.alw_cli.specs.Answers.{task_of, Answers}
 use Rattle.alw_cli.specs.Headline.{has_journal, IsCoherent, Promised, Headline}
 use Rattle.alw_cli.proofs.Completing.{answered_to}

@@ -6,20 +6,21 @@ use Rattle.alw_config.specs.declared.commands.Command.{Command}
 use Rattle.alw_config.specs.declared.commands.Command.TheVariants as commands
 use Rattle.alw_config.specs.declared.commands.How.TheVariants as hows
 use Rattle.alw_config.specs.Places.{IsCommand, IsRefusedAt}
-use Rattle.alw_cli.specs.declared.answers.Cause.{Cause}
-use Rattle.alw_cli.specs.declared.answers.Cause.TheVariants as cause
+use Rattle.alw_answers.specs.declared.answers.Cause.{Cause}
+use Rattle.alw_answers.specs.declared.answers.Cause.TheVariants as cause
 use Rattle.alw_cli.specs.Streams.{Stream, IsInput, Stays, GainedPart, HadNoFault}
-use Rattle.alw_cli.specs.Tasks.{Task, IsNothing, Answered}
-use Rattle.alw_cli.specs.Assembling.{asm_task}
-use Rattle.alw_cli.specs.Running.{run_task}
-use Rattle.alw_cli.specs.Working.{work_task}
-use Rattle.alw_cli.specs.Replaying.{replay_task}
-use Rattle.alw_cli.specs.Auditing.{audit_task}
-use Rattle.alw_cli.specs.Making.{gen_task}
-use Rattle.alw_cli.specs.Routing.{route_task}
-use Rattle.alw_cli.specs.Saving.{save_task}
-use Rattle.alw_cli.specs.Resuming.{resume_task}
-use Rattle.alw_cli.specs.Texts.{err_line}
+use Rattle.alw_answers.specs.Tasks.{Task, IsNothing}
+use Rattle.alw_cli.specs.Answered.{Answered}
+use Rattle.alw_commands.specs.Assembling.{asm_task}
+use Rattle.alw_commands.specs.Running.{run_task}
+use Rattle.alw_commands.specs.Working.{work_task}
+use Rattle.alw_commands.specs.Replaying.{replay_task}
+use Rattle.alw_commands.specs.Auditing.{audit_task}
+use Rattle.alw_commands.specs.Making.{gen_task}
+use Rattle.alw_commands.specs.Routing.{route_task}
+use Rattle.alw_commands.specs.Saving.{save_task}
+use Rattle.alw_commands.specs.Resuming.{resume_task}
+use Rattle.alw_answers.specs.ErrLines.{err_line}
 
 -- ---- the answers
 

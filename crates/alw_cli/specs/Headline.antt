@@ -14,9 +14,9 @@ use Rattle.alw_config.specs.declared.commands.Command.{Command}
 use Rattle.alw_config.specs.declared.commands.Command.TheVariants as commands
 use Rattle.alw_config.specs.declared.commands.How.TheVariants as hows
 use Rattle.alw_config.specs.Places.{IsCommand}
-use Rattle.alw_cli.specs.declared.answers.Cause.{Cause}
-use Rattle.alw_cli.specs.declared.answers.Cause.TheVariants as cause
-use Rattle.alw_cli.specs.Outputs.{ending_of, cause_of}
+use Rattle.alw_answers.specs.declared.answers.Cause.{Cause}
+use Rattle.alw_answers.specs.declared.answers.Cause.TheVariants as cause
+use Rattle.alw_answers.specs.Outputs.{ending_of, cause_of}
 use Rattle.alw_cli.specs.Streams.{Stream, ReadsAll}
 
 -- a run's journal was answered: up to its end, also where its text wasn't written whole

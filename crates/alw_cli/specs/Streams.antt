@@ -2,7 +2,7 @@
 use Rattle.std.specs.Prelude.{◌≡◌, ℕ, ◌<◌, ◌≤◌, Bool, true, false, Option, Some, List, [], length}
 use Rattle.std.specs.Io.KnownBytes.{Appends, Consumes, IsAtEnd, Keeps}
 use Rattle.alw_io.specs.Outside.{Rose, AppendsPart}
-use Rattle.alw_cli.specs.Limits.{most_input}
+use Rattle.alw_answers.specs.Limits.{most_input}
 
 -- a source or a sink at one moment: the bytes that it tells of its rest or contents, and its fault count
 pub record Stream : Type 0 where

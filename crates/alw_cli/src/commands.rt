@@ -5,21 +5,16 @@ ghost use Rattle.alw_config.specs.Choices.{CommandIsWithin};
 ghost use Rattle.alw_config.specs.declared.commands.Command.TheVariants as commands;
 ghost use Rattle.alw_config.specs.declared.commands.How.TheVariants as hows;
 ghost use Rattle.alw_cli.specs.Answers.{task_of, IsAlone};
-ghost use Rattle.alw_cli.specs.Outputs.{Gives};
+ghost use Rattle.alw_answers.specs.Outputs.{Gives};
 ghost use Rattle.alw_cli.specs.Streams.{stream_of};
-ghost use Rattle.alw_cli.specs.Tasks.{Answered};
+ghost use Rattle.alw_cli.specs.Answered.{Answered};
 
-use crate::answers::{Done, MOST_INPUT};
-use crate::assembling::assemble_source;
-use crate::auditing::audit_bytes;
-use crate::making::make_workload;
-use crate::outputs::{Output, Refusal};
-use crate::replaying::replay_bytes;
-use crate::resuming::resume;
-use crate::routing::route_bytes;
-use crate::running::run_bytes;
-use crate::saving::save_bytes;
 use crate::streams::{bytes_for, write_made};
+use alw_answers::{Done, MOST_INPUT, Output, Refusal};
+use alw_commands::{
+    assemble_source, audit_bytes, make_workload, replay_bytes, resume, route_bytes, run_bytes,
+    save_bytes,
+};
 use alw_config::{Command, Form, How};
 use alw_image::Params;
 use alw_io::{Sink, Source};

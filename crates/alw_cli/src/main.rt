@@ -2,24 +2,9 @@
 //! it reads on standard input, or makes a workload, and writes the image or text on standard output.
 #![tactic(auto)]
 
-mod answers;
-mod assembling;
-mod auditing;
 mod commands;
-mod err_lines;
-mod forms;
-mod laws;
-mod listings;
-mod making;
-mod outputs;
-mod replaying;
-mod resuming;
-mod routing;
-mod running;
-mod saving;
 mod streams;
 mod top;
-mod working;
 
 use alw_io::{StdSink, StdSource};
 use alw_work::OpenGate;

@@ -1,12 +1,11 @@
 //! What is read and written for a command.
 
 ghost use Rattle.std.specs.Prelude.{◌≡◌, ◌≤◌, length, IfOk};
-ghost use Rattle.alw_cli.specs.Outputs.{cause_of};
+ghost use Rattle.alw_answers.specs.Outputs.{cause_of};
 ghost use Rattle.alw_cli.specs.Streams.{stream_of};
-ghost use Rattle.alw_cli.specs.Tasks.{Hands, Puts, Writes};
+ghost use Rattle.alw_cli.specs.Answered.{Hands, Puts, Writes};
 
-use crate::answers::{Cause, Done, InputErr, MOST_INPUT};
-use crate::outputs::{Ending, Output, Refusal};
+use alw_answers::{Cause, Done, Ending, InputErr, MOST_INPUT, Output, Refusal};
 use alw_io::{ReadErr, Sink, Source, read_all, write_whole};
 use alw_num::Bytes;
 use std::alloc::Global;

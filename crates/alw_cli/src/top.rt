@@ -5,14 +5,13 @@ ghost use Rattle.alw_config.specs.declared.commands.How.TheVariants as hows;
 ghost use Rattle.alw_cli.specs.Answers.{Answers, IsComplete, Tells};
 ghost use Rattle.alw_cli.specs.Headline.{Headline};
 ghost use Rattle.alw_cli.specs.Streams.{stream_of};
-ghost use Rattle.alw_cli.specs.Tasks.{Answered};
-ghost use Rattle.alw_cli.specs.Working.{work_task};
+ghost use Rattle.alw_cli.specs.Answered.{Answered};
+ghost use Rattle.alw_commands.specs.Working.{work_task};
 
-use crate::answers::{Cause, Done};
 use crate::commands::{Work, carry_out, workers_of};
-use crate::err_lines::err_line;
 use crate::streams::{bytes_for, write_made};
-use crate::working::work_bytes;
+use alw_answers::{Cause, Done, err_line};
+use alw_commands::work_bytes;
 use alw_config::command;
 use alw_io::{Sink, Source, write_whole};
 use alw_work::Gate;

@@ -2,7 +2,7 @@ use Rattle.std.proofs.Common.{sym, subst}
 use Rattle.alw_config.specs.declared.commands.Command.{Command}
 use Rattle.alw_cli.specs.Answers.{task_of}
 use Rattle.alw_cli.specs.Streams.{stream_of}
-use Rattle.alw_cli.specs.Tasks.{Answered}
+use Rattle.alw_cli.specs.Answered.{Answered}
 use Rattle.alw_cli.proofs.Answering.{answers_to}
 use Rattle.alw_cli.proofs.top.answer.Goals as goal
 

@@ -1,0 +1,5 @@
+pub mod Outputs
+pub mod Refusals
+pub mod Tasks
+pub mod Limits
+pub mod ErrLines

@@ -1,0 +1,12 @@
+pub mod Listing
+pub mod Tasks
+pub mod Refused
+pub mod Told
+pub mod Formed
+pub mod Saved
+pub mod Resumable
+pub mod NoEvict
+pub mod Again
+pub mod Trapped
+pub mod Begun
+pub mod FoundSound

@@ -1,0 +1,11 @@
+pub mod Forms
+pub mod Assembling
+pub mod Running
+pub mod Working
+pub mod Replaying
+pub mod Auditing
+pub mod Making
+pub mod Routing
+pub mod Saving
+pub mod Resuming
+pub mod Listing

@@ -1,0 +1,53 @@
+ghost use Rattle.std.specs.Prelude.{◌≡◌, ◌≤◌, ℕ, Result, Err, List};
+ghost use Rattle.alw_msg.specs.declared.events.Entry.{Entry};
+ghost use Rattle.alw_image.specs.declared.parts.Parts.{Parts};
+ghost use Rattle.alw_image.specs.Parameters.{Parameters};
+ghost use Rattle.alw_model.specs.declared.ends.Ended.{Ended};
+ghost use Rattle.alw_trace.specs.Texts.{trace_text};
+ghost use Rattle.alw_config.specs.declared.commands.Form.TheVariants as forms;
+ghost use Rattle.law_order.specs.Orders.{kept_by};
+ghost use Rattle.alw_mesh.specs.Histories.{History};
+ghost use Rattle.alw_trace.specs.declared.values.Trace.{Trace};
+ghost use Rattle.alw_trace.specs.Readings.{IsTrace, HasTraceTypes};
+ghost use Rattle.alw_save.specs.declared.faults.RestoreErr.{RestoreErr};
+ghost use Rattle.alw_save.specs.declared.faults.RestoreErr.TheVariants.{NoMemory};
+ghost use Rattle.alw_save.specs.Cuts.{TraceIsSound};
+ghost use Rattle.alw_save.specs.Checkpoints.{checkpoint_text};
+ghost use Rattle.alw_save.specs.Restoring.{IsCheckpoint, Restores};
+ghost use Rattle.alw_answers.specs.declared.outputs.Output.{Output};
+ghost use Rattle.alw_answers.specs.declared.outputs.Refusal.{Refusal};
+ghost use Rattle.alw_answers.specs.Outputs.{Gives};
+ghost use Rattle.alw_commands.specs.Auditing.{Audits, IsNoClaim, FindsSound, IsSoundText};
+ghost use Rattle.alw_commands.specs.Forms.{run_text};
+ghost use Rattle.alw_commands.specs.Replaying.{IsFinishedText, IsRunThatFits, Replays, ReportsTheSame, trace_of};
+ghost use Rattle.alw_commands.specs.Resuming.{IsSomeCheckpoint};
+
+/// A replay reports what the run reported. The trace of a run is accepted, and where its replay is
+/// carried out, the journal and the end are the run's, and so is the report that is written: the text
+/// of a trace doesn't say how often evictions are tried, and no legality, state or report depends on it.
+pub fn traces_report_the_same()
+    ensures accepted { (image : Parts) → (parameters : Parameters) → (journal : List Entry) → (ended : Ended) → IsRunThatFits image parameters journal ended →
+        IsFinishedText (trace_text (trace_of image parameters journal)) }
+    ensures same { (image : Parts) → (parameters : Parameters) → (journal : List Entry) → (ended : Ended) → IsRunThatFits image parameters journal ended →
+        (output : Output) → Replays forms.Report (trace_text (trace_of image parameters journal)) output → ReportsTheSame image parameters journal ended output }
+{}
+
+/// What a run claims is found sound. The claim that `run` or `replay` writes of a run of an image that fits
+/// is a claim's one text, with at most 8,388,608 turns, and an audit of it that is carried out answers
+/// `sound`: it names no difference, and refuses nothing but for want of memory.
+pub fn claims_are_found_sound()
+    ensures accepted { (image : Parts) → (parameters : Parameters) → (journal : List Entry) → (ended : Ended) → IsRunThatFits image parameters journal ended →
+        IsSoundText (run_text forms.Claim image parameters journal ended) }
+    ensures sound { (image : Parts) → (parameters : Parameters) → (journal : List Entry) → (ended : Ended) → IsRunThatFits image parameters journal ended →
+        (result : Result Output Refusal) → Gives (Audits (run_text forms.Claim image parameters journal ended)) (IsNoClaim (run_text forms.Claim image parameters journal ended)) result →
+        FindsSound result }
+{}
+
+/// What `save` writes is a checkpoint that `resume` takes, however often evictions are then tried; and a checkpoint
+/// is refused for want of memory alone.
+pub fn checkpoints_are_resumed()
+    ensures accepted { (trace : Trace) → (at : ℕ) → (evict : ℕ) → IsTrace trace → HasTraceTypes trace → TraceIsSound trace → evict ≤ 255 →
+        IsSomeCheckpoint evict (checkpoint_text trace.image trace.params (kept_by at trace.journal)) }
+    ensures unrefused { (bytes : List ℕ) → (evict : ℕ) → (machine : History) → IsCheckpoint bytes evict machine → (fault : RestoreErr) →
+        Restores bytes evict (Err fault) → fault ≡ NoMemory }
+{}
