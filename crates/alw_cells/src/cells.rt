@@ -19,10 +19,10 @@ ghost use Rattle.alw_msg.specs.Events.{is_evict};
 use crate::lists::{InList, append, take_first};
 use crate::logs::Log;
 use crate::parts::CellParts;
-use alw_image::{Code, Image, Params};
+use alw_image::{Image, Params};
 use alw_model::Did;
 use alw_msg::{Entry, Event, Msg, Sends, Status};
-use alw_node::Node;
+use alw_node::{Node, Program};
 use alw_num::{NoMemory, NodeNo, NodeSet, Roomy};
 use alw_ready::Row;
 use std::alloc::Global;
@@ -65,7 +65,7 @@ impl Model for NodeCell {
 }
 
 impl NodeCell {
-    /// A node at the start of an image, with a code of its own. Its log and lists are empty.
+    /// A node at the start of an image, with a program of its own. Its log and lists are empty.
     pub fn start(
         alloc: Global,
         image: &Image,
@@ -75,25 +75,25 @@ impl NodeCell {
         requires { node.0 < node_count image.now }
         ensures { IfOk result (λ c. c ≡ cell_start image.now params.now node.0) }
     {
-        let code = Arc::new(alloc, image.code().copy()?)?;
-        NodeCell::start_shared(alloc, image, params, node, &code)
+        let program = Arc::new(alloc, Program::of(alloc, image.code())?)?;
+        NodeCell::start_shared(alloc, image, params, node, &program)
     }
 
-    /// A node at the start of an image, which shares the code with whoever else has it. Its log and
+    /// A node at the start of an image, which shares the program with whoever else has it. Its log and
     /// lists are empty.
     pub fn start_shared(
         alloc: Global,
         image: &Image,
         params: &Params,
         node: NodeNo,
-        code: &Arc<Code, Global>,
+        program: &Arc<Program, Global>,
     ) -> Result<NodeCell, NoMemory>
         requires node { node.0 < node_count image.now }
-        requires code { arc_value code.now ≡ image.now.code }
+        requires program { arc_value program.now ≡ image.now.code }
         ensures { IfOk result (λ c. c ≡ cell_start image.now params.now node.0) }
     {
         let count = image.nodes();
-        let started = Node::start_shared(alloc, image, params, node, code)?;
+        let started = Node::start_shared(alloc, image, params, node, program)?;
         Ok(NodeCell {
             node: started,
             log: Log::empty(alloc, node),

@@ -14,7 +14,7 @@ use crate::starts::residents;
 use alw_image::Image;
 use alw_msg::Status;
 use alw_num::{LineNo, NodeNo};
-use sparc_exec::{Outcome, Port};
+use sparc_exec::{Outcome, Port, Program};
 use sparc_table::Regs;
 use std::marker::Model;
 
@@ -142,7 +142,7 @@ impl Contexts {
 
     /// A turn of a slot over a port, on the slot's registers where they stand. The slot becomes the
     /// current one, its hold ends, and where it misses it waits on the line.
-    pub fn turn<P: Port>(&mut self, slot: u8, code: &[u32], port: &mut P) -> Outcome
+    pub fn turn<P: Port>(&mut self, slot: u8, code: &Program, port: &mut P) -> Outcome
         requires { slot < length self.old.slots }
         ensures run { IsRun (need_of code.now (slot_at self.old.slots slot).regs (P.lines port.old)) (turn_of code.now (slot_at self.old.slots slot).regs (P.lines port.old))
             (seen (slot_at self.old.slots slot).regs (P.copy port.old) (P.calls port.old)) (seen (slot_at self.new.slots slot).regs (P.copy port.new) (P.calls port.new)) result }

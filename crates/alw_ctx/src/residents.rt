@@ -11,7 +11,7 @@ ghost use Rattle.alw_ctx.specs.Residents.{slot_of, left_by};
 
 use alw_msg::Status;
 use alw_num::LineNo;
-use sparc_exec::{Outcome, Port, turn};
+use sparc_exec::{Outcome, Port, Program};
 use sparc_table::Regs;
 
 /// The context in a slot: its registers, what it does, and the line that it has a hold on.
@@ -67,13 +67,13 @@ impl Resident {
     }
 
     /// A turn of the context over a port. Its hold ends, and where it misses it waits on the line.
-    pub fn turn<P: Port>(&mut self, code: &[u32], port: &mut P) -> Outcome
+    pub fn turn<P: Port>(&mut self, code: &Program, port: &mut P) -> Outcome
         ensures run { IsRun (need_of code.now self.old.regs (P.lines port.old)) (turn_of code.now self.old.regs (P.lines port.old)) (seen self.old.regs (P.copy port.old) (P.calls port.old)) (seen self.new.regs (P.copy port.new) (P.calls port.new)) result }
         ensures missed { (line : LineNo) → (mode : Mode) → (result ≡ Outcome.Miss line mode) ↔ CopyIsMissing (need_of code.now self.old.regs (P.lines port.old)) (P.copy port.old) line mode }
         ensures left { slot_of self.new ≡ record { regs = self.new.regs; status = left_by self.new.regs result; hold = None } }
         ensures sizes { (P.lines port.new ≡ P.lines port.old) × (P.places port.new ≡ P.places port.old) }
     {
-        let outcome = turn(code, &mut self.regs, port);
+        let outcome = code.turn(&mut self.regs, port);
         self.status = left_by(&self.regs, outcome);
         self.hold = None;
         outcome

@@ -11,10 +11,10 @@ ghost use Rattle.alw_flat.specs.Machines.{for_turns, word_of, IsSharedWord};
 ghost use Rattle.alw_flat.specs.Contexts.{contexts_of};
 
 use crate::memory::Memory;
-use alw_image::{Code, Image};
+use alw_image::Image;
 use alw_msg::Status;
 use alw_num::{LINE_BYTES, LineNo, NoMemory, SHARED_BASE, Width, lane};
-use sparc_exec::Outcome;
+use sparc_exec::{Outcome, Program};
 use sparc_table::Regs;
 use std::alloc::Global;
 use std::marker::Model;
@@ -34,7 +34,7 @@ pub struct Flat {
     height: u8,
     slots: u8,
     per_node: u16,
-    code: Code,
+    code: Program,
     memory: Memory,
     contexts: Vec<Context>,
 }
@@ -52,12 +52,12 @@ impl Model for Flat {
 }
 
 impl Flat {
-    /// The flat machine of an image at the start. It keeps a copy of the code, and takes all the memory
-    /// that it ever needs.
+    /// The flat machine of an image at the start. It keeps a program of its own, and takes all the
+    /// memory that it ever needs.
     pub fn start(alloc: Global, image: &Image) -> Result<Flat, NoMemory>
         ensures { IfOk result (λ f. f ≡ record { parts = for_turns image.now; flat = flat_start image.now }) }
     {
-        let code = image.code().copy()?;
+        let code = Program::of(alloc, image.code())?;
         let memory = Memory::start(alloc, image, image.lines())?;
         let contexts = contexts_at_start(alloc, image, image.all_contexts())?;
         Ok(Flat {
@@ -80,7 +80,7 @@ impl Flat {
         ensures hits { (line : LineNo) → (mode : Mode) → result ≢ Outcome.Miss line mode }
     {
         let mut regs = self.contexts[context as usize].regs;
-        let outcome = sparc_exec::turn(self.code.words(), &mut regs, &mut self.memory);
+        let outcome = self.code.turn(&mut regs, &mut self.memory);
         let status = left_by(&regs, outcome);
         self.contexts[context as usize] = Context { regs, status };
         outcome

@@ -19,7 +19,7 @@ use crate::stepping::{Happening, act, is_in_time, nodes_start, take, uses_hold};
 use alw_image::{Image, Params};
 use alw_links::Links;
 use alw_msg::{Event, Msg, Sends};
-use alw_node::{HomeView, Node, Nodes};
+use alw_node::{HomeView, Node, Nodes, Program};
 use alw_num::{LineNo, MOST_LINES, NoMemory, NodeNo, NodeSet, home_of};
 use alw_tally::{Happened, Remains};
 use std::alloc::Global;
@@ -50,16 +50,16 @@ impl Model for Mesh {
 
 impl Mesh {
     /// The nodes and links at the start of an image, without room for a message. All nodes share one
-    /// code.
+    /// program.
     pub fn start(alloc: Global, image: &Image, params: &Params) -> Result<Mesh, NoMemory>
         ensures { IfOk result (λ mesh. mesh ≡ grid_start image.now params.now) }
     {
         let count = image.nodes();
-        let code = Arc::new(alloc, image.code().copy()?)?;
+        let program = Arc::new(alloc, Program::of(alloc, image.code())?)?;
         Ok(Mesh {
             image: image.copy()?,
             params: *params,
-            nodes: nodes_start(alloc, image, params, &code, count)?,
+            nodes: nodes_start(alloc, image, params, &program, count)?,
             links: Links::start(alloc, u32::from(count))?,
             remains: Remains::start(image),
         })

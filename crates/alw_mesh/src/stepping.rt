@@ -8,32 +8,32 @@ ghost use Rattle.alw_ready.specs.Changes.{hold_count};
 ghost use Rattle.alw_node.specs.Nodes.{whole_start, MessageIsGiven};
 ghost use Rattle.alw_mesh.specs.Keeping.{taken_from, after_taking, NodesAreWithin, HasTrapPc, whole_in, may_act, Acts, is_quiet};
 
-use alw_image::{Code, Image, Params};
+use alw_image::{Image, Params};
 use alw_links::Links;
 use alw_model::Did;
 use alw_msg::{Event, Msg, Sends, Status};
-use alw_node::Node;
+use alw_node::{Node, Program};
 use alw_num::{NoMemory, NodeNo};
 use alw_tally::Happened;
 use sparc_table::Outcome;
 use std::alloc::Global;
 use std::sync::Arc;
 
-/// All nodes of an image at the start, with one code.
+/// All nodes of an image at the start, with one program.
 pub fn nodes_start(
     alloc: Global,
     image: &Image,
     params: &Params,
-    code: &Arc<Code, Global>,
+    program: &Arc<Program, Global>,
     count: u16,
 ) -> Result<Vec<Node>, NoMemory>
-    requires code { arc_value code.now ≡ image.now.code }
+    requires program { arc_value program.now ≡ image.now.code }
     requires count { count ≡ node_count image.now }
     ensures { IfOk result (λ nodes. nodes.items ≡ map (whole_start image.now params.now) (range_with_len 0 count)) }
 {
     let mut nodes = Vec::with_capacity(alloc, usize::from(count))?;
     for n in 0..count {
-        nodes.push_reserved(Node::start_shared(alloc, image, params, NodeNo(n), code)?);
+        nodes.push_reserved(Node::start_shared(alloc, image, params, NodeNo(n), program)?);
     }
     Ok(nodes)
 }

@@ -11,3 +11,4 @@ pub use laws::shares_are_enough;
 pub use lists::{Dids, Nodes};
 pub use nodes::Node;
 pub use shares::Share;
+pub use sparc_exec::Program;

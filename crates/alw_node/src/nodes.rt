@@ -17,12 +17,13 @@ ghost use Rattle.alw_memory.specs.Views.{IsViewOf};
 ghost use Rattle.alw_node.specs.Nodes.{whole_start, may_take_from, Steps, FitsStamp, MessageIsGiven, IsNode};
 
 use crate::shares::Share;
-use alw_image::{Code, Image, Params};
+use alw_image::{Image, Params};
 use alw_memory::{HomeView, Memory};
 use alw_model::Did;
 use alw_msg::{Event, Msg, Sends, Status};
 use alw_num::{Line, LineNo, Mode, NoMemory, NodeNo};
 use alw_proc::Proc;
+use sparc_exec::Program;
 use sparc_table::Regs;
 use std::alloc::Global;
 use std::marker::Model;
@@ -51,7 +52,7 @@ impl Model for Node {
 
 impl Node {
     /// A node at the start of an image. It takes all memory that the node ever needs, and keeps a
-    /// code of its own.
+    /// program of its own.
     pub fn start(
         alloc: Global,
         image: &Image,
@@ -61,25 +62,25 @@ impl Node {
         requires { node.0 < node_count image.now }
         ensures { IfOk result (λ n. n ≡ whole_start image.now params.now node.0) }
     {
-        let code = Arc::new(alloc, image.code().copy()?)?;
-        Node::start_shared(alloc, image, params, node, &code)
+        let program = Arc::new(alloc, Program::of(alloc, image.code())?)?;
+        Node::start_shared(alloc, image, params, node, &program)
     }
 
-    /// A node at the start of an image, which shares the code with whoever else has it. It takes all
-    /// other memory that the node ever needs.
+    /// A node at the start of an image, which shares the program with whoever else has it. It takes
+    /// all other memory that the node ever needs.
     pub fn start_shared(
         alloc: Global,
         image: &Image,
         params: &Params,
         node: NodeNo,
-        code: &Arc<Code, Global>,
+        program: &Arc<Program, Global>,
     ) -> Result<Node, NoMemory>
         requires node { node.0 < node_count image.now }
-        requires code { arc_value code.now ≡ image.now.code }
+        requires program { arc_value program.now ≡ image.now.code }
         ensures { IfOk result (λ n. n ≡ whole_start image.now params.now node.0) }
     {
         Ok(Node {
-            share: Share::of(alloc, image, node, code)?,
+            share: Share::of(alloc, image, node, program)?,
             params: *params,
             proc: Proc::start(alloc, image, params, node)?,
             memory: Memory::start(alloc, image, params, node)?,
@@ -121,7 +122,7 @@ impl Node {
         sent.begin(self.proc.number(), stamp);
         self.clock = stamp;
         match event {
-            Event::Instr { .. } => self.proc.instr(self.share.code().words(), sent),
+            Event::Instr { .. } => self.proc.instr(self.share.program(), sent),
             Event::Handle { .. } => self.memory.handle(sent),
             Event::Evict { set, .. } => self.proc.evict(set, sent),
             Event::Deliver { .. } => {

@@ -5,20 +5,21 @@ ghost use Rattle.alw_node.specs.Shares.{share_of};
 
 use alw_image::{Bodies, Code, Image, LineList, Starts};
 use alw_num::{NoMemory, NodeNo, Sequence};
+use sparc_exec::Program;
 use std::alloc::Global;
 use std::marker::Model;
 use std::sync::Arc;
 
 /// What a node keeps of an image: its sizes and its code, where the node's contexts start, and the
 /// first bytes and the Trap-Always marks of the node's home lines. The nodes of a machine share one
-/// code. Contracts see the share as an image's parts.
+/// program. Contracts see the share as an image's parts.
 #[derive(Debug, Drop)]
 pub struct Share {
     width: u8,
     height: u8,
     contexts: u8,
     per_node: u16,
-    code: Arc<Code, Global>,
+    program: Arc<Program, Global>,
     bodies: Bodies,
     starts: Starts,
     always: LineList,
@@ -30,20 +31,20 @@ impl Model for Share {
 
     ghost Value = { Parts };
 
-    ghost view = { λ s. record { width = s.width; height = s.height; contexts = s.contexts; per_node = s.per_node; code = arc_value s.code; bodies = s.bodies; starts = s.starts; always = s.always } };
+    ghost view = { λ s. record { width = s.width; height = s.height; contexts = s.contexts; per_node = s.per_node; code = arc_value s.program; bodies = s.bodies; starts = s.starts; always = s.always } };
 }
 
 impl Share {
-    /// The share of a node. It keeps no code of its own, but that of `code`, which is the image's.
+    /// The share of a node. It keeps no code of its own, but that of `program`, which is the image's.
     #[tactic(auto, using(crate::proofs::KeptMembers::few_kept))]
     pub fn of(
         alloc: Global,
         image: &Image,
         node: NodeNo,
-        code: &Arc<Code, Global>,
+        program: &Arc<Program, Global>,
     ) -> Result<Share, NoMemory>
         requires node { node.0 < node_count image.now }
-        requires code { arc_value code.now ≡ image.now.code }
+        requires program { arc_value program.now ≡ image.now.code }
         ensures { IfOk result (λ share. share ≡ share_of image.now node.0) }
     {
         let parts = image.parts();
@@ -52,7 +53,7 @@ impl Share {
             height: parts.height,
             contexts: parts.contexts,
             per_node: parts.per_node,
-            code: code.clone()?,
+            program: program.clone()?,
             bodies: own(alloc, &parts.bodies, image.bodies_of(node))?,
             starts: own(alloc, &parts.starts, image.starts_of(node))?,
             always: own(alloc, &parts.always, image.always_of(node))?,
@@ -91,7 +92,14 @@ impl Share {
     pub fn code(&self) -> &Code
         ensures { result.now ≡ self.now.code }
     {
-        &self.code
+        self.program.code()
+    }
+
+    // The same, decoded.
+    pub(crate) fn program(&self) -> &Program
+        ensures { result.now ≡ self.now.code }
+    {
+        &self.program
     }
 
     /// The data lines of which the node is the home, in order.

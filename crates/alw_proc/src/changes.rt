@@ -14,10 +14,10 @@ use alw_cache::Cache;
 use alw_ctx::Contexts;
 use alw_msg::{Kind, Sends};
 use alw_num::{Line, LineNo, Mode};
-use sparc_exec::Outcome;
+use sparc_exec::{Outcome, Program};
 
 /// A turn of a slot over the node's cache: on the slot's registers and the cache's copies where they stand.
-pub fn take_turn(contexts: &mut Contexts, shared: &mut Shared, slot: u8, code: &[u32]) -> Outcome
+pub fn take_turn(contexts: &mut Contexts, shared: &mut Shared, slot: u8, code: &Program) -> Outcome
     requires { slot < length contexts.old.slots }
     ensures { Runs code.now slot contexts.old shared.old contexts.new shared.new result }
 {

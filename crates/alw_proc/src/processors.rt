@@ -23,7 +23,7 @@ use alw_image::{Image, Params};
 use alw_model::Did;
 use alw_msg::{Kind, Msg, Sends, Status};
 use alw_num::{Line, LineNo, Mode, NoMemory, NodeNo};
-use sparc_exec::Outcome;
+use sparc_exec::{Outcome, Program};
 use sparc_table::Regs;
 use std::alloc::Global;
 use std::marker::Model;
@@ -79,7 +79,7 @@ impl Proc {
     /// An instruction of the slot that runs, over the cache. A turn changes registers, status and
     /// cache; a miss waits, and asks the line's home unless the line was asked for before. `code` has
     /// the words from address 0 on. Where no context is Ready, nothing happens.
-    pub fn instr(&mut self, code: &[u32], sent: &mut Sends) -> Did
+    pub fn instr(&mut self, code: &Program, sent: &mut Sends) -> Did
         requires begun { SendsAreBegun self.old.number sent.old }
         ensures { Steps self.old self.new sent.old sent.new result (instr code.now sent.old.stamp self.old (running self.old.slots self.old.current)) }
     {

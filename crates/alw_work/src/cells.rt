@@ -3,7 +3,7 @@ ghost use Rattle.alw_work.specs.Seats.{AreCells, CellsAreAlone, CellsAreSplit, F
 
 use alw_cells::{CellParts, DidLists, Logs, NodeCell, Stepped, Worked};
 use alw_image::{Image, Params};
-use alw_node::Nodes;
+use alw_node::{Nodes, Program};
 use alw_num::{Draws, NoMemory, NodeNo};
 use std::alloc::Global;
 use std::sync::Arc;
@@ -13,11 +13,11 @@ pub fn start_all(alloc: Global, image: &Image, params: &Params) -> Result<Vec<No
     ensures cells { IfOk result (λ cells. AreCells image.now params.now cells.items) }
     ensures alone { IfOk result (λ cells. CellsAreAlone cells.items) }
 {
-    let code = Arc::new(alloc, image.code().copy()?)?;
+    let program = Arc::new(alloc, Program::of(alloc, image.code())?)?;
     let count = image.nodes();
     let mut cells = Vec::with_capacity(alloc, usize::from(count))?;
     for n in 0..count {
-        let cell = NodeCell::start_shared(alloc, image, params, NodeNo(n), &code)?;
+        let cell = NodeCell::start_shared(alloc, image, params, NodeNo(n), &program)?;
         let _stands = cell.log(); // for its clause
         cells.push_reserved(cell);
     }

@@ -15,6 +15,7 @@ use crate::seats::{Locked, Naming};
 use crate::workers::work;
 use alw_cells::{NodeCell, Worked};
 use alw_image::{Image, Params};
+use alw_node::Program;
 use alw_num::{NoMemory, NodeNo};
 use alw_ruled::Link;
 use std::alloc::Global;
@@ -79,12 +80,12 @@ fn start_seats<I: Naming>(
     requires ins { AreNewIns I.links (node_count image.now) ins.items }
     requires columns { length ins.items ≡ node_count image.now }
 {
-    let code = Arc::new(alloc, image.code().copy()?)?;
+    let program = Arc::new(alloc, Program::of(alloc, image.code())?)?;
     let nodes = image.nodes();
     let mut seats = Vec::new(alloc);
     for n in 0..nodes {
         let number = NodeNo(n);
-        let cell = NodeCell::start_shared(alloc, image, params, number, &code)?;
+        let cell = NodeCell::start_shared(alloc, image, params, number, &program)?;
         let row = mem::replace(&mut outs[usize::from(n)], Vec::new(alloc));
         let column = mem::replace(&mut ins[usize::from(n)], Vec::new(alloc));
         seats.push(Locked::of(number, nodes, cell, row, column))?;

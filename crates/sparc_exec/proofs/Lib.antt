@@ -1,5 +1,6 @@
 mod Products
 pub mod Lanes
 mod Lines
+mod Decoded
 pub mod Outcomes
 pub mod RegisterWords

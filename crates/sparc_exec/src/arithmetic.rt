@@ -97,6 +97,7 @@ fn combine(low: u8, x: u32, y: u32) -> u32
 
 // All arithmetic but products, by the low four bits of op3.
 #[tactic(auto, unfolding(sparc_table::specs::Arithmetic::computed))]
+#[inline(always)]
 fn compute(low: u8, x: u32, y: u32, carry: bool) -> Computed
     ensures value { result.value ≡ (computed low x y (from_bool carry)).value }
     ensures overflow { result.overflow ≡ (computed low x y (from_bool carry)).overflow }
@@ -112,6 +113,21 @@ fn compute(low: u8, x: u32, y: u32, carry: bool) -> Computed
             overflow: false,
             carry: false,
         },
+    }
+}
+
+// The value alone.
+#[tactic(auto, unfolding(sparc_table::specs::Arithmetic::computed))]
+#[inline(always)]
+fn value(low: u8, x: u32, y: u32, carry: bool) -> u32
+    ensures { result ≡ (computed low x y (from_bool carry)).value }
+{
+    match low {
+        0x0 => x.wrapping_add(y),
+        0x4 => x.wrapping_sub(y),
+        0x8 => x.wrapping_add(y).wrapping_add(u32::from(carry)),
+        0xc => x.wrapping_sub(y).wrapping_sub(u32::from(carry)),
+        _ => combine(low, x, y),
     }
 }
 
@@ -133,6 +149,7 @@ fn assign_product(rd: u8, product: u64, regs: &mut Regs)
 
 // The rows of arithmetic and of the forms that set codes.
 #[tactic(auto, unfolding(sparc_table::specs::Arithmetic::arithmetic))]
+#[inline(always)]
 pub fn calculate(op3: u8, rd: u8, x: u32, y: u32, regs: &mut Regs)
     requires { rd < 32 }
     ensures { regs.new ≡ arithmetic op3 rd x y regs.old }
@@ -140,11 +157,10 @@ pub fn calculate(op3: u8, rd: u8, x: u32, y: u32, regs: &mut Regs)
     match op3 {
         0x0a => assign_product(rd, u64::from(x) * u64::from(y), regs),
         0x0b => assign_product(rd, multiply_signed(x, y), regs),
+        0x00..=0x0f => regs.set(rd, value(op3, x, y, regs.c)),
         _ => {
             let computed = compute(op3 & 0xf, x, y, regs.c);
-            if op3 >= 0x10 {
-                set_codes(computed, regs);
-            }
+            set_codes(computed, regs);
             regs.set(rd, computed.value);
         }
     }

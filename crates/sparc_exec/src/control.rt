@@ -107,6 +107,7 @@ pub fn call(disp: u32, regs: &mut Regs) -> Outcome
 }
 
 // Bicc.
+#[inline(always)]
 pub fn branch(annul: bool, condition: u8, disp: u32, regs: &mut Regs) -> Outcome
     requires condition { condition < 16 }
     requires disp { disp < 2 ^ 22 }

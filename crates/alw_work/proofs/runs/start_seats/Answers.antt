@@ -11,8 +11,8 @@ use Rattle.alw_work.proofs.Finishing.{set_length, each_set, each_none}
 use Rattle.alw_work.proofs.Layings.{outs_start, ins_start}
 use Rattle.alw_work.proofs.runs.start_seats.Goals as goal
 
-pub of-requires-clause-outs : goal.of-requires-clause-outs
-of-requires-clause-outs g c =
+pub of-requires-in-loop-n-clause-outs : goal.of-requires-in-loop-n-clause-outs
+of-requires-in-loop-n-clause-outs g c =
     let outs = c.loop-n.outs.items in
     let row = c.index_mut.result.now in
     let below : c.from.result < length outs = omega (arith, c.from.ensures, c.loop-n-test.true, c.loop-n.invariant.rows, c.nodes-nodes.ensures.count) in
@@ -24,8 +24,8 @@ of-requires-clause-outs g c =
     subst (λ (v : Vec Out). AreTiedOuts g.I.Naming.links c.nodes-nodes.result c.loop-n.n c.in_ok-cell.cell v.items) (sym c.replace-row.ensures.value)
     named
 
-pub of-requires-clause-ins : goal.of-requires-clause-ins
-of-requires-clause-ins g c =
+pub of-requires-in-loop-n-clause-ins : goal.of-requires-in-loop-n-clause-ins
+of-requires-in-loop-n-clause-ins g c =
     let ins = c.loop-n.ins.items in
     let column = c.index_mut-in-loop-n.result.now in
     let below : c.from-in-loop-n.result < length ins = omega
