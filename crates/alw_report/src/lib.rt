@@ -13,7 +13,9 @@ mod worked_runs;
 pub use entries::{meta_name, state_name};
 pub use head::put_params;
 pub use json_text::json;
-pub use lists::{put_memory, put_prints, put_runs};
+pub use lists::{
+    put_heading, put_memory, put_print_lines, put_prints, put_run_lines, put_runs, put_word_lines,
+};
 pub use memory::put_line;
 pub use reports::{report, summary};
 pub use values::{DirectoryLine, DirectoryLines, Report};

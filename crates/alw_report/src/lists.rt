@@ -20,8 +20,8 @@ pub fn put_lists(text: &mut Text, report: &Report) -> Result<(), NoMemory>
     Ok(())
 }
 
-// A heading of a list: its name and how many lines follow.
-fn put_heading(text: &mut Text, name: &[u8], count: u32) -> Result<(), NoMemory>
+/// A heading of a list: its name and how many lines follow.
+pub fn put_heading(text: &mut Text, name: &[u8], count: u32) -> Result<(), NoMemory>
     ensures { OnOk result (text.new ≡ text.old ++ heading name.now count) }
 {
     text.put(name)?;
@@ -39,7 +39,8 @@ pub fn put_runs(text: &mut Text, runs: &Stretches) -> Result<(), NoMemory>
     put_run_lines(text, runs.members())
 }
 
-fn put_run_lines(text: &mut Text, runs: &[(u32, u32)]) -> Result<(), NoMemory>
+/// A line for each stretch of turns.
+pub fn put_run_lines(text: &mut Text, runs: &[(u32, u32)]) -> Result<(), NoMemory>
     ensures { OnOk result (text.new ≡ text.old ++ flat_map run_line runs.now) }
 {
     for run in runs {
@@ -67,7 +68,8 @@ pub fn put_prints(text: &mut Text, prints: &Prints) -> Result<(), NoMemory>
     put_print_lines(text, prints.members())
 }
 
-fn put_print_lines(text: &mut Text, prints: &[(u32, u32)]) -> Result<(), NoMemory>
+/// A line for each printed word.
+pub fn put_print_lines(text: &mut Text, prints: &[(u32, u32)]) -> Result<(), NoMemory>
     ensures { OnOk result (text.new ≡ text.old ++ flat_map print_line prints.now) }
 {
     for print in prints {
@@ -96,7 +98,8 @@ pub fn put_memory(text: &mut Text, memory: &Words) -> Result<(), NoMemory>
     put_word_lines(text, memory.members())
 }
 
-fn put_word_lines(text: &mut Text, words: &[(u32, u32)]) -> Result<(), NoMemory>
+/// A line for each word of memory.
+pub fn put_word_lines(text: &mut Text, words: &[(u32, u32)]) -> Result<(), NoMemory>
     ensures { OnOk result (text.new ≡ text.old ++ flat_map word_line words.now) }
 {
     for word in words {
