@@ -112,6 +112,7 @@ impl Links {
     }
 
     /// A message more at the end of a link.
+    #[inline(always)]
     pub fn send(&mut self, from: NodeNo, to: NodeNo, msg: Msg)
         requires from { from.0 < self.old.nodes }
         requires to { to.0 < self.old.nodes }
@@ -126,6 +127,7 @@ impl Links {
     }
 
     /// What an event of a node sends goes to the ends of the node's links, in order.
+    #[inline(always)]
     pub fn send_all(&mut self, from: NodeNo, sends: &Sends)
         requires from { from.0 < self.old.nodes }
         requires to { All (λ send. send.0 < self.old.nodes) sends.now.messages }
@@ -139,6 +141,7 @@ impl Links {
     }
 
     /// Takes the head off a link. None exactly where the link is empty.
+    #[inline(always)]
     pub fn take(&mut self, from: NodeNo, to: NodeNo) -> Option<Msg>
         requires from { from.0 < self.old.nodes }
         requires to { to.0 < self.old.nodes }
@@ -155,6 +158,7 @@ impl Links {
     }
 
     /// The head of a link. None exactly where the link is empty.
+    #[inline(always)]
     pub fn head(&self, from: NodeNo, to: NodeNo) -> Option<&Msg>
         requires from { from.0 < self.now.nodes }
         requires to { to.0 < self.now.nodes }
@@ -216,6 +220,7 @@ fn place(nodes: u32, from: NodeNo, to: NodeNo) -> usize
 }
 
 // The senders of a node once a message of one was taken: that one too where it has more on the way.
+#[inline(always)]
 fn senders_left(senders: NodeSet, from: NodeNo, more: bool) -> NodeSet
     ensures { nodes_of result ≡ (if more then nodes_of senders else drop_node (nodes_of senders) from.0) }
 {

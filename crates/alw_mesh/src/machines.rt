@@ -93,11 +93,12 @@ impl Machine {
     {
         match event {
             Event::Instr { node } => self.happen(Event::Instr { node }),
+            Event::Deliver { from, to } => self.happen(Event::Deliver { from, to }),
             other => self.happen(other),
         }
     }
 
-    // The same: a copy of it is compiled for instructions alone.
+    // The same: a copy of it is compiled for instructions alone, and one for deliveries.
     #[inline(always)]
     fn happen(&mut self, event: Event) -> Result<Did, NoMemory>
         requires { IsTrue (may_be_next self.old event) }

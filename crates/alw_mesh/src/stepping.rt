@@ -53,6 +53,7 @@ pub fn take(links: &mut Links, event: Event, taken: &mut Option<Msg>)
 }
 
 /// The stamp of an event that takes this message, at this clock, is within a limit.
+#[inline(always)]
 pub fn is_in_time(clock: u32, head: Option<&Msg>, limit: u32) -> bool
     ensures { result ≡ nat_le (stamp_of clock (option_copied head.entry)) limit }
 {

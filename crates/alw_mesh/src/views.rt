@@ -13,6 +13,7 @@ impl View for Mesh {
 
     ghost state = { λ m. m.machine };
 
+    #[inline(always)]
     fn row(&self, node: NodeNo) -> Row {
         let here = self.node(node);
         let in_time = self.is_in_time(here.clock());
@@ -24,10 +25,12 @@ impl View for Mesh {
         }
     }
 
+    #[inline(always)]
     fn may(&self, event: Event) -> bool {
         self.may_be_next(event)
     }
 
+    #[inline(always)]
     fn senders(&self, to: NodeNo) -> NodeSet {
         self.senders_to(to)
     }
@@ -35,6 +38,7 @@ impl View for Mesh {
 
 impl Mesh {
     // A node of this clock is in time.
+    #[inline(always)]
     fn is_in_time(&self, clock: u32) -> bool
         ensures { result ≡ (nat_lt clock (2 ^ 32 - 1) && (nat_lt clock self.now.parameters.limit || has_halted self.now.machine)) }
     {

@@ -284,6 +284,7 @@ impl Node {
     }
 
     // The message at the head of the link from a node can be delivered.
+    #[inline(always)]
     fn may_take_from(&self, from: NodeNo, msg: &Msg) -> bool
         ensures { result ≡ may_take_from self.now from.0 msg.now }
     {
@@ -292,6 +293,7 @@ impl Node {
 
     // A message is fit for the link from a node: sent by that node, about a line that exists, with a
     // stamp below the greatest, to or from the line's home.
+    #[inline(always)]
     fn is_fit(&self, from: NodeNo, msg: &Msg) -> bool
         ensures { result ≡ is_fit self.now.parts from.0 self.now.number msg.now }
     {
@@ -305,6 +307,7 @@ impl Node {
     }
 
     // Nothing keeps a message on its link.
+    #[inline(always)]
     fn may_reach(&self, msg: &Msg) -> bool
         ensures { result ≡ may_reach self.now.parts self.now.parameters self.now.state msg.now.line.0 (content msg.now) }
     {

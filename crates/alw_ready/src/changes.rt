@@ -19,6 +19,7 @@ pub struct Happened {
 /// Whether an event may have changed what keeps other messages on their links to its node, by what it
 /// did, the message that it took, and whether the node's number of holds changed: an instruction ended a
 /// hold, a line came, or a line became Trans-In-Progress or ceased to be.
+#[inline(always)]
 pub fn is_wide(did: Did, taken: Option<Msg>, changes_holds: bool) -> bool
     ensures { result ≡ is_wide did taken changes_holds }
 {
@@ -34,6 +35,7 @@ pub fn is_wide(did: Did, taken: Option<Msg>, changes_holds: bool) -> bool
 }
 
 // A message brings its line to a cache.
+#[inline(always)]
 fn brings(msg: &Msg) -> bool
     ensures { result ≡ brings (content msg.now) }
 {

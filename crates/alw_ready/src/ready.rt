@@ -65,6 +65,7 @@ impl Ready {
     }
 
     /// The row of a node.
+    #[inline(always)]
     pub fn row(&self, node: NodeNo) -> Row
         requires { node.0 < length self.now }
         ensures { slice_get self.now node.0 ≡ Some result }
@@ -73,6 +74,7 @@ impl Ready {
     }
 
     /// The row of a node becomes this one.
+    #[inline(always)]
     pub fn set(&mut self, node: NodeNo, row: Row)
         requires { node.0 < length self.old }
         ensures { self.new ≡ slice_set self.old node.0 row }
@@ -86,6 +88,7 @@ impl Ready {
     }
 
     /// The row of a node tells of its node's own events as this one does. Its senders stay.
+    #[inline(always)]
     pub(crate) fn set_own(&mut self, node: NodeNo, own: Row)
         requires { node.0 < length self.old }
         ensures { self.new ≡ slice_set self.old node.0 (record own { senders = (row_at self.old node.0).senders }) }

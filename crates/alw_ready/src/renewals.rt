@@ -34,6 +34,7 @@ impl Ready {
     /// event's own node, at the link that it took from, and at the links of its sends; where the event is
     /// wide also at the heads of all links to its node that hold something; and where with it every
     /// context has halted at all nodes.
+    #[inline(always)]
     pub fn renew<V: View>(&mut self, view: &V, happened: &Happened, sends: &Sends)
         requires counted { length self.old ≡ node_count (V.image view.now) }
         requires few { node_count (V.image view.now) ≤ MOST_NODES }
@@ -53,6 +54,7 @@ impl Ready {
     }
 
     // Looks again at the row of an event's own node.
+    #[inline(always)]
     fn renew_own<V: View>(&mut self, view: &V, happened: &Happened)
         requires counted { length self.old ≡ node_count (V.image view.now) }
         requires few { node_count (V.image view.now) ≤ MOST_NODES }
@@ -69,6 +71,7 @@ impl Ready {
     }
 
     // Looks again at the heads of the links that a node sent to.
+    #[inline(always)]
     fn renew_sent<V: View>(&mut self, view: &V, from: NodeNo, sends: &Sends)
         requires counted { length self.old ≡ node_count (V.image view.now) }
         requires few { node_count (V.image view.now) ≤ MOST_NODES }
@@ -95,6 +98,7 @@ fn row_of<V: View>(view: &V, node: NodeNo) -> Row
 }
 
 // The row of an event's own node after it, from the one before it.
+#[inline(always)]
 fn own_row<V: View>(view: &V, happened: &Happened, row: Row) -> Row
     requires few { node_count (V.image view.now) ≤ MOST_NODES }
     requires here { node_of happened.now.event < node_count (V.image view.now) }
@@ -107,6 +111,7 @@ fn own_row<V: View>(view: &V, happened: &Happened, row: Row) -> Row
 }
 
 // The row of a node with these senders.
+#[inline(always)]
 fn row_with<V: View>(view: &V, node: NodeNo, senders: NodeSet) -> Row
     requires { node.0 < node_count (V.image view.now) }
     ensures in_time { result.in_time ≡ is_in_time (V.parameters view.now) (V.state view.now) node.0 }
@@ -121,6 +126,7 @@ fn row_with<V: View>(view: &V, node: NodeNo, senders: NodeSet) -> Row
 }
 
 // An event neither took a message nor may have changed what keeps others on their links to its node.
+#[inline(always)]
 fn keeps_senders(happened: &Happened) -> bool
     ensures { IsTrue result → (from : ℕ) → (happened.now.wide || takes_from happened.now.event from (node_of happened.now.event)) ≡ false }
 {
@@ -131,6 +137,7 @@ fn keeps_senders(happened: &Happened) -> bool
 }
 
 // The nodes from which a delivery to an event's own node may happen after it, from those before it.
+#[inline(always)]
 fn own_senders<V: View>(view: &V, happened: &Happened, senders: NodeSet) -> NodeSet
     requires few { node_count (V.image view.now) ≤ MOST_NODES }
     requires here { node_of happened.now.event < node_count (V.image view.now) }
@@ -163,6 +170,7 @@ fn deliverable<V: View>(view: &V, to: NodeNo) -> NodeSet
 }
 
 // The set with or without a sender, as a delivery from it may happen or not.
+#[inline(always)]
 fn looked_at<V: View>(view: &V, senders: NodeSet, from: NodeNo, to: NodeNo) -> NodeSet
     requires { node_count (V.image view.now) ≤ MOST_NODES }
     ensures { (k : ℕ) → has_node (nodes_of result) k ≡ cond (k == from.0)

@@ -1,4 +1,5 @@
 ghost use Rattle.std.specs.Prelude.{◌≡◌, ◌<◌, ◌≤◌, slice_get, Some};
+ghost use Rattle.alw_num.specs.NodeSets.{nodes_of, members, count_nodes};
 ghost use Rattle.alw_num.specs.Weights.{digit};
 ghost use Rattle.alw_ready.specs.Rows.{row_events, row_count, no_row};
 
@@ -57,7 +58,7 @@ impl Row {
             Event::Handle { node }
         } else {
             Event::Deliver {
-                from: self.senders.nth(k - deliver),
+                from: sender(self.senders, k - deliver),
                 to: node,
             }
         }
@@ -69,4 +70,15 @@ fn one_if(test: bool) -> u16
     ensures { result ≡ digit test }
 {
     if test { 1 } else { 0 }
+}
+
+// Sender number k. The first is found without a search.
+fn sender(senders: NodeSet, k: u32) -> NodeNo
+    requires { k < count_nodes (nodes_of senders) }
+    ensures { slice_get (members (nodes_of senders)) k ≡ Some result.0 }
+{
+    match senders.lowest() {
+        Some(first) if k == 0 => first,
+        _ => senders.nth(k),
+    }
 }

@@ -69,6 +69,7 @@ fn count_did(counts: &mut Counts, did: Did)
 }
 
 // What a node sends is counted: of each number it is at most 131,072 a message.
+#[inline(always)]
 fn count_sends(counts: &mut Counts, image: &Image, from: NodeNo, sends: &Sends)
     requires sends { length sends.now.messages ≤ MOST_NODES }
     requires few { CountsAreAtMost (2 ^ 62 + 1) counts.old }
@@ -95,6 +96,7 @@ fn count_messages(counts: &mut Counts, image: &Image, from: NodeNo, sends: &[(u1
 }
 
 // A message is counted, by its kind and its way.
+#[inline(always)]
 fn count_send(counts: &mut Counts, image: &Image, from: NodeNo, to: NodeNo, kind: Kind)
     requires { CountsAreAtMost (2 ^ 63 - 2 ^ 17) counts.old }
     ensures counts { counts.new ≡ with_send image.now from.0 to.0 kind counts.old }
