@@ -1,5 +1,5 @@
 -- What is found grows, and stays real.
-use Rattle.std.proofs.Common.{◌≡◌, ℕ, zero, suc, ◌<◌, ◌⊎◌, inl, inr, Some, List, [], ◌∷◌, ◌++◌, length, replicate, refl, sym, ap, ◌∙◌, subst, arith, length-append}
+use Rattle.std.proofs.Common.{◌≡◌, ℕ, zero, suc, ◌<◌, ◌⊎◌, inl, inr, Some, List, [], ◌∷◌, ◌++◌, length, replicate, sym, ap, ◌∙◌, subst, arith, length-append}
 use Rattle.std.specs.List.{slice_get}
 use Rattle.std.proofs.lemmas.Option.{slice_get_within}
 use Rattle.alw_num.specs.declared.addresses.Line.{Line}
@@ -36,7 +36,7 @@ module _ (parts : Parts) (classes : List Class) (before after : Found) (grows : 
   pub among_grows : (place : Place) → IsAmong before.places place → IsAmong after.places place
   among_grows place among = record { at = among.at; there = grows.places among.at place among.there }
 
-  pub held_grows : (place : Place) → IsHeld parts classes before.places place → IsHeld parts classes after.places place
+  pub held_grows : (place : Place) → IsHeld parts classes (IsAmong before.places) place → IsHeld parts classes (IsAmong after.places) place
   held_grows place held = record { context = held.context; steps = held.steps; private = held.private; among = among_grows (place_turns parts place held.context held.steps) held.among }
 
   halts_grows : (printed : List (List ℕ)) (memory : List Line) → HasHalted before printed memory → HasHalted after printed memory

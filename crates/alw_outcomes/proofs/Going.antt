@@ -1,22 +1,24 @@
 -- What one context's turn adds to what was found.
-use Rattle.std.proofs.Common.{◌≡◌, ℕ, ◌+◌, ◌<◌, Bool, true, false, List, [], ◌∷◌, ◌++◌, length, IsTrue, refl, sym, ap, ◌∙◌, subst, arith}
+use Rattle.std.proofs.Common.{◌≡◌, ℕ, ◌+◌, ◌<◌, Bool, false, List, [], ◌∷◌, ◌++◌, length, IsTrue, sym, ap, ◌∙◌, subst}
 use Rattle.alw_image.specs.declared.parts.Parts.{Parts}
 use Rattle.alw_image.specs.Images.{context_count}
 use Rattle.alw_msg.specs.Statuses.{is_ready}
 use Rattle.alw_outcomes.specs.declared.classes.Class.{Class}
 use Rattle.alw_outcomes.specs.declared.classes.Broken.{Broken}
 use Rattle.alw_outcomes.specs.declared.pools.Numbers.{Numbers}
-use Rattle.alw_outcomes.specs.declared.pools.Pools.{Pools}
-use Rattle.alw_outcomes.specs.declared.explored.Origin.{Origin}
 use Rattle.alw_outcomes.specs.declared.explored.Trapped.{Trapped}
 use Rattle.alw_outcomes.specs.declared.explored.Explored.{Explored}
 use Rattle.alw_outcomes.specs.Places.{Place}
 use Rattle.alw_outcomes.specs.Sharing.{is_allowed}
 use Rattle.alw_outcomes.specs.Threads.{Thread, thread_at, with_thread, thread_need}
-use Rattle.alw_outcomes.specs.Pools.{thread_in, GoOn}
-use Rattle.alw_outcomes.specs.Leads.{IsTrapOf, IsGoing}
+use Rattle.alw_outcomes.specs.Pools.{thread_in, AreIn, GoOn}
+use Rattle.alw_outcomes.specs.Leads.{IsTrapOf, IsGoing, IsLead}
+use Rattle.alw_outcomes.specs.declared.remembered.Known.{Known}
+use Rattle.alw_outcomes.specs.Remembered.{NotesOne, IsLeadOf, AreLeads}
 use Rattle.alw_outcomes.specs.Explored.{Found, Adds, GoesTo, HasFirst, HasTurn, IsReal, IsStored, row_in, place_in, found_in}
-use Rattle.alw_outcomes.proofs.Storing.{number_place, memory_inside, row_inside, place_grows, places_grow}
+use Rattle.alw_outcomes.proofs.Storing.{number_place, memory_inside, row_inside, place_grows, places_grow, stored_grows}
+use Rattle.alw_outcomes.proofs.Leading.{inside_grows, thread_grows}
+use Rattle.alw_outcomes.proofs.Remembering.{leads_grow, lead_noted}
 use Rattle.alw_outcomes.proofs.Steps.{IsTurnAdded, turn_idle, led_to, turn_led, first_led, trap_added, break_added, goes_refl}
 
 pub found_grows : (parts : Parts) (before after : Explored) → IsStored parts before → GoOn parts before.pools after.pools → after.width ≡ before.width → after.memories.items ≡ before.memories.items → after.rows.items ≡ before.rows.items
@@ -32,6 +34,15 @@ thread_stays parts before after at context thread stored within go width memorie
     let grown = place_grows parts before.pools after.pools stored.pools go.grow _ (row_in before at) (memory_inside parts before at stored within) (row_inside parts before at stored within) in
     let same : place_in after at ≡ place_in before at = (λ i. place_in (record after { width = width i; memories = memories i; rows = rows i }) at) ∙ grown in
     is ∙ ap (λ (p : Place). thread_at p context) (sym same)
+
+-- once a lead is remembered, all is stored still
+pub known_stored : (parts : Parts) (before after : Explored) (known : Known) → IsStored parts before → GoOn parts before.pools after.pools → after.width ≡ before.width → after.classes.items ≡ before.classes.items → after.memories.items ≡ before.memories.items → after.rows.items ≡ before.rows.items
+    → AreIn before.pools known.at → IsLead parts before.classes.items known.context (thread_in before.pools known.at) after.pools known.lead → NotesOne before.leads.slots.items after.leads.slots.items known → IsStored parts after
+known_stored parts before after known stored go width classes memories rows inside lead noted =
+    let same = thread_grows parts before.pools after.pools known.at stored.pools go.grow inside in
+    let one : IsLeadOf parts before.classes.items after.pools known = record { inside = inside_grows before.pools after.pools known.at go.grow inside; lead = subst (λ (t : Thread). IsLead parts before.classes.items known.context t after.pools known.lead) (sym same) lead } in
+    let all = lead_noted parts before.classes.items after.pools before.leads.slots.items after.leads.slots.items known (leads_grow parts before.classes.items before.pools after.pools stored.pools go.grow before.leads.slots.items stored.leads) one noted in
+    stored_grows parts before after stored go width memories rows (subst (λ (l : List Class). AreLeads parts l after.pools after.leads.slots.items) (sym classes) all)
 
 pub record IsDone (parts : Parts) (classes : List Class) (one three : Found) (at context : ℕ) : Type 0 where
   pub goes : GoesTo parts one three

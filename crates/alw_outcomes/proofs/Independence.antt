@@ -29,7 +29,7 @@ use Rattle.alw_outcomes.proofs.Ends.{none_ready, not_trap}
 use Rattle.alw_outcomes.specs.declared.classes.Class.{Class}
 use Rattle.alw_outcomes.specs.declared.classes.Class.TheVariants.{Shared, Own, Fixed}
 use Rattle.alw_outcomes.specs.Sharing.{class_of, may_access, is_shared, is_read, is_allowed, is_private, need_at, Goes, IsPrivate, Breaks, HasNext, HasPrivateNext, IsSharedReduced, IsToldOrBroken}
-use Rattle.alw_outcomes.proofs.Reducing.{after_all, Runs, HasFirst, IsToldFull, told}
+use Rattle.alw_outcomes.proofs.Reducing.{after_all, Runs, HasFirst, IsToldFull, told, can}
 
 -- ---- what a turn reads and writes
 
@@ -304,23 +304,23 @@ module _ (parts : Parts) (classes : List Class) where
 
   -- ---- everything is told, or the hint is broken
 
-  module _ (Held Full : Place → Type 0) (start : Held (place_start parts)) (next : (place : Place) → Held place → HasPrivateNext parts classes Held place ⊎ Full place) (every : (place : Place) → Full place → HasNext parts classes Held place) where
+  module _ (from : Place) (Held Full : Place → Type 0) (start : Held from) (next : (place : Place) → Held place → HasPrivateNext parts classes Held place ⊎ Full place) (every : (place : Place) → Full place → HasNext parts classes Held place) where
     first_of_all : (s : Place) → HasPrivateNext parts classes Held s ⊎ Full s → HasFirst (place_turn parts) (IsPrivate parts classes) weight Held s ⊎ Full s
     first_of_all s (inl one) = inl (record { context = one.context; first = one.private; less = lighter s one.context one.private.goes.on.ready one.forward; next = one.next })
     first_of_all s (inr all) = inr all
 
-    found_at : (Ends : Place → Type 0) → ((s : Place) (c : ℕ) → IsPrivate parts classes s c → Ends s → Ends (place_turn parts s c)) → (turns : List ℕ) → Keeps (place_start parts) turns → Ends (after_all (place_turn parts) (place_start parts) turns)
+    found_at : (Ends : Place → Type 0) → ((s : Place) (c : ℕ) → IsPrivate parts classes s c → Ends s → Ends (place_turn parts s c)) → (turns : List ℕ) → Keeps from turns → Ends (after_all (place_turn parts) from turns)
         → IsToldFull Held Full Ends
     found_at Ends stay turns keeps ends =
-        told Place (place_turn parts) (Goes parts classes) (IsPrivate parts classes) orders goes_stays first_stays weight Held Full Ends stay every (λ s held. first_of_all s (next s held)) (place_start parts) turns start keeps ends
+        told Place (place_turn parts) (Goes parts classes) (IsPrivate parts classes) orders goes_stays first_stays weight Held Full Ends stay every (λ s held. first_of_all s (next s held)) from turns start keeps ends
 
-    broken_at : (turns : List ℕ) → Keeps (place_start parts) turns → SomeBreaks (after_all (place_turn parts) (place_start parts) turns) → IsBrokenBy parts classes Held Full
+    broken_at : (turns : List ℕ) → Keeps from turns → SomeBreaks (after_all (place_turn parts) from turns) → IsBrokenBy parts classes Held Full
     unfolding SomeBreaks
     broken_at turns keeps breaks =
         let t = found_at SomeBreaks breaks_stay turns keeps breaks in
         record { place = t.place; context = t.ends.0; held = t.held; full = t.full; breaks = t.ends.1 }
 
-    kept_to : (ending : Ending) (turns : List ℕ) → Keeps (place_start parts) turns → EndsIn parts (after_all (place_turn parts) (place_start parts) turns) ending → IsToldBy parts Held Full ending ⊎ IsBrokenBy parts classes Held Full
+    kept_to : (ending : Ending) (turns : List ℕ) → Keeps from turns → EndsIn parts (after_all (place_turn parts) from turns) ending → IsToldBy parts Held Full ending ⊎ IsBrokenBy parts classes Held Full
     unfolding Closes SomeBreaks
     kept_to (Halts printed memory) turns keeps ends =
         let t = found_at (Closes (Halts printed memory)) (closes_stay (Halts printed memory)) turns keeps ends in
@@ -328,7 +328,7 @@ module _ (parts : Parts) (classes : List Class) where
     kept_to (Traps context pc type) turns keeps ends = go (is_allowed classes context (need_at parts there context)) refl
       where
         there : Place
-        there = after_all (place_turn parts) (place_start parts) turns
+        there = after_all (place_turn parts) from turns
 
         go : (b : Bool) → is_allowed classes context (need_at parts there context) ≡ b → IsToldBy parts Held Full (Traps context pc type) ⊎ IsBrokenBy parts classes Held Full
         go true e =
@@ -336,12 +336,31 @@ module _ (parts : Parts) (classes : List Class) where
             inl (record { place = t.place; held = t.held; full = t.full; ends = t.ends.0 })
         go false e = inr (broken_at turns keeps (context, record { ready = ends.0; broken = e }))
 
-    pub private_told : (ending : Ending) → ComesTo parts ending → IsToldBy parts Held Full ending ⊎ IsBrokenBy parts classes Held Full
-    private_told ending comes = go (keeps_or_breaks (place_start parts) comes.turns comes.run)
+    -- no run breaks the hint where no full place does
+    pub all_keep : ((s : Place) (c : ℕ) → Full s → Breaks parts classes s c → ⊥) → (turns : List ℕ) → IsRun parts from turns → Keeps from turns
+    all_keep none turns run = go (keeps_or_breaks from turns run)
       where
-        go : Keeps (place_start parts) comes.turns ⊎ UpToBreak (place_start parts) → IsToldBy parts Held Full ending ⊎ IsBrokenBy parts classes Held Full
-        go (inl keeps) = kept_to ending comes.turns keeps (subst (λ (p : Place). EndsIn parts p ending) (same_after (place_start parts) comes.turns) comes.ends)
+        go : Keeps from turns ⊎ UpToBreak from → Keeps from turns
+        go (inl keeps) = keeps
+        go (inr broken) = let b = broken_at broken.front broken.keeps broken.breaks in absurd (none b.place b.context b.full b.breaks)
+
+    pub told_from : (ending : Ending) (turns : List ℕ) → IsRun parts from turns → EndsIn parts (places_after parts from turns) ending → IsToldBy parts Held Full ending ⊎ IsBrokenBy parts classes Held Full
+    told_from ending turns run ends = go (keeps_or_breaks from turns run)
+      where
+        go : Keeps from turns ⊎ UpToBreak from → IsToldBy parts Held Full ending ⊎ IsBrokenBy parts classes Held Full
+        go (inl keeps) = kept_to ending turns keeps (subst (λ (p : Place). EndsIn parts p ending) (same_after from turns) ends)
         go (inr broken) = inr (broken_at broken.front broken.keeps broken.breaks)
+
+    -- what can be had at each place of the set, and before a turn where it can be behind it, can be had wherever a run leads
+    pub can_be_had : (Can : Place → Type 0) → ((s : Place) → Held s → Can s) → ((s : Place) (c : ℕ) → IsPrivate parts classes s c → Can (place_turn parts s c) → Can s) → ((s : Place) (c : ℕ) → Full s → Breaks parts classes s c → ⊥)
+        → (turns : List ℕ) → IsRun parts from turns → Can (places_after parts from turns)
+    can_be_had Can held back none turns run =
+        subst Can (sym (same_after from turns)) (can Place (place_turn parts) (Goes parts classes) (IsPrivate parts classes) orders goes_stays first_stays weight Held Full Can held back every (λ s is. first_of_all s (next s is)) from turns start (all_keep none turns run))
+
+  -- the same from the start
+  pub private_told : (Held Full : Place → Type 0) → Held (place_start parts) → ((place : Place) → Held place → HasPrivateNext parts classes Held place ⊎ Full place) → ((place : Place) → Full place → HasNext parts classes Held place)
+      → (ending : Ending) → ComesTo parts ending → IsToldBy parts Held Full ending ⊎ IsBrokenBy parts classes Held Full
+  private_told Held Full start next every ending comes = told_from (place_start parts) Held Full start next every ending comes.turns comes.run comes.ends
 
 pub reduced_told : (parts : Parts) (classes : List Class) (Held : Place → Type 0) → IsSharedReduced parts classes Held → (ending : Ending) → ComesTo parts ending → IsToldOrBroken parts classes Held ending
 reduced_told parts classes Held reduced ending comes = go (private_told parts classes Held (HasNext parts classes Held) reduced.start reduced.next (λ place all. all) ending comes)

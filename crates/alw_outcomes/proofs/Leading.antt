@@ -1,6 +1,5 @@
 -- What code reads of a thread by its numbers, and chains of private turns.
 use Rattle.std.proofs.Common.{◌≡◌, ℕ, zero, suc, ◌+◌, ◌<◌, Bool, true, false, List, [], IsTrue, length, slice_index_or, refl, sym, ap, ◌∙◌, subst, arith}
-use Rattle.std.specs.List.{slice_get}
 use Rattle.std.proofs.lemmas.Option.{slice_get-get_or}
 use Rattle.sparc_table.specs.Turns.{need_of}
 use Rattle.sparc_table.specs.declared.outcomes.Outcome.{Outcome}
@@ -15,9 +14,8 @@ use Rattle.alw_outcomes.specs.declared.pools.Numbers.{Numbers}
 use Rattle.alw_outcomes.specs.declared.pools.Pools.{Pools}
 use Rattle.alw_outcomes.specs.Places.{traps, to_go}
 use Rattle.alw_outcomes.specs.Sharing.{is_allowed, is_private}
-use Rattle.alw_outcomes.specs.Effects.{effect_of}
 use Rattle.alw_outcomes.specs.Threads.{Thread, effect_in, thread_turn, thread_turns, thread_need, ThreadGoes, ThreadPrivate, ArePrivate}
-use Rattle.alw_outcomes.specs.Pools.{IsFront, AreIn, ArePools, PoolsGrow, GoOn, lists_of, no_seat, seat_in, memory_in, words_in, thread_in}
+use Rattle.alw_outcomes.specs.Pools.{AreIn, ArePools, PoolsGrow, GoOn, lists_of, no_seat, seat_in, memory_in, words_in, thread_in}
 use Rattle.alw_outcomes.specs.Leads.{IsChain, IsTrapOf, IsGoing}
 use Rattle.alw_outcomes.proofs.Pooling.{at_place, front_refl, front_trans, front_or, front_length, lists_front, lists_length}
 

@@ -1,5 +1,5 @@
 -- What code says of a turn on one line is its effect on the memory.
-use Rattle.std.proofs.Common.{◌≡◌, ℕ, ◌<◌, false, Some, None, IfSome, List, length, slice_index_or, refl, sym, ap, ◌∙◌, subst}
+use Rattle.std.proofs.Common.{◌≡◌, ℕ, ◌<◌, false, Some, None, IfSome, List, length, slice_index_or, sym, ap, ◌∙◌, subst}
 use Rattle.std.specs.Prelude.{Option}
 use Rattle.alw_num.specs.declared.addresses.Line.{Line}
 use Rattle.alw_num.specs.declared.addresses.LineNo.{LineNo}

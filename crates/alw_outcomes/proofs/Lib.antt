@@ -17,3 +17,9 @@ pub mod Steps
 pub mod Listed
 pub mod Witnesses
 pub mod Going
+pub mod Remembering
+pub mod Sorting
+pub mod Keying
+pub mod Spelling
+pub mod Ordered
+pub mod Telling

@@ -1,11 +1,10 @@
 -- Pools grow at their ends, and what has a number keeps it.
-use Rattle.std.proofs.Common.{◌≡◌, ℕ, zero, suc, ◌+◌, ◌<◌, ◌++◌, ◌⊎◌, inl, inr, Some, None, Option, List, [], ◌∷◌, length, slice_index_or, slice_set, refl, sym, ap, ◌∙◌, subst, arith, append_assoc, append-nil, length-append, length-set}
+use Rattle.std.proofs.Common.{◌≡◌, ℕ, zero, suc, ◌+◌, ◌<◌, ◌++◌, ◌⊎◌, inl, inr, Some, None, Option, List, [], ◌∷◌, length, slice_index_or, refl, sym, ap, ◌∙◌, subst, arith, append_assoc, append-nil, length-append, length-set}
 use Rattle.std.specs.List.{slice_get}
 use Rattle.std.proofs.lemmas.Option.{slice_get_within, get_or_from_slice_get, slice_get-get_or}
 use Rattle.alw_num.specs.declared.addresses.Line.{Line}
 use Rattle.alw_num.specs.declared.addresses.LineNo.{LineNo}
 use Rattle.sparc_table.specs.declared.outcomes.Outcome.{Outcome}
-use Rattle.sparc_table.specs.declared.outcomes.Outcome.TheVariants.{Done, Miss, Out, Halt, Trap}
 use Rattle.alw_msg.specs.declared.contexts.Status.{Status}
 use Rattle.alw_image.specs.declared.parts.Parts.{Parts}
 use Rattle.alw_image.specs.Images.{line_count}
@@ -16,8 +15,8 @@ use Rattle.alw_outcomes.specs.declared.pools.Numbers.{Numbers}
 use Rattle.alw_outcomes.specs.declared.pools.Pools.{Pools}
 use Rattle.alw_outcomes.specs.declared.turns.Left.{Left}
 use Rattle.alw_outcomes.specs.Effects.{Effect, effect_of, written}
-use Rattle.alw_outcomes.specs.Threads.{Thread, effect_in, thread_left, thread_turn, words_after}
-use Rattle.alw_outcomes.specs.Pools.{IsFront, Numbered, LinksGoOn, HasWords, AreIn, ArePools, PoolsGrow, GoOn, with_links, lists_of, no_seat, seat_in, memory_in, thread_in}
+use Rattle.alw_outcomes.specs.Threads.{effect_in, thread_turn, words_after}
+use Rattle.alw_outcomes.specs.Pools.{IsFront, Numbered, LinksGoOn, HasWords, AreIn, ArePools, GoOn, with_links, lists_of, no_seat, seat_in, memory_in, thread_in}
 
 -- ---- members of a list that grows at its end
 
@@ -90,7 +89,7 @@ with_links-append : (lists : List (List ℕ)) (xs ys : List Link) → with_links
 with_links-append lists [] ys = refl
 with_links-append lists (x ∷ xs) ys = with_links-append (lists ++ (slice_index_or lists x.before [] ++ x.word ∷ []) ∷ []) xs ys
 
-with_links-front : (lists : List (List ℕ)) (links : List Link) → IsFront lists (with_links lists links)
+pub with_links-front : (lists : List (List ℕ)) (links : List Link) → IsFront lists (with_links lists links)
 with_links-front lists [] = front_refl lists
 with_links-front lists (x ∷ xs) =
     front_trans lists (lists ++ (slice_index_or lists x.before [] ++ x.word ∷ []) ∷ []) (with_links lists (x ∷ xs))
@@ -132,7 +131,7 @@ words_at lists (x ∷ xs) (suc at) link back e =
     ap (λ (n : ℕ). slice_index_or (with_links (lists ++ word ∷ []) xs) n none) same ∙ rest
 
 -- the list of a link is the one before it with a word behind it
-link_words : (links : List Link) (at : ℕ) (link : Link) → ((k : ℕ) (l : Link) → slice_get links k ≡ Some l → l.before < suc k) → slice_get links at ≡ Some link
+pub link_words : (links : List Link) (at : ℕ) (link : Link) → ((k : ℕ) (l : Link) → slice_get links k ≡ Some l → l.before < suc k) → slice_get links at ≡ Some link
     → slice_index_or (lists_of links) (at + 1) [] ≡ slice_index_or (lists_of links) link.before [] ++ link.word ∷ []
 unfolding lists_of
 link_words links at link back e =

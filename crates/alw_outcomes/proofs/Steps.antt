@@ -2,9 +2,8 @@
 use Rattle.std.proofs.Common.{◌≡◌, ℕ, zero, suc, ◌+◌, ◌<◌, ◌≤◌, ◌⊎◌, inl, inr, true, false, Some, List, [], ◌∷◌, ◌++◌, length, length-append, replicate, refl, sym, ap, ◌∙◌, subst, arith}
 use Rattle.std.specs.List.{slice_get}
 use Rattle.std.proofs.lemmas.Bool.{false≢true, cases_lt}
-use Rattle.std.proofs.lemmas.Option.{slice_get_within, slice_get_read}
-use Rattle.sparc_table.specs.declared.outcomes.Outcome.{Outcome}
-use Rattle.sparc_table.specs.declared.outcomes.Outcome.TheVariants.{Done, Miss, Out, Halt, Trap}
+use Rattle.std.proofs.lemmas.Option.{slice_get_within}
+use Rattle.sparc_table.specs.declared.outcomes.Outcome.TheVariants.{Trap}
 use Rattle.alw_msg.specs.Statuses.{is_ready}
 use Rattle.alw_image.specs.declared.parts.Parts.{Parts}
 use Rattle.alw_image.specs.Images.{context_count}
@@ -13,8 +12,8 @@ use Rattle.alw_model.specs.Flat.{context_at}
 use Rattle.alw_outcomes.specs.Places.{Place, place_turn, places_after, outcome_at, traps, IsReadyAt, IsRun, HasSizes}
 use Rattle.alw_outcomes.specs.Outcomes.{Ending, Halts, Traps, all_halted, EndsIn, ComesTo}
 use Rattle.alw_outcomes.specs.declared.classes.Class.{Class}
-use Rattle.alw_outcomes.specs.Sharing.{is_allowed, need_at, IsPrivate, HasNext, HasPrivateNext}
-use Rattle.alw_outcomes.specs.Explored.{Found, IsAmong, IsHeld, PrivateTurns, place_turns, HasHalted, HasTrapped, IsListed, IsBroken, IsReal, IsFull, IsExpanded, Grows, IsTurnFound, Adds, GoesTo, HasFirst, HasTurn, TellsHalt, HasFull, HasExpanded}
+use Rattle.alw_outcomes.specs.Sharing.{is_allowed, need_at, HasNext, HasPrivateNext}
+use Rattle.alw_outcomes.specs.Explored.{Found, IsAmong, IsHeld, PrivateTurns, place_turns, HasHalted, HasTrapped, IsListed, IsBroken, IsReal, IsFull, IsExpanded, IsClosed, Grows, IsTurnFound, Adds, GoesTo, HasFirst, HasTurn, TellsHalt, HasFull, HasExpanded}
 use Rattle.alw_outcomes.specs.declared.explored.Trapped.{Trapped}
 use Rattle.alw_outcomes.specs.declared.classes.Broken.{Broken}
 use Rattle.alw_outcomes.proofs.Finding.{same_member, grows_refl, grows_trans, turn_grows, expanded_grows, adds_is, halt_listed, trap_listed, break_listed, sizes_found}
@@ -60,7 +59,7 @@ turn_idle parts classes before at context here there idle =
 
 pub record IsLedTo (parts : Parts) (classes : List Class) (before after : Found) (at context : ℕ) (here : Place) : Type 0 where
   pub goes : GoesTo parts before after
-  pub held : IsHeld parts classes after.places (place_turn parts here context)
+  pub held : IsHeld parts classes (IsAmong after.places) (place_turn parts here context)
 
 module _ (parts : Parts) (classes : List Class) (before after : Found) (at context more : ℕ) (here : Place) (to : Thread) (there : slice_get before.places at ≡ Some here) (real : IsReal parts before) (exists : context < context_count parts)
     (is : ThreadGoes parts classes context (thread_at here context)) (private : ArePrivate parts classes context (thread_turn parts (thread_at here context)) more) (end : to ≡ thread_turns parts (thread_turn parts (thread_at here context)) more)
@@ -96,10 +95,10 @@ module _ (parts : Parts) (classes : List Class) (before after : Found) (at conte
   pub first_led : ThreadPrivate parts classes context (thread_at here context) → HasFirst parts classes after at
   first_led first place e =
       let led = led_to in
-      let has : HasPrivateNext parts classes (IsHeld parts classes after.places) here = record { context = context; private = private_at parts classes context exists here first; forward = forward_at parts classes context exists here sizes first; next = led.held } in
-      subst (λ (p : Place). HasPrivateNext parts classes (IsHeld parts classes after.places) p) (same_member after.places at here place (led.goes.grows.places at here there) e) has
+      let has : HasPrivateNext parts classes (IsHeld parts classes (IsAmong after.places)) here = record { context = context; private = private_at parts classes context exists here first; forward = forward_at parts classes context exists here sizes first; next = led.held } in
+      subst (λ (p : Place). HasPrivateNext parts classes (IsHeld parts classes (IsAmong after.places)) p) (same_member after.places at here place (led.goes.grows.places at here there) e) has
 
-same_type : (one two : ℕ) → Trap one ≡ Trap two → one ≡ two
+pub same_type : (one two : ℕ) → Trap one ≡ Trap two → one ≡ two
 same_type one two e = cc
 
 pub trap_added : (parts : Parts) (classes : List Class) (before : Found) (at context pc : ℕ) (here : Place) (tt' : ℕ) (trapped : List Trapped) → slice_get before.places at ≡ Some here → IsReal parts before
@@ -145,7 +144,7 @@ break_added parts classes before at context here turn broken there real refused 
 -- ---- all turns
 
 -- contexts past the last never run
-past_idle : (parts : Parts) (place : Place) (context : ℕ) → HasSizes parts place → IsReadyAt place context → context < context_count parts
+pub past_idle : (parts : Parts) (place : Place) (context : ℕ) → HasSizes parts place → IsReadyAt place context → context < context_count parts
 past_idle parts place context sizes ready = let within = ready_exists place.flat context ready in let long = sizes.contexts in omega arith
 
 pub all_full : (parts : Parts) (classes : List Class) (found : Found) (at : ℕ) → IsReal parts found → ((context : ℕ) → context < context_count parts → HasTurn parts classes found at context) → TellsHalt found at → HasFull parts classes found at
@@ -154,7 +153,7 @@ all_full parts classes found at real turns halt place e = record { next = next; 
     sizes : HasSizes parts place
     sizes = sizes_found parts found real at place e
 
-    next : HasNext parts classes (IsHeld parts classes found.places) place
+    next : HasNext parts classes (IsHeld parts classes (IsAmong found.places)) place
     next context goes = (turns context (past_idle parts place context sizes goes.on.ready) place e).next goes
 
     halts : (printed : List (List ℕ)) → (memory : List _) → EndsIn parts place (Halts printed memory) → HasHalted found printed memory
@@ -222,24 +221,31 @@ explored_more parts classes before after past is more goes expanded = record {
         subst (λ (p : Place). IsExpanded parts classes after p) same (expanded_grows parts classes before after goes.grows m.0 (is.expanded at m.0 earlier m.1))
     go at place l e (inr last) = let same : at ≡ past = omega arith in expanded place (ap (slice_get after.places) (sym same) ∙ e)
 
+-- once all places have been gone on from and no turn broke the hint, the places are closed
+pub all_closed : (parts : Parts) (classes : List Class) (found : Found) (past : ℕ) → IsExploredTo parts classes found past → length found.places ≤ past → length found.broken ≡ 0 → IsClosed parts classes found
+all_closed parts classes found past is all whole = record {
+  expanded = λ place among. let w = slice_get_within found.places among.at place among.there in is.expanded among.at place (omega arith) among.there;
+  kept = λ some. omega arith;
+}
+
 -- a place that is held leads by a private turn to another, or is one that was gone on from
-held_next : (parts : Parts) (classes : List Class) (found : Found) → ((place : Place) → IsAmong found.places place → IsExpanded parts classes found place) → (place : Place) (context steps : ℕ) → PrivateTurns parts classes place context steps → IsAmong found.places (place_turns parts place context steps)
-    → HasPrivateNext parts classes (IsHeld parts classes found.places) place ⊎ IsFull parts classes found place
+pub held_next : (parts : Parts) (classes : List Class) (found : Found) → ((place : Place) → IsAmong found.places place → IsExpanded parts classes found place) → (place : Place) (context steps : ℕ) → PrivateTurns parts classes place context steps → IsAmong found.places (place_turns parts place context steps)
+    → HasPrivateNext parts classes (IsHeld parts classes (IsAmong found.places)) place ⊎ IsFull parts classes found place
 held_next parts classes found expanded place context zero private among = expanded place among
 held_next parts classes found expanded place context (suc n) private among =
     inl (record { context = context; private = private.0; forward = private.1; next = record { context = context; steps = n; private = private.2; among = among } })
 
--- once all places have been gone on from and no turn broke the hint, all that runs come to is listed
-pub all_listed : (parts : Parts) (classes : List Class) (found : Found) (past : ℕ) → IsExploredTo parts classes found past → length found.places ≤ past → length found.broken ≡ 0 → (ending : Ending) → ComesTo parts ending → IsListed found ending
-all_listed parts classes found past is all whole ending comes =
-    go (private_told parts classes (IsHeld parts classes found.places) (IsFull parts classes found) (record { context = 0; steps = 0; private = tt; among = record { at = 0; there = is.real.start } })
-    (λ place held. held_next parts classes found (λ p among. let w = slice_get_within found.places among.at p among.there in is.expanded among.at p (omega arith) among.there) place held.context held.steps held.private held.among)
+-- from a closed set of places all that runs come to is listed
+pub all_listed : (parts : Parts) (classes : List Class) (found : Found) → IsReal parts found → IsClosed parts classes found → (ending : Ending) → ComesTo parts ending → IsListed found ending
+all_listed parts classes found real closed ending comes =
+    go (private_told parts classes (IsHeld parts classes (IsAmong found.places)) (IsFull parts classes found) (record { context = 0; steps = 0; private = tt; among = record { at = 0; there = real.start } })
+    (λ place held. held_next parts classes found closed.expanded place held.context held.steps held.private held.among)
     (λ place full. full.next) ending comes)
   where
     listed : IsListed found ending ⊎ IsBroken found → IsListed found ending
     listed (inl has) = has
-    listed (inr some) = absurd (omega arith)
+    listed (inr some) = absurd (closed.kept some)
 
-    go : IsToldBy parts (IsHeld parts classes found.places) (IsFull parts classes found) ending ⊎ IsBrokenBy parts classes (IsHeld parts classes found.places) (IsFull parts classes found) → IsListed found ending
+    go : IsToldBy parts (IsHeld parts classes (IsAmong found.places)) (IsFull parts classes found) ending ⊎ IsBrokenBy parts classes (IsHeld parts classes (IsAmong found.places)) (IsFull parts classes found) → IsListed found ending
     go (inl told) = listed (told.full.endings ending told.ends)
-    go (inr broken) = let some : IsBroken found = broken.full.kept broken.context broken.breaks in absurd (omega arith)
+    go (inr broken) = absurd (closed.kept (broken.full.kept broken.context broken.breaks))

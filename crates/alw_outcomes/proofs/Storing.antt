@@ -1,9 +1,10 @@
 -- Places by their numbers: what is read of them, and that they stay as pools and rows grow.
-use Rattle.std.proofs.Common.{◌≡◌, ℕ, zero, suc, ◌+◌, ◌*◌, ◌<◌, ◌≤◌, ◌⊎◌, inl, inr, Bool, ◌&&◌, Some, None, List, [], ◌∷◌, ◌++◌, length, map, take, drop, replicate, slice_index_or, slice_set, refl, sym, ap, ◌∙◌, subst, arith, length-append, length-set}
+use Rattle.std.proofs.Common.{◌≡◌, ℕ, zero, suc, ◌+◌, ◌*◌, ◌<◌, ◌≤◌, ◌⊎◌, inl, inr, Bool, ◌&&◌, Option, Some, None, List, [], ◌∷◌, ◌++◌, length, map, take, drop, replicate, slice_index_or, slice_set, refl, sym, ap, ◌∙◌, subst, arith, length-append, length-set}
 use Rattle.std.specs.List.{slice_get, range_with_len, list_all}
+use Rattle.std.specs.Option.{IfSome}
 use Rattle.std.proofs.lemmas.Nat.{mul-le}
 use Rattle.std.proofs.lemmas.Option.{slice_get_within, get_or_from_slice_get, slice_get-get_or}
-use Rattle.std.proofs.lemmas.List.{map-append, map-set, take-append-le, drop-append-le, drop_at, take_at, length-drop, length-map, get_or-map}
+use Rattle.std.proofs.lemmas.List.{map-append, map-set, take-append-le, drop-append-le, drop_at, length-drop, length-map, get_or-map}
 use Rattle.std.proofs.lemmas.List.FromFn.{map-range_with_len_more, get_or-map-range_with_len, length-map-range_with_len}
 use Rattle.alw_num.specs.declared.addresses.Line.{Line}
 use Rattle.sparc_table.specs.Registers.{start_of}
@@ -11,7 +12,7 @@ use Rattle.alw_msg.specs.declared.contexts.Status.TheVariants.{Halted}
 use Rattle.alw_image.specs.declared.parts.Parts.{Parts}
 use Rattle.alw_image.specs.Images.{line_count, context_count, body_of}
 use Rattle.alw_msg.specs.Statuses.{is_halted}
-use Rattle.alw_model.specs.Flat.{Context, context_at, context_start}
+use Rattle.alw_model.specs.Flat.{Context, context_start}
 use Rattle.alw_outcomes.specs.declared.pools.Seat.{Seat}
 use Rattle.alw_outcomes.specs.declared.pools.Link.{Link}
 use Rattle.alw_outcomes.specs.declared.pools.Numbers.{Numbers}
@@ -19,12 +20,14 @@ use Rattle.alw_outcomes.specs.declared.explored.Trapped.{Trapped}
 use Rattle.alw_outcomes.specs.declared.pools.Pools.{Pools}
 use Rattle.alw_outcomes.specs.declared.explored.Origin.{Origin}
 use Rattle.alw_outcomes.specs.declared.explored.Explored.{Explored}
+use Rattle.alw_outcomes.specs.declared.remembered.Known.{Known}
+use Rattle.alw_outcomes.specs.Remembered.{AreLeads}
 use Rattle.alw_outcomes.specs.Places.{Place, place_start}
 use Rattle.alw_outcomes.specs.Outcomes.{all_halted}
-use Rattle.alw_outcomes.specs.Threads.{Thread, thread_at, with_thread}
+use Rattle.alw_outcomes.specs.Threads.{thread_at, with_thread}
 use Rattle.alw_outcomes.specs.Pools.{IsFront, Numbered, AreIn, ArePools, PoolsGrow, GoOn, lists_of, no_seat, seat_in, context_of, context_in, words_in, memory_in, place_of, thread_in}
-use Rattle.alw_outcomes.specs.Explored.{Found, IsAmong, Adds, Grows, IsStored, IsRow, AreAtStart, IsReal, halted_in, row_in, place_in, places_in, found_in}
-use Rattle.alw_outcomes.proofs.Pooling.{or-append, front_or, front_length, get-cases, numbered_get, numbered_front, numbered_cases}
+use Rattle.alw_outcomes.specs.Explored.{IsAmong, Grows, IsStored, IsRow, AreAtStart, IsReal, halted_in, row_in, place_in, places_in, found_in}
+use Rattle.alw_outcomes.proofs.Pooling.{at_place, or-append, front_or, front_length, get-cases, numbered_get, numbered_front, numbered_cases}
 use Rattle.alw_outcomes.proofs.Leading.{words_grow}
 
 -- ---- rows
@@ -110,13 +113,15 @@ places_grow parts before after stored grow width memories rows =
     (λ k less. (λ i. place_of after.pools (slice_index_or (memories i) k 0) (take (width i) (drop (k * width i) (rows i))))
     ∙ place_grows parts before.pools after.pools stored.pools grow (slice_index_or before.memories.items k 0) (row_in before k) (memory_inside parts before k stored less) (row_inside parts before k stored less))
 
-pub stored_grows : (parts : Parts) (before after : Explored) → IsStored parts before → GoOn parts before.pools after.pools → after.width ≡ before.width → after.memories.items ≡ before.memories.items → after.rows.items ≡ before.rows.items → IsStored parts after
-stored_grows parts before after stored go width memories rows = record {
+pub stored_grows : (parts : Parts) (before after : Explored) → IsStored parts before → GoOn parts before.pools after.pools → after.width ≡ before.width → after.memories.items ≡ before.memories.items → after.rows.items ≡ before.rows.items
+    → AreLeads parts after.classes.items after.pools after.leads.slots.items → IsStored parts after
+stored_grows parts before after stored go width memories rows leads = record {
   width = width ∙ stored.width;
   rows = ap length rows ∙ stored.rows ∙ (λ i. length (sym memories i) * sym width i);
   memory_in = λ k m e. front_length before.pools.memories.items after.pools.memories.items m go.grow.memories (stored.memory_in k m (ap (λ (l : List ℕ). slice_get l k) (sym memories) ∙ e));
   seat_in = λ k s e. front_length before.pools.seats.items after.pools.seats.items s go.grow.seats (stored.seat_in k s (ap (λ (l : List ℕ). slice_get l k) (sym rows) ∙ e));
   pools = go.pools;
+  leads = leads;
 }
 
 -- ---- a place by its number
@@ -131,6 +136,18 @@ number_place e at within =
 pub places_length : (e : Explored) → length (places_in e) ≡ length e.memories.items
 unfolding places_in
 places_length e = length-map-range_with_len (place_in e) 0 (length e.memories.items)
+
+pub place_at : (e : Explored) (at : ℕ) (none : Place) → at < length e.memories.items → slice_index_or (places_in e) at none ≡ place_in e at
+place_at e at none within = get_or_from_slice_get (places_in e) at (place_in e at) none (number_place e at within)
+
+pub printed_length : (parts : Parts) (e : Explored) (at : ℕ) → IsStored parts e → at < length e.memories.items → length (place_in e at).printed ≡ context_count parts
+unfolding place_of
+printed_length parts e at stored within = length-map (row_in e at) (words_in e.pools) ∙ row_length parts e at stored within
+
+-- the memory at a place, as code reads it
+pub memory_read : (parts : Parts) (e : Explored) (at : ℕ) (memory : List Line) → IsStored parts e → at < length e.memories.items → memory ≡ slice_index_or e.pools.memories.items (slice_index_or e.memories.items at 0) memory → memory ≡ (place_in e at).flat.memory
+unfolding place_of
+memory_read parts e at memory stored within read = sym (at_place e.pools.memories.items (slice_index_or e.memories.items at 0) [] memory (memory_inside parts e at stored within) read)
 
 -- the thread of a context at a place
 pub thread_read : (parts : Parts) (e : Explored) (at context seat : ℕ) (memory : ℕ) → IsStored parts e → at < length e.memories.items → context < context_count parts → memory ≡ slice_index_or e.memories.items at 0 → seat ≡ slice_index_or (row_in e at) context 0
@@ -162,15 +179,20 @@ module _ (parts : Parts) (before : Explored) (at context : ℕ) (to : Numbers) (
       let words = map-set (words_in before.pools) (row_in before at) context to.seat in
       λ i. record { flat = record { memory = memory_in before.pools to.memory; contexts = contexts i }; printed = words i }
 
-  pub already : (k : ℕ) → IsRow before k to.memory (slice_set (row_in before at) context to.seat) → IsAmong (places_in before) (with_thread (place_in before at) context (thread_in before.pools to))
-  already k is = record {
-    at = k;
-    there = number_place before k is.exists
-        ∙ (λ i. Some (place_of before.pools (get_or_from_slice_get before.memories.items k to.memory 0 is.memory_is i) (is.row_is i)))
-        ∙ ap (λ (p : Place). Some p) target;
-  }
+  pub row_there : (k : ℕ) → IsRow before k to.memory (slice_set (row_in before at) context to.seat) → slice_get (places_in before) k ≡ Some (with_thread (place_in before at) context (thread_in before.pools to))
+  row_there k is =
+      number_place before k is.exists
+      ∙ (λ i. Some (place_of before.pools (get_or_from_slice_get before.memories.items k to.memory 0 is.memory_is i) (is.row_is i)))
+      ∙ ap (λ (p : Place). Some p) target
 
-  module _ (after : Explored) (row : List ℕ) (width : after.width ≡ before.width) (pools : after.pools ≡ before.pools) (memories : after.memories.items ≡ before.memories.items ++ to.memory ∷ []) (rows : after.rows.items ≡ before.rows.items ++ row)
+  pub rows_there : (number : Option ℕ) (row : List ℕ) → row ≡ slice_set (row_in before at) context to.seat → IfSome number (λ k. IsRow before k to.memory row) → IfSome number (λ k. slice_get (places_in before) k ≡ Some (with_thread (place_in before at) context (thread_in before.pools to)))
+  rows_there None row same is = is
+  rows_there (Some k) row same is = row_there k (subst (λ (l : List ℕ). IsRow before k to.memory l) same is)
+
+  pub already : (k : ℕ) → IsRow before k to.memory (slice_set (row_in before at) context to.seat) → IsAmong (places_in before) (with_thread (place_in before at) context (thread_in before.pools to))
+  already k is = record { at = k; there = row_there k is }
+
+  module _ (after : Explored) (row : List ℕ) (width : after.width ≡ before.width) (classes : after.classes ≡ before.classes) (pools : after.pools ≡ before.pools) (leads : after.leads ≡ before.leads) (memories : after.memories.items ≡ before.memories.items ++ to.memory ∷ []) (rows : after.rows.items ≡ before.rows.items ++ row)
       (row_is : row ≡ slice_set (row_in before at) context to.seat) where
     long : length row ≡ before.width
     long = ap length row_is ∙ length-set (row_in before at) context to.seat ∙ row_length parts before at stored within ∙ sym stored.width
@@ -226,6 +248,7 @@ module _ (parts : Parts) (before : Explored) (at context : ℕ) (to : Numbers) (
       memory_in = λ k m e. subst (λ (p : Pools). m < length p.memories.items) (sym pools) (held k m (get-cases before.memories.items to.memory k m (ap (λ (l : List ℕ). slice_get l k) (sym memories) ∙ e)));
       seat_in = λ k s e. subst (λ (p : Pools). s < length p.seats.items) (sym pools) (seated before.rows.items k s (λ j t f. stored.seat_in j t f) (ap (λ (l : List ℕ). slice_get l k) (sym rows) ∙ e));
       pools = subst (ArePools parts) (sym pools) stored.pools;
+      leads = subst (λ (e : Explored). AreLeads parts e.classes.items e.pools e.leads.slots.items) (λ i. record before { classes = sym classes i; pools = sym pools i; leads = sym leads i }) stored.leads;
     }
       where
         held : (k m : ℕ) → (slice_get before.memories.items k ≡ Some m) ⊎ ((k ≡ length before.memories.items) × (to.memory ≡ m)) → m < length before.pools.memories.items
@@ -320,7 +343,8 @@ one_member x y zero e = cc
 one_member x y (suc k) e = absurd (cc)
 
 module _ (parts : Parts) (found : Explored) (memory : List Line) (number : ℕ) (origin : Origin) (width : found.width ≡ context_count parts) (numbered : Numbered [] found.pools.memories.items memory number) (memory_is : memory ≡ map (body_of parts) (range_with_len 0 (line_count parts)))
-    (start : AreAtStart parts found.pools.seats.items found.rows.items (context_count parts)) (links : found.pools.links.items ≡ []) (memories : found.memories.items ≡ number ∷ []) (origins : found.origins.items ≡ origin ∷ []) (halted : found.halted.items ≡ []) (trapped : found.trapped.items ≡ []) where
+    (start : AreAtStart parts found.pools.seats.items found.rows.items (context_count parts)) (links : found.pools.links.items ≡ []) (memories : found.memories.items ≡ number ∷ []) (origins : found.origins.items ≡ origin ∷ []) (halted : found.halted.items ≡ []) (trapped : found.trapped.items ≡ [])
+    (leads : (k : ℕ) (known : Known) → slice_get found.leads.slots.items k ≡ Some (Some known) → ⊥) where
   rows_long : length found.rows.items ≡ context_count parts
   rows_long = sym (length-map found.rows.items (context_by found.pools.seats.items)) ∙ ap length start.contexts ∙ length-map-range_with_len (context_start parts) 0 (context_count parts)
 
@@ -335,6 +359,7 @@ module _ (parts : Parts) (found : Explored) (memory : List Line) (number : ℕ) 
       back = λ k link e. absurd (no_link k link (ap (λ l. slice_get l k) (sym links) ∙ e));
       sizes = λ k m e. sized k m (numbered_cases [] found.pools.memories.items memory number k m numbered e);
     };
+    leads = λ known there. absurd (leads there.slot known there.there);
   }
     where
       no_link : (k : ℕ) (link : Link) → slice_get [] k ≡ Some link → ⊥

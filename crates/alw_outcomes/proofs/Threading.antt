@@ -1,18 +1,17 @@
 -- What is said of a thread is said of its context at a place.
-use Rattle.std.proofs.Common.{◌≡◌, ℕ, zero, suc, ◌+◌, ◌<◌, true, false, List, [], ◌∷◌, ◌++◌, length, replicate, slice_index_or, slice_set, refl, sym, ap, ◌∙◌, subst, arith}
-use Rattle.std.proofs.lemmas.List.{get_or-set_same, set-get_or, set-set, length-set}
+use Rattle.std.proofs.Common.{◌≡◌, ℕ, zero, suc, ◌<◌, List, [], replicate, slice_index_or, slice_set, refl, sym, ap, ◌∙◌, subst, arith}
+use Rattle.std.proofs.lemmas.List.{get_or-set_same, set-get_or, set-set}
 use Rattle.sparc_table.specs.Registers.{start_of}
 use Rattle.sparc_table.specs.declared.outcomes.Outcome.{Outcome}
 use Rattle.sparc_table.specs.declared.outcomes.Outcome.TheVariants.{Done, Miss, Out, Halt, Trap}
 use Rattle.alw_msg.specs.declared.contexts.Status.TheVariants.{Halted}
-use Rattle.alw_msg.specs.Statuses.{is_ready}
 use Rattle.alw_image.specs.declared.parts.Parts.{Parts}
-use Rattle.alw_image.specs.Images.{line_count, context_count}
+use Rattle.alw_image.specs.Images.{context_count}
 use Rattle.alw_model.specs.Flat.{Context, context_at}
 use Rattle.alw_outcomes.specs.declared.classes.Class.{Class}
-use Rattle.alw_outcomes.specs.Places.{Place, place_turn, places_after, printed_after, outcome_at, regs_at, traps, to_go, GoesOn, IsRun, IsForward, HasSizes}
-use Rattle.alw_outcomes.specs.Sharing.{is_allowed, need_at, Goes, IsPrivate}
-use Rattle.alw_outcomes.specs.Effects.{Effect, effect_of}
+use Rattle.alw_outcomes.specs.Places.{Place, place_turn, places_after, printed_after, outcome_at, regs_at, traps, to_go, IsRun, IsForward, HasSizes}
+use Rattle.alw_outcomes.specs.Sharing.{Goes, IsPrivate}
+use Rattle.alw_outcomes.specs.Effects.{effect_of}
 use Rattle.alw_outcomes.specs.Threads.{Thread, thread_at, with_thread, words_after, effect_in, thread_left, thread_turn, thread_turns, ThreadGoes, ThreadPrivate, ArePrivate}
 use Rattle.alw_outcomes.specs.Explored.{PrivateTurns, place_turns}
 use Rattle.alw_outcomes.proofs.Commuting.{effect_at, place_turn_is, outcome_is}

@@ -5,11 +5,12 @@ use Rattle.alw_num.specs.declared.addresses.Line.{Line}
 use Rattle.alw_image.specs.declared.parts.Parts.{Parts}
 use Rattle.alw_image.specs.Images.{context_count}
 use Rattle.alw_msg.specs.Statuses.{is_halted}
-use Rattle.alw_model.specs.Flat.{Context, context_start}
+use Rattle.alw_model.specs.Flat.{context_start}
 use Rattle.alw_outcomes.specs.Places.{Place, place_start, place_turn, places_after, IsForward, IsRun}
 use Rattle.alw_outcomes.specs.Outcomes.{Ending, Halts, Traps, EndsIn, all_halted}
 use Rattle.alw_outcomes.specs.Sharing.{Goes, Breaks, IsPrivate, HasNext, HasPrivateNext}
 use Rattle.alw_outcomes.specs.Pools.{ArePools, no_seat, context_of, place_of}
+use Rattle.alw_outcomes.specs.Remembered.{AreLeads}
 use Rattle.alw_outcomes.specs.declared.classes.Class.{Class}
 use Rattle.alw_outcomes.specs.declared.classes.Broken.{Broken}
 use Rattle.alw_outcomes.specs.declared.pools.Seat.{Seat}
@@ -39,13 +40,14 @@ places_in e = map (place_in e) (range_with_len 0 (length e.memories.items))
 abbrev pub found_in : Explored → Found
 found_in e = record { places = places_in e; origins = e.origins.items; halted = e.halted.items; trapped = e.trapped.items; broken = e.broken.items }
 
--- all numbers are of what the pools hold, and each place has a row
+-- all numbers are of what the pools hold, each place has a row, and what is remembered as a lead is one
 pub record IsStored (parts : Parts) (e : Explored) : Type 0 where
   pub width : e.width ≡ context_count parts
   pub rows : length e.rows.items ≡ length e.memories.items * e.width
   pub memory_in : (k m : ℕ) → slice_get e.memories.items k ≡ Some m → m < length e.pools.memories.items
   pub seat_in : (k s : ℕ) → slice_get e.rows.items k ≡ Some s → s < length e.pools.seats.items
   pub pools : ArePools parts e.pools
+  pub leads : AreLeads parts e.classes.items e.pools e.leads.slots.items
 
 -- the place with this number has this memory and these contexts
 pub record IsRow (e : Explored) (at memory : ℕ) (row : List ℕ) : Type 0 where
@@ -113,12 +115,12 @@ abbrev pub place_turns : Parts → Place → ℕ → ℕ → Place
 place_turns parts place context zero = place
 place_turns parts place context (suc n) = place_turns parts (place_turn parts place context) context n
 
--- private turns of a context, if any, lead from the place to one of these
-pub record IsHeld (parts : Parts) (classes : List Class) (places : List Place) (place : Place) : Type 0 where
+-- private turns of a context, if any, lead from the place to one of a set
+pub record IsHeld (parts : Parts) (classes : List Class) (Among : Place → Type 0) (place : Place) : Type 0 where
   pub context : ℕ
   pub steps : ℕ
   pub private : PrivateTurns parts classes place context steps
-  pub among : IsAmong places (place_turns parts place context steps)
+  pub among : Among (place_turns parts place context steps)
 
 -- a place came from an earlier one by turns of a context
 pub record CameFrom (parts : Parts) (found : Found) (at : ℕ) (place : Place) : Type 0 where
@@ -156,13 +158,18 @@ IsBroken found = 0 < length found.broken
 
 -- from the place all turns are found, and what it comes to
 pub record IsFull (parts : Parts) (classes : List Class) (found : Found) (place : Place) : Type 0 where
-  pub next : HasNext parts classes (IsHeld parts classes found.places) place
+  pub next : HasNext parts classes (IsHeld parts classes (IsAmong found.places)) place
   pub endings : (ending : Ending) → EndsIn parts place ending → IsListed found ending ⊎ IsBroken found
   pub kept : (context : ℕ) → Breaks parts classes place context → IsBroken found
 
 -- from the place one local turn is found, or all turns
 abbrev pub IsExpanded : Parts → List Class → Found → Place → Type 0
-IsExpanded parts classes found place = HasPrivateNext parts classes (IsHeld parts classes found.places) place ⊎ IsFull parts classes found place
+IsExpanded parts classes found place = HasPrivateNext parts classes (IsHeld parts classes (IsAmong found.places)) place ⊎ IsFull parts classes found place
+
+-- from each place that is found one local turn is found, or all turns, and each keeps to the hint
+pub record IsClosed (parts : Parts) (classes : List Class) (found : Found) : Type 0 where
+  pub expanded : (place : Place) → IsAmong found.places place → IsExpanded parts classes found place
+  pub kept : IsBroken found → ⊥
 
 -- what was found stays found
 pub record Grows (before after : Found) : Type 0 where
@@ -173,7 +180,7 @@ pub record Grows (before after : Found) : Type 0 where
 
 -- what one context's turn leads to from the place is found, or it didn't keep to the hint
 pub record IsTurnFound (parts : Parts) (classes : List Class) (found : Found) (place : Place) (context : ℕ) : Type 0 where
-  pub next : Goes parts classes place context → IsHeld parts classes found.places (place_turn parts place context)
+  pub next : Goes parts classes place context → IsHeld parts classes (IsAmong found.places) (place_turn parts place context)
   pub trap : (pc tt' : ℕ) → EndsIn parts place (Traps context pc tt') → HasTrapped found context pc tt' ⊎ IsBroken found
   pub kept : Breaks parts classes place context → IsBroken found
 
@@ -189,7 +196,7 @@ pub record GoesTo (parts : Parts) (before after : Found) : Type 0 where
 
 -- from the place with this number a private turn is found
 abbrev pub HasFirst : Parts → List Class → Found → ℕ → Type 0
-HasFirst parts classes found at = (place : Place) → slice_get found.places at ≡ Some place → HasPrivateNext parts classes (IsHeld parts classes found.places) place
+HasFirst parts classes found at = (place : Place) → slice_get found.places at ≡ Some place → HasPrivateNext parts classes (IsHeld parts classes (IsAmong found.places)) place
 
 -- what one context's turn leads to from the place with this number is found
 abbrev pub HasTurn : Parts → List Class → Found → ℕ → ℕ → Type 0

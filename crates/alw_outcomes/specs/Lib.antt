@@ -5,4 +5,7 @@ pub mod Effects
 pub mod Threads
 pub mod Pools
 pub mod Leads
+pub mod Remembered
 pub mod Explored
+pub mod Endings
+pub mod Keys

@@ -1,11 +1,10 @@
 -- How places are kept: by numbers of memories, contexts and printed lists, each different one once.
-use Rattle.std.specs.Prelude.{◌≡◌, ℕ, suc, ◌+◌, ◌*◌, ◌<◌, ◌++◌, ◌⊎◌, List, [], ◌∷◌, Some, length, map, slice_get, slice_index_or, take, drop}
-use Rattle.std.specs.List.{range_with_len}
+use Rattle.std.specs.Prelude.{◌≡◌, ℕ, suc, ◌<◌, ◌++◌, ◌⊎◌, List, [], ◌∷◌, Some, length, map, slice_get, slice_index_or}
 use Rattle.alw_num.specs.declared.addresses.Line.{Line}
 use Rattle.sparc_table.specs.Registers.{start_of}
 use Rattle.alw_msg.specs.declared.contexts.Status.TheVariants.{Halted}
 use Rattle.alw_image.specs.declared.parts.Parts.{Parts}
-use Rattle.alw_image.specs.Images.{line_count, context_count}
+use Rattle.alw_image.specs.Images.{line_count}
 use Rattle.alw_model.specs.Flat.{Context}
 use Rattle.alw_outcomes.specs.declared.pools.Seat.{Seat}
 use Rattle.alw_outcomes.specs.declared.pools.Link.{Link}

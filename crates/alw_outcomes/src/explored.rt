@@ -9,11 +9,12 @@ ghost use Rattle.alw_outcomes.specs.Threads.{thread_at, with_thread};
 ghost use Rattle.alw_outcomes.specs.Pools.{context_of, no_seat, thread_in, AreIn};
 ghost use Rattle.alw_msg.specs.Statuses.{is_halted};
 ghost use Rattle.alw_outcomes.specs.Leads.{IsLead};
-ghost use Rattle.alw_outcomes.specs.Explored.{found_in, place_in, row_in, endings_in, halted_in, IsStored, IsRow, AreAtStart, IsReal, LeadsTo, Adds, GoesTo, HasFirst, HasTurn, TellsHalt, HasFull, HasExpanded};
+ghost use Rattle.alw_outcomes.specs.Explored.{found_in, place_in, row_in, endings_in, halted_in, IsStored, IsRow, AreAtStart, IsReal, IsClosed, LeadsTo, Adds, GoesTo, HasFirst, HasTurn, TellsHalt, HasFull, HasExpanded};
 
 use crate::classes::{Broken, Class};
-use crate::leads::{Lead, is_own, lead_of};
+use crate::leads::{Lead, lead_of};
 use crate::pools::{Numbers, Pools, Seat, memory_number, seat_number};
+use crate::remembered::{Known, Remembered};
 use crate::tables::{Slot, Table, mixed};
 use crate::turns::{contexts_of, lines_of};
 use alw_flat::Memory;
@@ -22,6 +23,9 @@ use alw_msg::Status;
 use alw_num::NoMemory;
 use sparc_table::Regs;
 use std::alloc::Global;
+
+// The most private turns that are taken at once behind a turn.
+const MOST_PRIVATE: u32 = 65_000;
 
 /// Where a place came from: the number of an earlier place, and how many turns a context took from there.
 #[derive(Clone, Copy, Debug, PartialEq, Eq)]
@@ -40,12 +44,22 @@ pub struct Trapped {
     pub tt: u8,
 }
 
-/// What a search has found: pools, and of each place the number of its memory, those of its contexts,
-/// and where it came from.
+/// Which turns a search takes at a place: a private turn alone where there is one, or those of all contexts.
+#[derive(Clone, Copy, Debug, PartialEq, Eq)]
+pub enum Search {
+    Reduced,
+    Whole,
+}
+
+/// What a search has found: its hint, pools, leads, and of each place the number of its memory, those of
+/// its contexts, and where it came from.
 #[derive(Debug, Drop)]
 pub struct Explored {
     pub width: u32,
+    pub search: Search,
+    pub classes: Vec<Class>,
     pub pools: Pools,
+    pub leads: Remembered,
     pub memories: Vec<u32>,
     pub rows: Vec<u32>,
     pub by_row: Table,
@@ -57,19 +71,20 @@ pub struct Explored {
 }
 
 // Finds every outcome of an image, or stops as incomplete where a turn doesn't keep to the hint, or
-// once it has gone on from so many places. Where `alone` is set, private turns go first.
-pub(crate) fn search(
+// once it has gone on from so many places.
+pub(crate) fn explore_by(
     alloc: Global,
     image: &Image,
     classes: &[Class],
     most: u32,
-    alone: bool,
+    search: Search,
 ) -> Result<Explored, NoMemory>
     ensures stored { IfOk result (λ found. IsStored image.now found) }
     ensures real { IfOk result (λ found. IsReal image.now (found_in found)) }
+    ensures closed { IfOk result (λ found. IsTrue found.is_complete → IsClosed image.now found.classes.items (found_in found)) }
     ensures complete { IfOk result (λ found. IsTrue found.is_complete → HasEvery image.now (endings_in (found_in found))) }
 {
-    let mut found = start(alloc, image)?;
+    let mut found = start(alloc, image, classes, search)?;
     for next in 0..most {
         if !found.broken.is_empty() {
             found.is_complete = false;
@@ -79,7 +94,7 @@ pub(crate) fn search(
             found.is_complete = true;
             return Ok(found);
         }
-        expand(image, classes, &mut found, next, alone)?;
+        expand(image, &mut found, next)?;
     }
     found.is_complete = false;
     Ok(found)
@@ -119,9 +134,15 @@ fn push_times(turns: &mut Vec<u32>, context: u32, times: u32) -> Result<(), NoMe
 }
 
 // The start alone is found.
-fn start(alloc: Global, image: &Image) -> Result<Explored, NoMemory>
+fn start(
+    alloc: Global,
+    image: &Image,
+    classes: &[Class],
+    search: Search,
+) -> Result<Explored, NoMemory>
     ensures stored { IfOk result (λ found. IsStored image.now found) }
     ensures real { IfOk result (λ found. IsReal image.now (found_in found)) }
+    ensures hint { IfOk result (λ found. found.classes.items ≡ classes.now) }
 {
     let mut pools = Pools::empty(alloc);
     let memory = Memory::start(alloc, image, lines_of(image))?;
@@ -137,7 +158,10 @@ fn start(alloc: Global, image: &Image) -> Result<Explored, NoMemory>
     })?;
     Ok(Explored {
         width: contexts_of(image),
+        search,
+        classes: classes.to_vec(alloc)?,
         pools,
+        leads: Remembered::empty(alloc),
         memories,
         rows,
         by_row: Table::empty(alloc),
@@ -195,47 +219,46 @@ fn status_of(start: Option<u32>) -> Status
 }
 
 // Goes on from a place: by a private turn alone where there is one, and else by the turns of all contexts.
-fn expand(
-    image: &Image,
-    classes: &[Class],
-    found: &mut Explored,
-    at: u32,
-    alone: bool,
-) -> Result<(), NoMemory>
+fn expand(image: &Image, found: &mut Explored, at: u32) -> Result<(), NoMemory>
     requires at { at < length found.old.memories.items }
     requires stored { IsStored image.now found.old }
     requires real { IsReal image.now (found_in found.old) }
     ensures stored { OnOk result (IsStored image.now found.new) }
     ensures goes { OnOk result (GoesTo image.now (found_in found.old) (found_in found.new)) }
-    ensures expanded { OnOk result (HasExpanded image.now classes.now (found_in found.new) at) }
+    ensures hint { OnOk result (found.new.classes.items ≡ found.old.classes.items) }
+    ensures expanded { OnOk result (HasExpanded image.now found.new.classes.items (found_in found.new) at) }
 {
-    if !alone {
-        goes_all(image, classes, found, at, alone)?;
+    if goes_alone(image, found, at)? {
         return Ok(());
     }
-    if goes_alone(image, classes, found, at)? {
-        return Ok(());
-    }
-    goes_all(image, classes, found, at, alone)?;
+    goes_all(image, found, at)?;
     Ok(())
 }
 
+// A private turn of a context is looked for. Behind each turn those of its context are taken at once, so
+// that none is left but at the first places, where some context has taken no turn.
+fn may_go_alone(found: &Explored, at: u32) -> bool {
+    match found.search {
+        Search::Reduced => at < found.width,
+        Search::Whole => false,
+    }
+}
+
 // Goes on by a private turn of the first context that has one.
-fn goes_alone(
-    image: &Image,
-    classes: &[Class],
-    found: &mut Explored,
-    at: u32,
-) -> Result<bool, NoMemory>
+fn goes_alone(image: &Image, found: &mut Explored, at: u32) -> Result<bool, NoMemory>
     requires at { at < length found.old.memories.items }
     requires stored { IsStored image.now found.old }
     requires real { IsReal image.now (found_in found.old) }
     ensures stored { OnOk result (IsStored image.now found.new) }
     ensures goes { OnOk result (GoesTo image.now (found_in found.old) (found_in found.new)) }
-    ensures alone { IfOk result (λ alone. IsTrue alone → HasFirst image.now classes.now (found_in found.new) at) }
+    ensures hint { OnOk result (found.new.classes.items ≡ found.old.classes.items) }
+    ensures alone { IfOk result (λ alone. IsTrue alone → HasFirst image.now found.new.classes.items (found_in found.new) at) }
 {
+    if !may_go_alone(found, at) {
+        return Ok(false);
+    }
     for context in 0..contexts_of(image) {
-        if add_alone(image, classes, found, at, context)? {
+        if add_alone(image, found, at, context)? {
             return Ok(true);
         }
     }
@@ -243,22 +266,17 @@ fn goes_alone(
 }
 
 // Goes on by the turns of all contexts.
-fn goes_all(
-    image: &Image,
-    classes: &[Class],
-    found: &mut Explored,
-    at: u32,
-    alone: bool,
-) -> Result<(), NoMemory>
+fn goes_all(image: &Image, found: &mut Explored, at: u32) -> Result<(), NoMemory>
     requires at { at < length found.old.memories.items }
     requires stored { IsStored image.now found.old }
     requires real { IsReal image.now (found_in found.old) }
     ensures stored { OnOk result (IsStored image.now found.new) }
     ensures goes { OnOk result (GoesTo image.now (found_in found.old) (found_in found.new)) }
-    ensures full { OnOk result (HasFull image.now classes.now (found_in found.new) at) }
+    ensures hint { OnOk result (found.new.classes.items ≡ found.old.classes.items) }
+    ensures full { OnOk result (HasFull image.now found.new.classes.items (found_in found.new) at) }
 {
     for context in 0..contexts_of(image) {
-        add_turn(image, classes, found, at, context, alone)?;
+        add_turn(image, found, at, context)?;
     }
     tell_halt(image, found, at)?;
     Ok(())
@@ -271,6 +289,7 @@ fn tell_halt(image: &Image, found: &mut Explored, at: u32) -> Result<(), NoMemor
     requires real { IsReal image.now (found_in found.old) }
     ensures stored { OnOk result (IsStored image.now found.new) }
     ensures goes { OnOk result (GoesTo image.now (found_in found.old) (found_in found.new)) }
+    ensures hint { OnOk result (found.new.classes.items ≡ found.old.classes.items) }
     ensures tells { OnOk result (TellsHalt (found_in found.new) at) }
 {
     let _parts = image.parts();
@@ -312,25 +331,17 @@ fn seat_halted(seats: &[Seat], at: u32) -> bool
 }
 
 // Finds the place after a private turn of a context, if its turn is one.
-fn add_alone(
-    image: &Image,
-    classes: &[Class],
-    found: &mut Explored,
-    at: u32,
-    context: u32,
-) -> Result<bool, NoMemory>
+fn add_alone(image: &Image, found: &mut Explored, at: u32, context: u32) -> Result<bool, NoMemory>
     requires context { context < context_count image.now }
     requires at { at < length found.old.memories.items }
     requires stored { IsStored image.now found.old }
     requires real { IsReal image.now (found_in found.old) }
     ensures stored { OnOk result (IsStored image.now found.new) }
     ensures goes { OnOk result (GoesTo image.now (found_in found.old) (found_in found.new)) }
-    ensures alone { IfOk result (λ alone. IsTrue alone → HasFirst image.now classes.now (found_in found.new) at) }
+    ensures hint { OnOk result (found.new.classes.items ≡ found.old.classes.items) }
+    ensures alone { IfOk result (λ alone. IsTrue alone → HasFirst image.now found.new.classes.items (found_in found.new) at) }
 {
-    if !may_go_first(image, classes, found, at, context) {
-        return Ok(false);
-    }
-    let lead = lead_at(image, classes, found, at, context, true)?;
+    let lead = lead_at(image, found, at, context)?;
     match lead {
         Lead::Goes { to, more, first } => {
             if !first {
@@ -343,35 +354,18 @@ fn add_alone(
     }
 }
 
-// The turn of a context may be one to take first: it is Ready, and needs no shared line.
-fn may_go_first(image: &Image, classes: &[Class], found: &Explored, at: u32, context: u32) -> bool
-    requires context { context < context_count image.now }
-    requires at { at < length found.now.memories.items }
-    requires stored { IsStored image.now found.now }
-{
-    let here = numbers_at(image, found, at, context);
-    let seat = found.pools.seats[here.seat as usize];
-    seat.is_ready() && is_own(image, classes, &seat.regs)
-}
-
 // Finds what a context's turn leads to.
-fn add_turn(
-    image: &Image,
-    classes: &[Class],
-    found: &mut Explored,
-    at: u32,
-    context: u32,
-    alone: bool,
-) -> Result<(), NoMemory>
+fn add_turn(image: &Image, found: &mut Explored, at: u32, context: u32) -> Result<(), NoMemory>
     requires context { context < context_count image.now }
     requires at { at < length found.old.memories.items }
     requires stored { IsStored image.now found.old }
     requires real { IsReal image.now (found_in found.old) }
     ensures stored { OnOk result (IsStored image.now found.new) }
     ensures goes { OnOk result (GoesTo image.now (found_in found.old) (found_in found.new)) }
-    ensures turn { OnOk result (HasTurn image.now classes.now (found_in found.new) at context) }
+    ensures hint { OnOk result (found.new.classes.items ≡ found.old.classes.items) }
+    ensures turn { OnOk result (HasTurn image.now found.new.classes.items (found_in found.new) at context) }
 {
-    let lead = lead_at(image, classes, found, at, context, alone)?;
+    let lead = lead_at(image, found, at, context)?;
     match lead {
         Lead::Idle => Ok(()),
         Lead::Breaks { turn } => {
@@ -395,29 +389,36 @@ fn add_turn(
 }
 
 // What the turn of a context leads to from a place.
-fn lead_at(
-    image: &Image,
-    classes: &[Class],
-    found: &mut Explored,
-    at: u32,
-    context: u32,
-    alone: bool,
-) -> Result<Lead, NoMemory>
+fn lead_at(image: &Image, found: &mut Explored, at: u32, context: u32) -> Result<Lead, NoMemory>
     requires context { context < context_count image.now }
     requires at { at < length found.old.memories.items }
     requires stored { IsStored image.now found.old }
     ensures stored { OnOk result (IsStored image.now found.new) }
     ensures same { OnOk result (found_in found.new ≡ found_in found.old) }
+    ensures hint { OnOk result (found.new.classes.items ≡ found.old.classes.items) }
     ensures memories { OnOk result (found.new.memories.items ≡ found.old.memories.items) }
-    ensures lead { IfOk result (λ lead. IsLead image.now classes.now context (thread_at (place_in found.new at) context) found.new.pools lead) }
+    ensures lead { IfOk result (λ lead. IsLead image.now found.new.classes.items context (thread_at (place_in found.new at) context) found.new.pools lead) }
 {
     let here = numbers_at(image, found, at, context);
-    let lead = lead_of(image, classes, &mut found.pools, here, context, alone)?;
+    if let Some(lead) = found.leads.find(here, context) {
+        return Ok(lead);
+    }
+    let most = match found.search {
+        Search::Reduced => MOST_PRIVATE,
+        Search::Whole => 0,
+    };
+    let lead = lead_of(image, &found.classes, &mut found.pools, here, context, most)?;
+    let known = Known {
+        at: here,
+        context,
+        lead,
+    };
+    found.leads.note(known, found.memories.len() / 4 + 1024)?;
     Ok(lead)
 }
 
 // The numbers of a context and the memory at a place.
-fn numbers_at(image: &Image, found: &Explored, at: u32, context: u32) -> Numbers
+pub(crate) fn numbers_at(image: &Image, found: &Explored, at: u32, context: u32) -> Numbers
     requires context { context < context_count image.now }
     requires at { at < length found.now.memories.items }
     requires stored { IsStored image.now found.now }
@@ -456,6 +457,7 @@ fn add(
     requires to { AreIn found.old.pools to }
     requires stored { IsStored image.now found.old }
     ensures stored { OnOk result (IsStored image.now found.new) }
+    ensures hint { OnOk result (found.new.classes.items ≡ found.old.classes.items) }
     ensures adds { OnOk result (Adds (found_in found.old) (found_in found.new) (with_thread (place_in found.old at) context (thread_in found.old.pools to)) (record { from = at; context = context; turns = more + 1 })) }
 {
     let _parts = image.parts();

@@ -1,9 +1,9 @@
 ghost use Rattle.std.specs.Prelude.{◌≡◌, IfOk, IsTrue};
 ghost use Rattle.alw_outcomes.specs.Outcomes.{HasEvery};
-ghost use Rattle.alw_outcomes.specs.Explored.{found_in, endings_in, IsReal};
+ghost use Rattle.alw_outcomes.specs.Explored.{found_in, endings_in, IsStored, IsReal, IsClosed};
 
 use crate::classes::{Broken, Class, class_at};
-use crate::explored::{Explored, search};
+use crate::explored::{Explored, Search, explore_by};
 use crate::turns::lines_of;
 use alw_image::Image;
 use alw_num::{Mode, NoMemory};
@@ -12,29 +12,33 @@ use std::alloc::Global;
 /// Finds every outcome of an image. It first takes each line for one that nobody writes, and begins
 /// again whenever a turn shows that the line is written by one context, or used by several.
 pub fn explore(alloc: Global, image: &Image, most: u32) -> Result<Explored, NoMemory>
+    ensures stored { IfOk result (λ found. IsStored image.now found) }
     ensures real { IfOk result (λ found. IsReal image.now (found_in found)) }
+    ensures closed { IfOk result (λ found. IsTrue found.is_complete → IsClosed image.now found.classes.items (found_in found)) }
     ensures complete { IfOk result (λ found. IsTrue found.is_complete → HasEvery image.now (endings_in (found_in found))) }
 {
     let lines = lines_of(image);
     let mut classes = vec![in alloc; Class::Fixed; lines as usize]?;
     for _round in 0..lines.saturating_mul(2) {
-        let found = search(alloc, image, &classes, most, true)?;
+        let found = explore_by(alloc, image, &classes, most, Search::Reduced)?;
         match first_break(&found.broken) {
             Some(turn) => weaken(&mut classes, turn),
             None => return Ok(found),
         }
     }
-    let found = search(alloc, image, &classes, most, true)?;
+    let found = explore_by(alloc, image, &classes, most, Search::Reduced)?;
     Ok(found)
 }
 
 /// Finds every outcome of an image by the turns of all contexts at each place. It answers as
 /// `explore` does, from more places.
 pub fn explore_whole(alloc: Global, image: &Image, most: u32) -> Result<Explored, NoMemory>
+    ensures stored { IfOk result (λ found. IsStored image.now found) }
     ensures real { IfOk result (λ found. IsReal image.now (found_in found)) }
+    ensures closed { IfOk result (λ found. IsTrue found.is_complete → IsClosed image.now found.classes.items (found_in found)) }
     ensures complete { IfOk result (λ found. IsTrue found.is_complete → HasEvery image.now (endings_in (found_in found))) }
 {
-    let found = search(alloc, image, &[], most, false)?;
+    let found = explore_by(alloc, image, &[], most, Search::Whole)?;
     Ok(found)
 }
 

@@ -3,7 +3,8 @@ ghost use Rattle.alw_image.specs.declared.parts.Parts.{Parts};
 ghost use Rattle.alw_msg.specs.Statuses.{has_trapped};
 ghost use Rattle.alw_model.specs.Flat.{AreReady, flat_after, flat_prints, context_at};
 ghost use Rattle.alw_outcomes.specs.Places.{Place, place_start, place_turn, outcome_at, IsReadyAt, GoesOn, IsLocal};
-ghost use Rattle.alw_outcomes.specs.Outcomes.{Ending, ComesTo, IsTold, IsReduced, HaltsWith, TrapsAt, HasTold, flat_halted};
+ghost use Rattle.alw_outcomes.specs.Outcomes.{Ending, ComesTo, IsTold, IsReduced, HaltsWith, TrapsAt, HasTold, HasEvery, flat_halted};
+ghost use Rattle.alw_outcomes.specs.Endings.{AreDifferent};
 ghost use Rattle.alw_outcomes.specs.Sharing.{IsSharedReduced, IsToldOrBroken};
 ghost use Rattle.alw_outcomes.specs.declared.classes.Class.{Class};
 
@@ -46,4 +47,11 @@ pub fn turns_come_to()
 /// many have trapped: turns that trap can be left out of a run.
 pub fn each_trap_is_told()
     ensures { (parts : Parts) → (turns : List ℕ) → AreReady parts turns → (context : ℕ) → has_trapped (context_at (flat_after parts turns) context).status ≡ true → HasTold parts (flat_after parts turns) context }
+{}
+
+/// The different endings of a list, ascending, are one list: it depends on which endings the list has alone.
+/// It has all that runs come to, where the list does.
+pub fn different_endings_are_one()
+    ensures once { (all one two : List Ending) → AreDifferent all one → AreDifferent all two → one ≡ two }
+    ensures every { (parts : Parts) → (all some : List Ending) → HasEvery parts all → AreDifferent all some → HasEvery parts some }
 {}

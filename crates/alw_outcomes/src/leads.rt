@@ -26,14 +26,14 @@ pub enum Lead {
     Goes { to: Numbers, more: u32, first: bool },
 }
 
-/// What the turn of a context leads to.
+/// What the turn of a context leads to, with up to `most` private turns behind it.
 pub fn lead_of(
     image: &Image,
     classes: &[Class],
     pools: &mut Pools,
     at: Numbers,
     context: u32,
-    alone: bool,
+    most: u32,
 ) -> Result<Lead, NoMemory>
     requires at { AreIn pools.old at }
     requires pools { ArePools image.now pools.old }
@@ -54,18 +54,18 @@ pub fn lead_of(
     }
     let after = pools.seats[next.seat as usize];
     let first = goes_ahead(image, classes, &seat, &after);
-    let (to, more) = chain(image, classes, pools, next, context, alone)?;
+    let (to, more) = chain(image, classes, pools, next, context, most)?;
     Ok(Lead::Goes { to, more, first })
 }
 
-// Where a thread's private turns that go forward lead to, if `alone` is set, and how many they are.
+// Where a thread's private turns that go forward lead to, and how many they are, but for those past `most`.
 fn chain(
     image: &Image,
     classes: &[Class],
     pools: &mut Pools,
     at: Numbers,
     context: u32,
-    alone: bool,
+    most: u32,
 ) -> Result<(Numbers, u32), NoMemory>
     requires at { AreIn pools.old at }
     requires pools { ArePools image.now pools.old }
@@ -73,7 +73,6 @@ fn chain(
     ensures chain { IfOk result (λ end. IsChain image.now classes.now context (thread_in pools.old at) pools.new end.0 end.1) }
 {
     let mut to = at;
-    let most = if alone { 65_000 } else { 0 };
     for more in 0..most {
         match private_step(image, classes, pools, to, context)? {
             Some(next) => to = next,

@@ -2,21 +2,26 @@
 #![tactic(auto)]
 
 mod classes;
+mod endings;
 mod explored;
 mod hints;
 mod laws;
 mod leads;
+mod places;
 mod pools;
+mod remembered;
 mod tables;
 mod turns;
 
 pub use classes::{Broken, Class};
-pub use explored::{Explored, Origin, Trapped, turns_to};
+pub use endings::{Endings, endings_of};
+pub use explored::{Explored, Origin, Search, Trapped, turns_to};
 pub use hints::{explore, explore_whole};
 pub use laws::{
-    each_trap_is_told, local_turns_commute, private_turns_first, reduced_set_tells_all,
-    turns_come_to,
+    different_endings_are_one, each_trap_is_told, local_turns_commute, private_turns_first,
+    reduced_set_tells_all, turns_come_to,
 };
+pub use places::{memory_at, words_at};
 
 #[cfg(test)]
 mod tests;

@@ -1,5 +1,5 @@
 -- By what the context's turn is.
-use Rattle.std.proofs.Common.{refl, sym, ◌∙◌, true, false}
+use Rattle.std.proofs.Common.{sym, ◌∙◌, true, false}
 use Rattle.alw_outcomes.specs.Pools.{thread_in}
 use Rattle.alw_outcomes.proofs.Leading.{goes_on_trans, ready_is, allowed_is, none_trap, thread_goes, thread_private, thread_traps, going}
 use Rattle.alw_outcomes.proofs.leads.lead_of.Goals as goal

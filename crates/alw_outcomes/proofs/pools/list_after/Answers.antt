@@ -1,5 +1,5 @@
 -- A list is longer by the word that was printed.
-use Rattle.std.proofs.Common.{◌+◌, sym, ap, subst, ◌++◌, ◌∷◌, [], ℕ, slice_index_or, List}
+use Rattle.std.proofs.Common.{◌+◌, sym, subst, [], slice_index_or}
 use Rattle.sparc_table.specs.declared.outcomes.Outcome.{Outcome}
 use Rattle.alw_outcomes.specs.Threads.{words_after}
 use Rattle.alw_outcomes.specs.Pools.{HasWords, lists_of}

@@ -1,7 +1,0 @@
--- So many places have been gone on from.
-use Rattle.alw_outcomes.specs.Explored.{found_in, IsStored}
-use Rattle.alw_outcomes.proofs.Steps.{IsExploredTo}
-use Rattle.alw_outcomes.proofs.explored.search.Given as goal
-
-abbrev pub invariant-loop-next : goal.invariant-loop-next
-invariant-loop-next l = record { explored : IsExploredTo l.image l.classes (found_in l.found) l.next; stored : IsStored l.image l.found }
