@@ -23,3 +23,4 @@ pub mod Keying
 pub mod Spelling
 pub mod Ordered
 pub mod Telling
+pub mod Reaching

@@ -9,3 +9,5 @@ pub mod Remembered
 pub mod Explored
 pub mod Endings
 pub mod Keys
+pub mod Stuck
+pub mod Marks

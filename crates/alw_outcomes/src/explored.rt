@@ -9,7 +9,7 @@ ghost use Rattle.alw_outcomes.specs.Threads.{thread_at, with_thread};
 ghost use Rattle.alw_outcomes.specs.Pools.{context_of, no_seat, thread_in, AreIn};
 ghost use Rattle.alw_msg.specs.Statuses.{is_halted};
 ghost use Rattle.alw_outcomes.specs.Leads.{IsLead};
-ghost use Rattle.alw_outcomes.specs.Explored.{found_in, place_in, row_in, endings_in, halted_in, IsStored, IsRow, AreAtStart, IsReal, IsClosed, LeadsTo, Adds, GoesTo, HasFirst, HasTurn, TellsHalt, HasFull, HasExpanded};
+ghost use Rattle.alw_outcomes.specs.Explored.{found_in, place_in, places_in, row_in, endings_in, halted_in, IsStored, IsRow, AreAtStart, IsReal, IsClosed, LeadsTo, Adds, GoesTo, HasFirst, HasTurn, TellsHalt, HasFull, HasExpanded};
 
 use crate::classes::{Broken, Class};
 use crate::leads::{Lead, lead_of};
@@ -300,7 +300,7 @@ fn tell_halt(image: &Image, found: &mut Explored, at: u32) -> Result<(), NoMemor
 }
 
 // All contexts have halted at a place.
-fn has_halted(image: &Image, found: &Explored, at: u32) -> bool
+pub(crate) fn has_halted(image: &Image, found: &Explored, at: u32) -> bool
     requires at { at < length found.now.memories.items }
     requires stored { IsStored image.now found.now }
     ensures { result ≡ all_halted (place_in found.now at) }
@@ -389,7 +389,12 @@ fn add_turn(image: &Image, found: &mut Explored, at: u32, context: u32) -> Resul
 }
 
 // What the turn of a context leads to from a place.
-fn lead_at(image: &Image, found: &mut Explored, at: u32, context: u32) -> Result<Lead, NoMemory>
+pub(crate) fn lead_at(
+    image: &Image,
+    found: &mut Explored,
+    at: u32,
+    context: u32,
+) -> Result<Lead, NoMemory>
     requires context { context < context_count image.now }
     requires at { at < length found.old.memories.items }
     requires stored { IsStored image.now found.old }
@@ -479,6 +484,26 @@ fn add(
         turns: more + 1,
     })?;
     Ok(())
+}
+
+// The number of the place at which a context's turns from another lead, if the table tells one.
+pub(crate) fn number_of(
+    image: &Image,
+    found: &Explored,
+    at: u32,
+    context: u32,
+    to: Numbers,
+) -> Result<Option<u32>, NoMemory>
+    requires context { context < context_count image.now }
+    requires at { at < length found.now.memories.items }
+    requires to { AreIn found.now.pools to }
+    requires stored { IsStored image.now found.now }
+    ensures { IfOk result (λ number. IfSome number (λ k. slice_get (places_in found.now) k ≡ Some (with_thread (place_in found.now at) context (thread_in found.now.pools to)))) }
+{
+    let _parts = image.parts();
+    let row = changed_row(found, at, context, to.seat)?;
+    let number = find_row(found, to.memory, &row, digest_of(to.memory, &row));
+    Ok(number)
 }
 
 // The numbers of the contexts at a place, with another one for a context.

@@ -10,6 +10,7 @@ mod leads;
 mod places;
 mod pools;
 mod remembered;
+mod stuck;
 mod tables;
 mod turns;
 
@@ -22,6 +23,7 @@ pub use laws::{
     reduced_set_tells_all, turns_come_to,
 };
 pub use places::{memory_at, words_at};
+pub use stuck::{Stuck, stuck_of};
 
 #[cfg(test)]
 mod tests;

@@ -1,4 +1,4 @@
-use crate::{Explored, endings_of, explore, explore_whole, turns_to, words_at};
+use crate::{Explored, Stuck, endings_of, explore, explore_whole, stuck_of, turns_to, words_at};
 use alw_image::{Image, read_image};
 use std::test::Fail;
 
@@ -75,5 +75,15 @@ fn ends_ascend_by_prints(rt: HostRuntime) -> Result<(), Fail> {
     let found = explore(rt.alloc(), &image, 1000)?;
     let all = prints(&rt, &image, &found)?;
     assert!(rt; all.as_slice() == [0, 1, 1, 0, 1, 1].as_slice());
+    Ok(())
+}
+
+// Both contexts come to their halt from everywhere.
+#[test]
+fn crossing_is_nowhere_stuck(rt: HostRuntime) -> Result<(), Fail> {
+    let image = read_image(rt.alloc(), &CROSSING)?;
+    let mut found = explore(rt.alloc(), &image, 1000)?;
+    let stuck = stuck_of(rt.alloc(), &image, &mut found)?;
+    assert!(rt; matches!(stuck, Stuck::No));
     Ok(())
 }

@@ -1,0 +1,12 @@
+-- Marks are marks still.
+use Rattle.std.proofs.Common.{◌≡◌, length}
+use Rattle.alw_outcomes.specs.Explored.{found_in}
+use Rattle.alw_outcomes.specs.Marks.{AreMarks, KeepsFound}
+use Rattle.alw_outcomes.proofs.stuck.mark_more.Given as goal
+
+abbrev pub invariant-loop-back : goal.invariant-loop-back
+invariant-loop-back l = record {
+  stays : KeepsFound l.image l.fn.found l.found;
+  marks : AreMarks l.image (found_in l.fn.found) l.marks.items;
+  long : length l.marks.items ≡ length l.fn.marks.items;
+}
