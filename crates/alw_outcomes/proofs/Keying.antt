@@ -13,17 +13,17 @@ use Rattle.std.proofs.lemmas.Option.{slice_get_within, slice_get-get_or, get_or_
 use Rattle.std.proofs.lemmas.List.FromFn.{length-range_with_len, get_or-range_with_len}
 use Rattle.std.proofs.lemmas.List.{take_more}
 use Rattle.std.proofs.lemmas.List.Elements.{Contains-append_left, Contains-append_right, Contains-append_cases}
-use Rattle.alw_num.specs.declared.addresses.Line.{Line}
 use Rattle.alw_image.specs.declared.parts.Parts.{Parts}
-use Rattle.alw_image.specs.Images.{context_count}
+use Rattle.alw_image.specs.Images.{context_count, line_count}
 use Rattle.alw_outcomes.specs.Places.{Place}
 use Rattle.alw_outcomes.specs.Outcomes.{Ending, Halts, Traps}
 use Rattle.alw_outcomes.specs.declared.explored.Trapped.{Trapped}
 use Rattle.alw_outcomes.specs.declared.endings.Endings.{Endings}
 use Rattle.alw_outcomes.specs.Explored.{Found, IsReal, no_place, halt_of, trap_of, endings_in}
-use Rattle.alw_outcomes.specs.Endings.{list_cmp, line_words, line_cmp, ending_cmp, halt_at, told_in, AreDifferent}
-use Rattle.alw_outcomes.specs.Keys.{prints_key, memory_key, place_key, end_key, no_turn, turn_key, trap_key, AreOneOfEach}
+use Rattle.alw_outcomes.specs.Endings.{list_cmp, memory_words, word_cmp, ending_cmp, halt_at, told_in, AreDifferent}
+use Rattle.alw_outcomes.specs.Keys.{prints_key, words_key, place_key, end_key, no_turn, turn_key, trap_key, AreOneOfEach}
 use Rattle.alw_outcomes.proofs.Finding.{sizes_found}
+use Rattle.alw_outcomes.proofs.MemoryWords.{memory_told}
 use Rattle.alw_outcomes.proofs.Sorting.{contains_map, from_map, contains_get, get_contained}
 
 -- ---- orders one after the other
@@ -72,51 +72,34 @@ prints_cmp (x ∷ xs) (y ∷ ys) r s e =
 
 -- ---- memory
 
-four : (a b c d r : Ordering) → ordering_then a (ordering_then b (ordering_then c (ordering_then d r))) ≡ ordering_then (ordering_then a (ordering_then b (ordering_then c (ordering_then d Equal)))) r
-four Less b c d r = refl
-four Greater b c d r = refl
-four Equal Less c d r = refl
-four Equal Greater c d r = refl
-four Equal Equal Less d r = refl
-four Equal Equal Greater d r = refl
-four Equal Equal Equal Less r = refl
-four Equal Equal Equal Equal r = refl
-four Equal Equal Equal Greater r = refl
+memory_key_cmp : (xs ys : List (ℕ × ℕ)) → list_cmp (words_key xs) (words_key ys) ≡ slice_cmp word_cmp xs ys
+memory_key_cmp [] [] = refl
+memory_key_cmp [] (y ∷ ys) = refl
+memory_key_cmp (x ∷ xs) [] = refl
+memory_key_cmp (x ∷ xs) (y ∷ ys) =
+    ap (λ (o : Ordering). ordering_then (nat_cmp x.0 y.0) (ordering_then (nat_cmp x.1 y.1) o)) (memory_key_cmp xs ys)
+    ∙ then_then (nat_cmp x.0 y.0) (nat_cmp x.1 y.1) (slice_cmp word_cmp xs ys)
 
-memory_cmp : (xs ys : List Line) → list_cmp (memory_key xs) (memory_key ys) ≡ slice_cmp line_cmp xs ys
-memory_cmp [] [] = refl
-memory_cmp [] (y ∷ ys) = refl
-memory_cmp (x ∷ xs) [] = refl
-memory_cmp (x ∷ xs) (y ∷ ys) =
-    four (nat_cmp x.a y.a) (nat_cmp x.b y.b) (nat_cmp x.c y.c) (nat_cmp x.d y.d) (list_cmp (memory_key xs) (memory_key ys))
-    ∙ ap (ordering_then (line_cmp x y)) (memory_cmp xs ys)
-
-first_is : (d x y : ℕ) (xs ys : List ℕ) → x ∷ xs ≡ y ∷ ys → x ≡ y
-first_is d x y xs ys e = ap (λ (l : List ℕ). slice_index_or l 0 d) e
-
-line_same : (x y : Line) → line_words x ≡ line_words y → x ≡ y
-line_same x y e =
-    let at = λ (k : ℕ). ap (λ (l : List ℕ). slice_index_or l k 0) e in
-    let a : x.a ≡ y.a = at 0 in
-    let b : x.b ≡ y.b = at 1 in
-    let c : x.c ≡ y.c = at 2 in
-    let d : x.d ≡ y.d = at 3 in
-    λ i. record { a = a i; b = b i; c = c i; d = d i }
-
-line_cmp-IsAntisymmetric : IsAntisymmetric line_cmp
-line_cmp-IsAntisymmetric x y e = line_same x y (slice_cmp-IsAntisymmetric nat_cmp-IsAntisymmetric (line_words x) (line_words y) e)
+word_cmp-IsAntisymmetric : IsAntisymmetric word_cmp
+word_cmp-IsAntisymmetric x y e =
+    let ties = both_Equal (nat_cmp x.0 y.0) (nat_cmp x.1 y.1) e in
+    let address = nat_cmp-IsAntisymmetric x.0 y.0 ties.0 in
+    let word = nat_cmp-IsAntisymmetric x.1 y.1 ties.1 in
+    λ i. (address i, word i)
 
 -- ---- places
 
 place_cmp : (p q : Place) → length p.printed ≡ length q.printed → list_cmp (place_key p) (place_key q) ≡ ending_cmp (halt_of p) (halt_of q)
-place_cmp p q e = prints_cmp p.printed q.printed (memory_key p.flat.memory) (memory_key q.flat.memory) e ∙ ap (ordering_then (slice_cmp list_cmp p.printed q.printed)) (memory_cmp p.flat.memory q.flat.memory)
+place_cmp p q e =
+    prints_cmp p.printed q.printed (words_key (memory_words p.flat.memory)) (words_key (memory_words q.flat.memory)) e
+    ∙ ap (ordering_then (slice_cmp list_cmp p.printed q.printed)) (memory_key_cmp (memory_words p.flat.memory) (memory_words q.flat.memory))
 
-place_same : (p q : Place) → length p.printed ≡ length q.printed → place_key p ≡ place_key q → halt_of p ≡ halt_of q
-place_same p q e same =
+place_same : (p q : Place) → length p.printed ≡ length q.printed → length p.flat.memory ≡ length q.flat.memory → place_key p ≡ place_key q → halt_of p ≡ halt_of q
+place_same p q e lines same =
     let tie : ending_cmp (halt_of p) (halt_of q) ≡ Equal = sym (place_cmp p q e) ∙ ap (list_cmp (place_key p)) (sym same) ∙ tied_itself nat_list_cmp_total (place_key p) in
     let ties = both_Equal _ _ tie in
     let printed = slice_cmp-IsAntisymmetric (slice_cmp-IsAntisymmetric nat_cmp-IsAntisymmetric) p.printed q.printed ties.0 in
-    let memory = slice_cmp-IsAntisymmetric line_cmp-IsAntisymmetric p.flat.memory q.flat.memory ties.1 in
+    let memory = memory_told p.flat.memory q.flat.memory lines (slice_cmp-IsAntisymmetric word_cmp-IsAntisymmetric (memory_words p.flat.memory) (memory_words q.flat.memory) ties.1) in
     λ i. Halts (printed i) (memory i)
 
 turn_cmp : (t u : Trapped) → list_cmp (turn_key t) (turn_key u) ≡ ending_cmp (trap_of t) (trap_of u)
@@ -131,20 +114,6 @@ turn_same t u e =
     λ i. Traps (context i) (pc i) (type i)
 
 -- ---- keys as code makes them
-
-memory_append : (xs ys : List Line) → memory_key (xs ++ ys) ≡ memory_key xs ++ memory_key ys
-memory_append [] ys = refl
-memory_append (x ∷ xs) ys = ap (λ (l : List ℕ). line_words x ++ l) (memory_append xs ys) ∙ sym (append_assoc (line_words x) (memory_key xs) (memory_key ys))
-
-pub memory_more : (before key after : List ℕ) (values memory : List Line) (k : ℕ) (none : Line) → values ≡ memory → k < length values → key ≡ before ++ memory_key (take k memory) → after ≡ key ++ line_words (slice_index_or values k none) → after ≡ before ++ memory_key (take (k + 1) memory)
-memory_more before key after values memory k none same less is pushed =
-    let line = slice_index_or memory k none in
-    let long : k < length memory = subst (λ (l : List Line). k < length l) same less in
-    let last : line_words line ≡ line_words line ++ [] = refl in
-    pushed
-    ∙ (λ i. is i ++ line_words (slice_index_or (same i) k none))
-    ∙ append_assoc before (memory_key (take k memory)) (line_words line)
-    ∙ ap (λ (l : List ℕ). before ++ l) (sym (memory_append (take k memory) (line ∷ [])) ∙ ap memory_key (sym (take_more memory k none long)))
 
 prints_append : (xs ys : List (List ℕ)) → prints_key (xs ++ ys) ≡ prints_key xs ++ prints_key ys
 prints_append [] ys = refl
@@ -202,20 +171,25 @@ count_below trapped turns each k has =
     let e = in_range.2 in
     omega (arith, l, long, is, e)
 
-record HasPrints (parts : Parts) (found : Found) (at : ℕ) : Type 0 where
-  count : length (slice_index_or found.places at no_place).printed ≡ context_count parts
+record HasAll (parts : Parts) (found : Found) (at : ℕ) : Type 0 where
+  prints : length (slice_index_or found.places at no_place).printed ≡ context_count parts
+  lines : length (slice_index_or found.places at no_place).flat.memory ≡ line_count parts
 
 module _ (parts : Parts) (found : Found) (endings : Endings) (turns : List ℕ) (real : IsReal parts found) (ends : AreOneOfEach (end_key found) found.halted endings.ends.items) (traps : AreOneOfEach (trap_key found.trapped) (range_with_len 0 (length found.trapped)) turns)
     (turns_are : endings.traps.items ≡ map (λ (k : ℕ). slice_index_or found.trapped k no_turn) turns) where
-  prints_of : (at : ℕ) → Contains found.halted at → HasPrints parts found at
-  prints_of at has =
+  all_of : (at : ℕ) → Contains found.halted at → HasAll parts found at
+  all_of at has =
       let there = get_contained found.halted at has in
       let is = real.halted there.0 at there.1 in
       let sizes = sizes_found parts found real at is.place is.there in
-      record { count = ap (λ (p : Place). length p.printed) (get_or_from_slice_get found.places at is.place no_place is.there) ∙ sizes.printed }
+      let here = get_or_from_slice_get found.places at is.place no_place is.there in
+      record { prints = ap (λ (p : Place). length p.printed) here ∙ sizes.printed; lines = ap (λ (p : Place). length p.flat.memory) here ∙ sizes.memory }
 
-  same_prints : (at other : ℕ) → HasPrints parts found at → HasPrints parts found other → length (slice_index_or found.places at no_place).printed ≡ length (slice_index_or found.places other no_place).printed
-  same_prints at other one two = one.count ∙ sym two.count
+  same_prints : (at other : ℕ) → HasAll parts found at → HasAll parts found other → length (slice_index_or found.places at no_place).printed ≡ length (slice_index_or found.places other no_place).printed
+  same_prints at other one two = one.prints ∙ sym two.prints
+
+  same_lines : (at other : ℕ) → HasAll parts found at → HasAll parts found other → length (slice_index_or found.places at no_place).flat.memory ≡ length (slice_index_or found.places other no_place).flat.memory
+  same_lines at other one two = one.lines ∙ sym two.lines
 
   turn_at : ℕ → Trapped
   turn_at k = slice_index_or found.trapped k no_turn
@@ -257,7 +231,8 @@ module _ (parts : Parts) (found : Found) (endings : Endings) (turns : List ℕ) 
   every_end : (at : ℕ) → Contains found.halted at → Contains (map (halt_at found) endings.ends.items) (halt_at found at)
   every_end at has =
       let from = from_map (end_key found) endings.ends.items (end_key found at) (ends.every at has) in
-      let same = place_same (slice_index_or found.places from.0 no_place) (slice_index_or found.places at no_place) (same_prints from.0 at (prints_of from.0 (ends.within from.0 from.1.0)) (prints_of at has)) from.1.1 in
+      let there = all_of from.0 (ends.within from.0 from.1.0) in
+      let same = place_same (slice_index_or found.places from.0 no_place) (slice_index_or found.places at no_place) (same_prints from.0 at there (all_of at has)) (same_lines from.0 at there (all_of at has)) from.1.1 in
       subst (Contains (map (halt_at found) endings.ends.items)) same (contains_map (halt_at found) endings.ends.items from.0 from.1.0)
 
   every_trap : (turn : Trapped) → Contains found.trapped turn → Contains (map trap_of endings.traps.items) (trap_of turn)
@@ -291,9 +266,9 @@ module _ (parts : Parts) (found : Found) (endings : Endings) (turns : List ℕ) 
   unfolding turn_at
   ascending =
       sorted_append ending_cmp (map (halt_at found) endings.ends.items) (map trap_of endings.traps.items)
-      (sorted_agree list_cmp ending_cmp (end_key found) (halt_at found) (HasPrints parts found)
+      (sorted_agree list_cmp ending_cmp (end_key found) (halt_at found) (HasAll parts found)
       (λ at other one two. place_cmp (slice_index_or found.places at no_place) (slice_index_or found.places other no_place) (same_prints at other one two))
-      endings.ends.items (all_by (HasPrints parts found) endings.ends.items (λ at has. prints_of at (ends.within at has))) ends.ascending)
+      endings.ends.items (all_by (HasAll parts found) endings.ends.items (λ at has. all_of at (ends.within at has))) ends.ascending)
       (subst (IsStrictlySortedBy ending_cmp) (sym (map_map turns) ∙ ap (map trap_of) (sym turns_are))
       (sorted_agree list_cmp ending_cmp (trap_key found.trapped) (λ (k : ℕ). trap_of (turn_at k)) (λ _. Unit {0})
       (λ one two _ _. turn_cmp (turn_at one) (turn_at two)) turns (all_by (λ _. Unit {0}) turns (λ _ _. tt)) traps.ascending))

@@ -19,6 +19,7 @@ pub mod Witnesses
 pub mod Going
 pub mod Remembering
 pub mod Sorting
+pub mod MemoryWords
 pub mod Keying
 pub mod Spelling
 pub mod Ordered

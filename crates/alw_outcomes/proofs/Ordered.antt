@@ -12,7 +12,7 @@ use Rattle.std.proofs.lemmas.Cmp.{nat_cmp_total, nat_list_cmp_total, lists_total
 use Rattle.alw_num.specs.declared.addresses.Line.{Line}
 use Rattle.alw_image.specs.declared.parts.Parts.{Parts}
 use Rattle.alw_outcomes.specs.Outcomes.{Ending, Halts, Traps, HasEvery}
-use Rattle.alw_outcomes.specs.Endings.{list_cmp, line_words, line_cmp, ending_cmp, AreDifferent}
+use Rattle.alw_outcomes.specs.Endings.{list_cmp, memory_words, memory_cmp, ending_cmp, AreDifferent}
 use Rattle.alw_outcomes.proofs.Keying.{then_Equal}
 
 -- ---- the order of endings
@@ -25,17 +25,17 @@ shape (Halts printed memory) = (0, (printed, (memory, [])))
 shape (Traps context pc type) = (1, ([], ([], context ∷ pc ∷ type ∷ [])))
 
 abbrev shape_cmp : Shape → Shape → Ordering
-shape_cmp = then_cmp (on (λ (s : Shape). s.0) nat_cmp) (then_cmp (on (λ (s : Shape). s.1.0) (slice_cmp list_cmp)) (then_cmp (on (λ (s : Shape). s.1.1.0) (slice_cmp line_cmp)) (on (λ (s : Shape). s.1.1.1) list_cmp)))
+shape_cmp = then_cmp (on (λ (s : Shape). s.0) nat_cmp) (then_cmp (on (λ (s : Shape). s.1.0) (slice_cmp list_cmp)) (then_cmp (on (λ (s : Shape). s.1.1.0) memory_cmp) (on (λ (s : Shape). s.1.1.1) list_cmp)))
 
-line_total : IsTotalOrder line_cmp
-line_total = on_total line_words nat_list_cmp_total
+memory_total : IsTotalOrder memory_cmp
+memory_total = on_total memory_words (lists_total (then_total (on_total (λ (w : ℕ × ℕ). w.0) nat_cmp_total) (on_total (λ (w : ℕ × ℕ). w.1) nat_cmp_total)))
 
 shape_total : IsTotalOrder shape_cmp
-shape_total = then_total (on_total (λ (s : Shape). s.0) nat_cmp_total) (then_total (on_total (λ (s : Shape). s.1.0) (lists_total nat_list_cmp_total)) (then_total (on_total (λ (s : Shape). s.1.1.0) (lists_total line_total)) (on_total (λ (s : Shape). s.1.1.1) nat_list_cmp_total)))
+shape_total = then_total (on_total (λ (s : Shape). s.0) nat_cmp_total) (then_total (on_total (λ (s : Shape). s.1.0) (lists_total nat_list_cmp_total)) (then_total (on_total (λ (s : Shape). s.1.1.0) memory_total) (on_total (λ (s : Shape). s.1.1.1) nat_list_cmp_total)))
 
 shape_agrees : (one two : Ending) → on shape shape_cmp one two ≡ ending_cmp one two
 unfolding shape
-shape_agrees (Halts printed memory) (Halts printed' memory') = ap (ordering_then (slice_cmp list_cmp printed printed')) (then_Equal (slice_cmp line_cmp memory memory'))
+shape_agrees (Halts printed memory) (Halts printed' memory') = ap (ordering_then (slice_cmp list_cmp printed printed')) (then_Equal (memory_cmp memory memory'))
 shape_agrees (Halts printed memory) (Traps context pc type) = refl
 shape_agrees (Traps context pc type) (Halts printed memory) = refl
 shape_agrees (Traps context pc type) (Traps context' pc' type') = ap (λ (o : Ordering). ordering_then (nat_cmp context context') (ordering_then (nat_cmp pc pc') o)) (then_Equal (nat_cmp type type'))

@@ -3,24 +3,24 @@ use Rattle.std.specs.Prelude.{◌≡◌, ◌≢◌, ℕ, suc, ◌<◌, Bool, tru
 use Rattle.std.specs.List.{Contains, AllByRecursion}
 use Rattle.std.specs.declared.cmp.Ordering.TheVariants.{Less}
 use Rattle.std.specs.List.Sorted.{IsStrictlySortedBy}
-use Rattle.alw_num.specs.declared.addresses.Line.{Line}
 use Rattle.alw_outcomes.specs.Places.{Place}
 use Rattle.alw_outcomes.specs.declared.explored.Trapped.{Trapped}
 use Rattle.alw_outcomes.specs.declared.endings.Keyed.{Keyed}
 use Rattle.alw_outcomes.specs.Explored.{Found, no_place}
-use Rattle.alw_outcomes.specs.Endings.{list_cmp, line_words}
+use Rattle.alw_outcomes.specs.Endings.{list_cmp, memory_words}
 
 -- what contexts print: each word plus one, and 0 behind the last of each context
 abbrev pub prints_key : List (List ℕ) → List ℕ
 prints_key [] = []
 prints_key (words ∷ rest) = map suc words ++ 0 ∷ prints_key rest
 
-abbrev pub memory_key : List Line → List ℕ
-memory_key [] = []
-memory_key (line ∷ lines) = line_words line ++ memory_key lines
+-- words of memory: of each its address, and then the word
+abbrev pub words_key : List (ℕ × ℕ) → List ℕ
+words_key [] = []
+words_key (word ∷ rest) = word.0 ∷ word.1 ∷ words_key rest
 
 abbrev pub place_key : Place → List ℕ
-place_key place = prints_key place.printed ++ memory_key place.flat.memory
+place_key place = prints_key place.printed ++ words_key (memory_words place.flat.memory)
 
 -- the key of the place with this number
 abbrev pub end_key : Found → ℕ → List ℕ

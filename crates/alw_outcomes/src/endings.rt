@@ -1,15 +1,16 @@
-ghost use Rattle.std.specs.Prelude.{◌≡◌, ◌<◌, ◌+◌, ◌++◌, ◌∷◌, [], suc, ℕ, List, map, length, IfOk, OnOk};
+ghost use Rattle.std.specs.Prelude.{◌≡◌, ◌<◌, ◌+◌, ◌*◌, ◌++◌, ◌∷◌, [], suc, ℕ, List, map, length, IfOk, OnOk};
 ghost use Rattle.std.specs.List.{Contains, range_with_len};
 ghost use Rattle.alw_outcomes.specs.Explored.{found_in, place_in, endings_in, IsStored, IsReal};
-ghost use Rattle.alw_outcomes.specs.Endings.{told_in, line_words, AreDifferent};
-ghost use Rattle.alw_outcomes.specs.Keys.{place_key, memory_key, end_key, turn_key, trap_key, numbers_of, AreKeyed, IsRising, IsNew, IsUnderWay, AreOneOfEach};
+ghost use Rattle.alw_outcomes.specs.Endings.{kept_word, line_words, memory_words, told_in, AreDifferent};
+ghost use Rattle.alw_outcomes.specs.Keys.{words_key, place_key, end_key, turn_key, trap_key, numbers_of, AreKeyed, IsRising, IsNew, IsUnderWay, AreOneOfEach};
 
 use crate::explored::{Explored, Trapped};
 use crate::places::{memory_at, words_at};
 use crate::turns::contexts_of;
 use alw_flat::Memory;
 use alw_image::Image;
-use alw_num::{Line, NoMemory};
+use alw_num::{LINE_BYTES, Line, LineNo, NoMemory, SHARED_BASE};
+use sparc_exec::Port;
 use std::alloc::Global;
 
 /// The different endings of a search, ascending: the numbers of places where all contexts have halted, one for
@@ -27,8 +28,8 @@ struct Keyed {
     number: u32,
 }
 
-/// The different endings of a search: ends by prints, context by context, and then by memory; traps by context,
-/// PC and type.
+/// The different endings of a search: ends by prints, context by context, and then by memory, as the list of its words
+/// that aren't 0, each with its address; traps by context, PC and type.
 pub fn endings_of(alloc: Global, image: &Image, found: &Explored) -> Result<Endings, NoMemory>
     requires stored { IsStored image.now found.now }
     requires real { IsReal image.now (found_in found.now) }
@@ -151,22 +152,35 @@ fn push_words(key: &mut Vec<u64>, words: &[u32]) -> Result<(), NoMemory>
     Ok(())
 }
 
-// Puts the words of a memory behind a key.
+// Puts the words of a memory that aren't 0 behind a key, each with its address.
 fn push_memory(key: &mut Vec<u64>, memory: &Memory) -> Result<(), NoMemory>
-    ensures { OnOk result (key.new.items ≡ key.old.items ++ memory_key memory.now) }
+    ensures { OnOk result (key.new.items ≡ key.old.items ++ words_key (memory_words memory.now)) }
 {
-    for line in memory.values() {
-        push_line(key, line)?;
+    for line in 0..memory.lines() {
+        push_line(key, line, memory.value(LineNo(line)))?;
     }
     Ok(())
 }
 
-// Puts the words of a line behind a key.
-fn push_line(key: &mut Vec<u64>, line: &Line) -> Result<(), NoMemory>
-    ensures { OnOk result (key.new.items ≡ key.old.items ++ line_words line.now) }
+// Puts the words of a line that aren't 0 behind a key, each with its address.
+fn push_line(key: &mut Vec<u64>, line: u32, body: Line) -> Result<(), NoMemory>
+    ensures { OnOk result (key.new.items ≡ key.old.items ++ words_key (line_words (SHARED_BASE + 16 * line) body)) }
 {
-    let (a, b) = (u64::from(line.a), u64::from(line.b));
-    let (c, d) = (u64::from(line.c), u64::from(line.d));
-    key.extend_from_slice(&[a, b, c, d])?;
+    let address = u64::from(SHARED_BASE) + u64::from(LINE_BYTES) * u64::from(line);
+    push_word(key, address, body.a)?;
+    push_word(key, address + 4, body.b)?;
+    push_word(key, address + 8, body.c)?;
+    push_word(key, address + 12, body.d)?;
+    Ok(())
+}
+
+// Puts a word behind a key, with its address, where it isn't 0.
+fn push_word(key: &mut Vec<u64>, address: u64, word: u32) -> Result<(), NoMemory>
+    ensures { OnOk result (key.new.items ≡ key.old.items ++ words_key (kept_word address word)) }
+{
+    if word != 0 {
+        key.push(address)?;
+        key.push(u64::from(word))?;
+    }
     Ok(())
 }

@@ -2,7 +2,8 @@
 use Rattle.std.proofs.Common.{◌++◌, arith, ◌∙◌}
 use Rattle.std.proofs.lemmas.List.{take_all}
 use Rattle.alw_outcomes.specs.Explored.{place_in}
-use Rattle.alw_outcomes.specs.Keys.{prints_key, memory_key}
+use Rattle.alw_outcomes.specs.Endings.{memory_words}
+use Rattle.alw_outcomes.specs.Keys.{prints_key, words_key}
 use Rattle.alw_outcomes.proofs.Storing.{printed_length}
 use Rattle.alw_outcomes.proofs.Keying.{prints_more}
 use Rattle.alw_outcomes.proofs.endings.key_of.Goals as goal
@@ -16,4 +17,4 @@ loop-context-preserved c =
 pub returns : goal.returns
 returns c =
     let all = take_all c.loop-context.context (place_in c.args.found.now c.args.at).printed (omega (arith, printed_length c.args.image.now c.args.found.now c.args.at c.requires.stored c.requires.at, c.loop-context-test.false, c.contexts_of-context-end.ensures)) in
-    c.in_ok-push_memory.ensures ∙ (λ i. c.loop-context.invariant i ++ memory_key (c.memory_at.ensures i)) ∙ (λ i. prints_key (all i) ++ memory_key (place_in c.args.found.now c.args.at).flat.memory)
+    c.in_ok-push_memory.ensures ∙ (λ i. c.loop-context.invariant i ++ words_key (memory_words (c.memory_at.ensures i))) ∙ (λ i. prints_key (all i) ++ words_key (memory_words (place_in c.args.found.now c.args.at).flat.memory))
