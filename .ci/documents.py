@@ -2,7 +2,7 @@
 """Checks that the documents say what stands. Prints a line for each finding, and ends with 1 where there is one.
 
 What is tested:
-- README.md: at most 150 lines, each under 120 characters, and eight links to promises of docs/PROMISES.md.
+- README.md: at most 150 lines, each under 120 characters, and nine links to promises of docs/PROMISES.md.
 - each crate's README: its headings; its table of promises, whose rows have functions of the crate with their clauses, and edits;
   that each edit of the crate stands in a row; and that 'Left open' speaks of want of memory where a public function may
   answer nothing but that. A row may begin with a name, '**name**: ', and a named promise has an edit in one of its rows.
@@ -309,7 +309,7 @@ PROMISE_LINK = re.compile(r'\]\(docs/PROMISES\.md#([^)]+)\)')
 
 
 def check_readme(findings):
-    """README.md is a page that one reads, with eight promises. `check_links` says whether they are there."""
+    """README.md is a page that one reads, with nine promises. `check_links` says whether they are there."""
     file = ROOT / 'README.md'
     lines = file.read_text().splitlines()
     if len(lines) > 150:
@@ -317,8 +317,8 @@ def check_readme(findings):
     for number, line in enumerate(lines, 1):
         if len(line) >= 120:
             findings.say(file, number, f'has {len(line)} characters, and fewer than 120 are wanted')
-    if len(set(PROMISE_LINK.findall('\n'.join(lines)))) != 8:
-        findings.say(file, 0, 'links to other than eight promises of docs/PROMISES.md')
+    if len(set(PROMISE_LINK.findall('\n'.join(lines)))) != 9:
+        findings.say(file, 0, 'links to other than nine promises of docs/PROMISES.md')
 
 
 def check_form(findings, file, text, crate):
@@ -651,8 +651,8 @@ LISTED = {
 }
 # The definitions of what is written.
 WRITTEN = ['alw_text/specs/Numbers', 'alw_report/specs/Reports', 'alw_trace/specs/Texts', 'alw_save/specs/Lines', 'alw_save/specs/Checkpoints',
-           'alw_save/specs/States', 'alw_route/specs/Texts', 'alw_commands/specs/Auditing', 'alw_answers/specs/ErrLines']
-ALONE = {'save': 'checkpoint', 'route': 'route', 'audit': 'verdict'}
+           'alw_save/specs/States', 'alw_route/specs/Texts', 'alw_endings/specs/Texts', 'alw_commands/specs/Auditing', 'alw_answers/specs/ErrLines']
+ALONE = {'save': 'checkpoint', 'route': 'route', 'audit': 'verdict', 'outcomes': 'outcomes'}
 READ = {'replay': 'trace', 'route': 'trace', 'save': 'trace', 'audit': 'claim', 'resume': 'checkpoint'}
 
 

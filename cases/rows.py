@@ -2,6 +2,7 @@
 import hashlib
 import json
 import os
+import re
 import shlex
 import subprocess
 import tempfile
@@ -16,7 +17,8 @@ OUTSIDE = 'an outside program'
 SECONDS = 60
 FIELDS = {'name': str, 'about': str, 'source': str, 'words': str, 'input': (str, dict), 'status': int, 'output': (str, dict), 'error': str}
 OPTIONAL = {'input': '', 'output': '', 'error': ''}
-INPUTS, OUTPUTS = {'hex', 'zeros'}, {'hex', 'sha256', 'of', 'holds'}
+INPUTS, OUTPUTS = {'hex', 'zeros'}, {'hex', 'sha256', 'of', 'holds', 'ends'}
+ENDS = b'ALEWIFE OUTCOMES'
 LONGEST = 8192
 
 
@@ -79,11 +81,27 @@ def write(group, rows):
 
 def form_of(data):
     """How an output stands in a row: a text as itself, other bytes in hexadecimal, and what is long by its digest."""
+    if data.startswith(ENDS):
+        return {'ends': ends_in(data).decode()}
     if len(data) > LONGEST:
         return {'sha256': hashlib.sha256(data).hexdigest(), 'bytes': len(data)}
     if data.isascii() and all(byte >= 32 or byte in b'\t\n\r' for byte in data):
         return data.decode()
     return {'hex': data.hex()}
+
+
+def ends_in(data):
+    """A text of outcomes without how many places were kept and without turns that lead there: another search keeps other places and finds other turns."""
+    kept, left, behind = [], {}, re.compile(rb' (prints|memory|runs) ([0-9]+)')
+    for line in data.split(b'\n'):
+        name = next((name for name in (b'prints', b'memory', b'runs') if left.get(name)), None)
+        if name:
+            left[name] -= 1
+        else:
+            left = {name: int(count) for name, count in behind.findall(line)}
+        if name != b'runs' and not (name is None and line.startswith(b'places ')):
+            kept.append(line if name else re.sub(rb' runs [0-9]+$', b'', line))
+    return b'\n'.join(kept)
 
 
 # ---- running
@@ -153,6 +171,9 @@ def output_difference(row, answer):
     if isinstance(wanted, dict) and 'holds' in wanted:
         missing = [text for text in wanted['holds'] if text.encode() not in written]
         return f'the output has no {missing[0]!r}' if missing else None
+    if isinstance(wanted, dict) and 'ends' in wanted:
+        expected, ends = wanted['ends'].encode(), ends_in(written)
+        return None if ends == expected else line_difference(expected, ends)
     if isinstance(wanted, dict) and 'sha256' in wanted:
         is_same = hashlib.sha256(written).hexdigest() == wanted['sha256']
         return None if is_same else f'the output, of {len(written)} bytes, has another digest'

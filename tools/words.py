@@ -40,6 +40,7 @@ COMMANDS = {
     'route': ('trace', 'carries the messages of a trace hop by hop: the load of each wire'),
     'save': ('trace', 'cuts a trace at a stamp: a checkpoint'),
     'resume': ('checkpoint', 'goes on from a checkpoint: the whole run'),
+    'outcomes': ('image', 'takes turns in every order on one memory: what an image can come to'),
 }
 ORDER, FORM, EVICT = 'the number that the order of events is drawn from', 'what is written', 'how often of 256 an eviction is tried'
 PHRASES = {
@@ -53,6 +54,7 @@ PHRASES = {
     'route': {'--seed': 'the number that the order of hops is drawn from'},
     'save': {'--at': 'the greatest stamp that is kept'},
     'resume': {'--seed': ORDER, '--evict': EVICT, '--write': FORM},
+    'outcomes': {'--most': 'the places that turns are taken from at most'},
 }
 OWN = {
     '--unproved': ('WORDS..', 'the same by a build that nothing is proved of'),

@@ -6,7 +6,7 @@ _alewife() {
     case $COMP_CWORD:$before in
     *:[\<\>]*) ;;
     "$at":*)
-        words='asm run replay audit gen route save resume'
+        words='asm run replay audit gen route save resume outcomes'
         [ "$at" = 1 ] && words="$words help --unproved --build --install --help --version"
         ;;
     *)
@@ -39,6 +39,9 @@ _alewife() {
         resume:--write) words='report json trace claim summary' ;;
         resume:--seed | resume:--evict) compopt +o default ;;
         resume:*) words='--seed --evict --write' ;;
+        outcomes:outcomes) words='--most --help' ;;
+        outcomes:--most) compopt +o default ;;
+        outcomes:*) words='--most' ;;
         esac
         ;;
     esac

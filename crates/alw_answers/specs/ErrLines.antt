@@ -72,12 +72,14 @@ write_fault_line = codes "alewife: write fault\n"
 unfoldable pub no_memory_line : List ℕ
 no_memory_line = codes "alewife: no memory\n"
 
--- the line of an answer: nothing where all went well, a context trapped, the limit was reached or a claim isn't sound
+-- the line of an answer: nothing where all went well, a context trapped or may trap, the limit was reached, an end may not be, or a claim isn't sound
 abbrev pub err_line : Cause → List ℕ
 err_line cause.Fine = []
 err_line (cause.Trapped at) = []
 err_line (cause.Limit event) = []
 err_line (cause.Differs place claimed real) = []
+err_line cause.MayTrap = []
+err_line cause.MayNotEnd = []
 err_line (cause.Words e) = codes "alewife: word " ++ (decimal e.at ++ codes " refused\n")
 err_line (cause.Input fault) = input_refused ++ (input_text fault ++ codes "\n")
 err_line cause.ReadFault = read_fault_line

@@ -36,6 +36,8 @@ cause_of ending.Fine = cause.Fine
 cause_of (ending.Trapped at) = cause.Trapped at
 cause_of (ending.Limit event) = cause.Limit event
 cause_of (ending.Differs place claimed real) = cause.Differs place claimed real
+cause_of ending.MayTrap = cause.MayTrap
+cause_of ending.MayNotEnd = cause.MayNotEnd
 
 -- the exit status of a cause
 abbrev pub status_of : Cause → ℕ
@@ -48,8 +50,10 @@ status_of cause.ReadFault = 6
 status_of cause.WriteFault = 7
 status_of cause.NoMemory = 8
 status_of (cause.Differs place claimed real) = 9
+status_of cause.MayTrap = 4
+status_of cause.MayNotEnd = 5
 
--- all went well; or a journal was answered up to its end
+-- all went well; or a journal was answered up to its end; or a search was
 abbrev pub is_fine : Cause → Bool
 is_fine cause.Fine = true
 is_fine _ = false
@@ -59,3 +63,9 @@ is_run cause.Fine = true
 is_run (cause.Trapped at) = true
 is_run (cause.Limit event) = true
 is_run _ = false
+
+abbrev pub is_search : Cause → Bool
+is_search cause.Fine = true
+is_search cause.MayTrap = true
+is_search cause.MayNotEnd = true
+is_search _ = false

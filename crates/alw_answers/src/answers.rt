@@ -32,7 +32,8 @@ pub enum InputErr {
 }
 
 /// The cause of an answer. A claim that differs from the flat run of its turns does so first at a place, with
-/// what is claimed there and what is real.
+/// what is claimed there and what is real. Of an image some order of turns may trap; or none was found that does,
+/// and it isn't known that an end can be reached from each place.
 #[derive(Clone, Copy, Debug, PartialEq, Eq)]
 pub enum Cause {
     Fine,
@@ -44,6 +45,8 @@ pub enum Cause {
     WriteFault,
     NoMemory,
     Differs(Place, u64, u64),
+    MayTrap,
+    MayNotEnd,
 }
 
 /// What the program answers: its exit status, the cause, the journal of the run or replay that was made, and
@@ -95,5 +98,7 @@ fn status_of(cause: &Cause) -> u8
         Cause::WriteFault => 7,
         Cause::NoMemory => 8,
         Cause::Differs(..) => 9,
+        Cause::MayTrap => 4,
+        Cause::MayNotEnd => 5,
     }
 }

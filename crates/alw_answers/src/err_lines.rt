@@ -11,13 +11,18 @@ use itoa::Buffer;
 use sparc_asm::AsmErr;
 
 /// The line of an answer on standard error, which takes no memory: nothing where all went well, a
-/// context trapped, the limit was reached or a claim isn't sound.
+/// context trapped or may trap, the limit was reached, an end may not be, or a claim isn't sound.
 pub fn err_line(cause: &Cause) -> ArrayString<96>
     ensures { result.bytes ≡ err_line cause.now }
 {
     let mut line = ArrayString::new();
     match cause {
-        Cause::Fine | Cause::Trapped(_) | Cause::Limit(_) | Cause::Differs(..) => {}
+        Cause::Fine
+        | Cause::Trapped(_)
+        | Cause::Limit(_)
+        | Cause::Differs(..)
+        | Cause::MayTrap
+        | Cause::MayNotEnd => {}
         Cause::Words(e) => put_refused_word(&mut line, e.at),
         Cause::Input(fault) => put_refused_input(&mut line, fault),
         Cause::ReadFault => put_read_fault(&mut line),

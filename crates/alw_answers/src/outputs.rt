@@ -17,13 +17,16 @@ use sparc_asm::AsmErr;
 use std::alloc::Global;
 
 /// How a command ended that was carried out: a run with a trapping turn or at its limit; a claim that isn't
-/// sound, with the first place that differs, what is claimed there and what is real; and all else.
+/// sound, with the first place that differs, what is claimed there and what is real; a search of all orders of
+/// turns that found a trap, or else one that stopped or found a place from which no end is reached; and all else.
 #[derive(Clone, Copy, Debug, PartialEq, Eq)]
 pub enum Ending {
     Fine,
     Trapped(TrapAt),
     Limit(Event),
     Differs(Place, u64, u64),
+    MayTrap,
+    MayNotEnd,
 }
 
 /// What a command makes: the text to be written, how it ended, the journal of the run, of the trace or of what a

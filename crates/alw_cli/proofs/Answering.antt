@@ -53,6 +53,8 @@ by_end task input input' out out' journal merged ending.Fine made = made
 by_end task input input' out out' journal merged (ending.Trapped at) made = made
 by_end task input input' out out' journal merged (ending.Limit event) made = made
 by_end task input input' out out' journal merged (ending.Differs place claimed real) made = made
+by_end task input input' out out' journal merged ending.MayTrap made = made
+by_end task input input' out out' journal merged ending.MayNotEnd made = made
 
 module _ (task : Task) (input input' out out' : Stream) (bytes : List ℕ) (read : IsRead task.reads input input' bytes) where
   wrote : (output : Output) → task.Makes bytes output → (c : Cause) (journal : List Entry) (merged : ℕ) → journal ≡ output.journal → merged ≡ output.merged →

@@ -72,6 +72,8 @@ module _ (task : Task) (kept : IsKept task) (input input' out out' : Stream) (by
   done quiet quiet_out (cause.Trapped at) journal merged answer = ended (cause.Trapped at) journal merged answer
   done quiet quiet_out (cause.Limit event) journal merged answer = ended (cause.Limit event) journal merged answer
   done quiet quiet_out (cause.Differs place claimed real) journal merged answer = ended (cause.Differs place claimed real) journal merged answer
+  done quiet quiet_out cause.MayTrap journal merged answer = ended cause.MayTrap journal merged answer
+  done quiet quiet_out cause.MayNotEnd journal merged answer = ended cause.MayNotEnd journal merged answer
 
 -- what was answered to a command is answered to each command that the words are
 pub answered_to : (words : List (List ℕ)) (input input' out out' : Stream) (c : Cause) (journal : List Entry) (merged : ℕ) →

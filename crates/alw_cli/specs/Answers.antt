@@ -20,6 +20,7 @@ use Rattle.alw_commands.specs.Making.{gen_task}
 use Rattle.alw_commands.specs.Routing.{route_task}
 use Rattle.alw_commands.specs.Saving.{save_task}
 use Rattle.alw_commands.specs.Resuming.{resume_task}
+use Rattle.alw_commands.specs.Searching.{search_task}
 use Rattle.alw_answers.specs.ErrLines.{err_line}
 
 -- ---- the answers
@@ -35,6 +36,7 @@ task_of (commands.Gen seed width height size) = gen_task (record { seed = seed; 
 task_of (commands.Route seed) = route_task
 task_of (commands.Save at) = save_task at
 task_of (commands.Resume seed evict form) = resume_task seed evict form
+task_of (commands.Outcomes most) = search_task
 
 -- a command asks for no workers
 abbrev pub IsAlone : Command → Type 0

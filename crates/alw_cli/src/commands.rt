@@ -13,7 +13,7 @@ use crate::streams::{bytes_for, write_made};
 use alw_answers::{Done, MOST_INPUT, Output, Refusal};
 use alw_commands::{
     assemble_source, audit_bytes, make_workload, replay_bytes, resume, route_bytes, run_bytes,
-    save_bytes,
+    save_bytes, search_bytes,
 };
 use alw_config::{Command, Form, How};
 use alw_image::Params;
@@ -75,6 +75,7 @@ fn make(alloc: Global, command: Command, bytes: &[u8]) -> Result<Output, Refusal
         Command::Route { seed } => route_bytes(alloc, seed, bytes),
         Command::Save { at } => save_bytes(alloc, at, bytes),
         Command::Resume { seed, evict, write } => resume(alloc, seed, evict, write, bytes),
+        Command::Outcomes { most } => search_bytes(alloc, most, bytes),
     }
 }
 

@@ -73,5 +73,7 @@ fn cause_of(ending: Ending) -> Cause
         Ending::Trapped(at) => Cause::Trapped(at),
         Ending::Limit(event) => Cause::Limit(event),
         Ending::Differs(place, claimed, real) => Cause::Differs(place, claimed, real),
+        Ending::MayTrap => Cause::MayTrap,
+        Ending::MayNotEnd => Cause::MayNotEnd,
     }
 }

@@ -10,3 +10,4 @@ pub mod Again
 pub mod Trapped
 pub mod Begun
 pub mod FoundSound
+pub mod Searched

@@ -1,5 +1,5 @@
 -- That what a command accepts is carried out: it has no fault, and its output ends so.
-use Rattle.std.proofs.Common.{◌≡◌, arith, ℕ, suc, List, Some, None, refl, sym, ◌∙◌, subst, IsTrue, ap, Bool, true, false}
+use Rattle.std.proofs.Common.{◌≡◌, arith, ℕ, suc, ◌&&◌, List, [], ◌∷◌, Some, None, refl, sym, ◌∙◌, subst, IsTrue, ap, Bool, true, false}
 use Rattle.std.specs.Prelude.{Err}
 use Rattle.std.proofs.lemmas.Bool.{false≢true}
 use Rattle.alw_image.specs.Parameters.{Parameters}
@@ -20,12 +20,13 @@ use Rattle.alw_save.specs.declared.faults.RestoreErr.{RestoreErr}
 use Rattle.alw_save.specs.declared.faults.RestoreErr.TheVariants as restore
 use Rattle.alw_save.specs.Cuts as cuts
 use Rattle.alw_save.specs.Restoring.{Restores}
+use Rattle.alw_endings.specs.declared.values.TrapEnd.{TrapEnd}
 use Rattle.alw_answers.specs.declared.answers.InputErr.{InputErr}
 use Rattle.alw_answers.specs.declared.answers.InputErr.TheVariants as reason
 use Rattle.alw_answers.specs.declared.outputs.Ending.{Ending}
 use Rattle.alw_answers.specs.declared.outputs.Ending.TheVariants.{Fine}
 use Rattle.alw_answers.specs.declared.outputs.Output.{Output}
-use Rattle.alw_answers.specs.Outputs.{cause_of, ending_of, is_fine, is_run}
+use Rattle.alw_answers.specs.Outputs.{cause_of, ending_of, is_fine, is_run, is_search}
 use Rattle.alw_answers.specs.Tasks.{Task}
 use Rattle.alw_commands.specs.Assembling.{IsNoSource, asm_task}
 use Rattle.alw_commands.specs.Running.{IsNoRun, run_task}
@@ -36,6 +37,7 @@ use Rattle.alw_commands.specs.Making.{Asked, gen_task}
 use Rattle.alw_commands.specs.Routing.{route_task}
 use Rattle.alw_commands.specs.Saving.{IsNoCut, save_task}
 use Rattle.alw_commands.specs.Resuming.{IsSomeCheckpoint, IsNoCheckpoint, resume_task}
+use Rattle.alw_commands.specs.Searching.{IsNoImage, ending_of_traps, is_never_stuck, search_task}
 use Rattle.alw_commands.proofs.Resumable.{restored_so}
 
 pub record IsKept (t : Task) : Type 0 where
@@ -204,4 +206,22 @@ pub resume_kept : (seed evict : ℕ) (form : Form) → IsKept (resume_task seed 
 resume_kept seed evict form = record {
   finished = λ bytes output made accepted. ran output.ending made.told.ended made.told.ending;
   unrefused = λ bytes fault refused accepted. resume_unrefused evict bytes fault refused accepted;
+}
+
+-- ---- outcomes
+
+search_end : (traps : List TrapEnd) (ends : Bool) → IsTrue (is_search (cause_of (ending_of_traps traps ends)))
+search_end [] true = refl
+search_end [] false = refl
+search_end (trap ∷ rest) ends = refl
+
+search_unrefused : (bytes : List ℕ) (fault : InputErr) → IsNoImage bytes fault → search_task.Accepts bytes → ⊥
+search_unrefused bytes (reason.Image fault) refused accepted = absurd (let e : Some fault ≡ None = sym refused ∙ accepted in cc)
+search_unrefused bytes _ refused accepted = refused
+
+pub search_kept : IsKept search_task
+search_kept = record {
+  finished = λ bytes output made accepted. subst (λ (e : Ending). IsTrue (is_search (cause_of e))) (sym made.text.ending_is)
+      (search_end made.told.traps (made.told.is_complete && is_never_stuck made.told.stuck));
+  unrefused = λ bytes fault refused accepted. search_unrefused bytes fault refused accepted;
 }

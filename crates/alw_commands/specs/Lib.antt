@@ -8,4 +8,5 @@ pub mod Making
 pub mod Routing
 pub mod Saving
 pub mod Resuming
+pub mod Searching
 pub mod Listing

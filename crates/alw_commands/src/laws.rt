@@ -1,4 +1,4 @@
-ghost use Rattle.std.specs.Prelude.{◌≡◌, ◌≤◌, ℕ, Result, Err, List};
+ghost use Rattle.std.specs.Prelude.{◌≡◌, ◌≤◌, ℕ, true, Result, Err, List};
 ghost use Rattle.alw_msg.specs.declared.events.Entry.{Entry};
 ghost use Rattle.alw_image.specs.declared.parts.Parts.{Parts};
 ghost use Rattle.alw_image.specs.Parameters.{Parameters};
@@ -18,9 +18,16 @@ ghost use Rattle.alw_answers.specs.declared.outputs.Output.{Output};
 ghost use Rattle.alw_answers.specs.declared.outputs.Refusal.{Refusal};
 ghost use Rattle.alw_answers.specs.Outputs.{Gives};
 ghost use Rattle.alw_commands.specs.Auditing.{Audits, IsNoClaim, FindsSound, IsSoundText};
-ghost use Rattle.alw_commands.specs.Forms.{run_text};
+ghost use Rattle.alw_commands.specs.Forms.{run_text, IsTold};
 ghost use Rattle.alw_commands.specs.Replaying.{IsFinishedText, IsRunThatFits, Replays, ReportsTheSame, trace_of};
 ghost use Rattle.alw_commands.specs.Resuming.{IsSomeCheckpoint};
+ghost use Rattle.alw_image.specs.Faults.{image_in};
+ghost use Rattle.alw_model.specs.declared.ends.Ended.TheVariants.{Halted};
+ghost use Rattle.alw_report.specs.Reports.{told_of};
+ghost use Rattle.alw_config.specs.declared.commands.Form.{Form};
+ghost use Rattle.alw_answers.specs.declared.outputs.Ending.TheVariants.{Fine};
+ghost use Rattle.alw_endings.specs.Schedules.{TellsEveryRun};
+ghost use Rattle.alw_commands.specs.Searching.{Searches, TellsReport};
 
 /// A replay reports what the run reported. The trace of a run is accepted, and where its replay is
 /// carried out, the journal and the end are the run's, and so is the report that is written: the text
@@ -50,4 +57,16 @@ pub fn checkpoints_are_resumed()
         IsSomeCheckpoint evict (checkpoint_text trace.image trace.params (kept_by at trace.journal)) }
     ensures unrefused { (bytes : List ℕ) → (evict : ℕ) → (machine : History) → IsCheckpoint bytes evict machine → (fault : RestoreErr) →
         Restores bytes evict (Err fault) → fault ≡ NoMemory }
+{}
+
+/// What `outcomes` tells of an image has whatever a run of it comes to, where the search is complete. For every seed, all
+/// parameters and any number of workers, after each legal journal: where all contexts have halted, an outcome with the
+/// prints by context and the memory of the run's report is told; and the trap of each context that has trapped. So it is
+/// of each output that tells a run of the image, as those of `run`, `replay` and `resume` do.
+pub fn every_schedule_is_told()
+    ensures runs { (bytes : List ℕ) → (searched : Output) → (searches : Searches bytes searched) → searches.told.is_complete ≡ true →
+        (parameters : Parameters) → (form : Form) → (output : Output) → IsTold (image_in bytes) parameters form output → output.ending ≡ Fine →
+        TellsReport (image_in bytes) searches.told (told_of (image_in bytes) parameters output.journal Halted) }
+    ensures journals { (bytes : List ℕ) → (output : Output) → (searches : Searches bytes output) → searches.told.is_complete ≡ true →
+        TellsEveryRun (image_in bytes) searches.told }
 {}

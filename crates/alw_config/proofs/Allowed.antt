@@ -123,6 +123,8 @@ defaults_allowed names.Resume zero l = refl
 defaults_allowed names.Resume (suc zero) l = refl
 defaults_allowed names.Resume (suc (suc zero)) l = refl
 defaults_allowed names.Resume (suc (suc (suc k))) l = absurd (omega arith)
+defaults_allowed names.Outcomes zero l = refl
+defaults_allowed names.Outcomes (suc k) l = absurd (omega arith)
 
 pub few_defaults : (name : Name) → length (defaults_of name) ≤ MOST_CHOICES
 few_defaults names.Asm = omega arith
@@ -133,6 +135,7 @@ few_defaults names.Gen = omega arith
 few_defaults names.Route = omega arith
 few_defaults names.Save = omega arith
 few_defaults names.Resume = omega arith
+few_defaults names.Outcomes = omega arith
 
 pub value_allowed : (name : Name) (chosen : List (Option Made)) (k : ℕ) → ValuesAreAllowed (options_of name) chosen → k < length (defaults_of name)
     → IsTrue (is_allowed (options_of name) k (value_by chosen (defaults_of name) k))

@@ -2,7 +2,7 @@
 use Rattle.std.proofs.Common.{◌≡◌, ℕ, zero, suc, ◌<◌, Bool, true, false, List, [], ◌∷◌, codes, refl, inl, arith}
 use Rattle.std.specs.Prelude.{None, Some}
 use Rattle.std.specs.Fmt.{digits}
-use Rattle.alw_config.specs.declared.commands.Command.TheVariants.{Asm, Run, Replay, Audit, Gen, Route, Save, Resume}
+use Rattle.alw_config.specs.declared.commands.Command.TheVariants.{Asm, Run, Replay, Audit, Gen, Route, Save, Resume, Outcomes}
 use Rattle.alw_config.specs.declared.commands.How.TheVariants.{Seed, Workers}
 use Rattle.alw_config.specs.declared.commands.AsmForm.TheVariants.{Image, Listing}
 use Rattle.alw_config.specs.declared.commands.Form.TheVariants.{Report, Claim}
@@ -102,6 +102,17 @@ saved = refl
 
 resumed : asked (codes "resume" ∷ []) ≡ Some (Resume 0 0 Report)
 resumed = refl
+
+searched : asked (codes "outcomes" ∷ []) ≡ Some (Outcomes 1000000)
+searched = refl
+
+abbrev is_bad_most : List ℕ → Bool
+is_bad_most value = is_bad (codes "outcomes" ∷ codes "--most" ∷ value ∷ []) 2
+
+places : (is_bad_most (codes "0") ≡ true) × (is_bad_most (codes "1") ≡ false) × (is_bad_most (codes "16777216") ≡ false)
+    × (is_bad_most (codes "16777217") ≡ true)
+unfolding digits
+places = (refl, refl, refl, refl)
 
 by_workers : asked (codes "run" ∷ codes "--workers" ∷ codes "256" ∷ [])
     ≡ Some (Run (Workers 256) (record { pointers = 4; sets = 256; limit = 32768; evict = 0 }) Report)

@@ -42,6 +42,10 @@ pub enum Command {
         evict: u8,
         write: Form,
     },
+    /// Searches every order of turns of an image on one memory, up to so many places.
+    Outcomes {
+        most: u32,
+    },
 }
 
 /// What an assembled source is written as.

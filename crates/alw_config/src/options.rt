@@ -8,9 +8,9 @@ use crate::commands::{AsmForm, Command, Form, How, WordErr};
 use crate::lookups::row_of;
 use crate::rows::{
     ASM_DEFAULTS, ASM_OPTIONS, AUDIT_DEFAULTS, AUDIT_OPTIONS, GEN_DEFAULTS, GEN_OPTIONS, GEN_RULE,
-    MOST_CHOICES, Made, Meaning, Name, REPLAY_DEFAULTS, REPLAY_OPTIONS, RESUME_DEFAULTS,
-    RESUME_OPTIONS, ROUTE_DEFAULTS, ROUTE_OPTIONS, RUN_DEFAULTS, RUN_OPTIONS, Row, Rule,
-    SAVE_DEFAULTS, SAVE_OPTIONS, Value,
+    MOST_CHOICES, Made, Meaning, Name, OUTCOMES_DEFAULTS, OUTCOMES_OPTIONS, REPLAY_DEFAULTS,
+    REPLAY_OPTIONS, RESUME_DEFAULTS, RESUME_OPTIONS, ROUTE_DEFAULTS, ROUTE_OPTIONS, RUN_DEFAULTS,
+    RUN_OPTIONS, Row, Rule, SAVE_DEFAULTS, SAVE_OPTIONS, Value,
 };
 use alw_image::Params;
 
@@ -96,6 +96,7 @@ impl Name {
             Name::Route => &ROUTE_OPTIONS,
             Name::Save => &SAVE_OPTIONS,
             Name::Resume => &RESUME_OPTIONS,
+            Name::Outcomes => &OUTCOMES_OPTIONS,
         }
     }
 
@@ -113,6 +114,7 @@ impl Name {
             Name::Route => &ROUTE_DEFAULTS,
             Name::Save => &SAVE_DEFAULTS,
             Name::Resume => &RESUME_DEFAULTS,
+            Name::Outcomes => &OUTCOMES_DEFAULTS,
         }
     }
 
@@ -184,6 +186,9 @@ impl Name {
                 seed: self.value(chosen, 0).number(),
                 evict: self.value(chosen, 1).number() as u8,
                 write: self.value(chosen, 2).form(),
+            },
+            Name::Outcomes => Command::Outcomes {
+                most: self.value(chosen, 0).number() as u32,
             },
         }
     }

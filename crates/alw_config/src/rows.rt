@@ -17,6 +17,7 @@ pub(crate) enum Name {
     Route,
     Save,
     Resume,
+    Outcomes,
 }
 
 // What an option stands for. A command leaves choices, numbered from 0: an option makes one of them, by a
@@ -75,7 +76,7 @@ pub(crate) struct Rule {
 pub(crate) const MOST_CHOICES: usize = 6;
 
 // The commands, by their names.
-pub(crate) const COMMANDS: [Row<Name>; 8] = [
+pub(crate) const COMMANDS: [Row<Name>; 9] = [
     (b"asm", Name::Asm),
     (b"run", Name::Run),
     (b"replay", Name::Replay),
@@ -84,6 +85,7 @@ pub(crate) const COMMANDS: [Row<Name>; 8] = [
     (b"route", Name::Route),
     (b"save", Name::Save),
     (b"resume", Name::Resume),
+    (b"outcomes", Name::Outcomes),
 ];
 
 // What an assembled source is written as.
@@ -295,3 +297,14 @@ pub(crate) const RESUME_DEFAULTS: [Value; 3] = [
     Value::Number(0),
     Value::Form(Form::Report),
 ];
+
+// The options of `outcomes`, and what it chooses where no option does.
+pub(crate) const OUTCOMES_OPTIONS: [Row<Meaning>; 1] = [(
+    b"--most",
+    Meaning {
+        choice: 0,
+        kind: Kind::Between(1, 16_777_216),
+    },
+)];
+
+pub(crate) const OUTCOMES_DEFAULTS: [Value; 1] = [Value::Number(1_000_000)];

@@ -20,3 +20,6 @@ returns-in-Save c = rw c.in-Save.is c.save_bytes.ensures
 
 pub returns-in-Resume : goal.returns-in-Resume
 returns-in-Resume c = rw c.in-Resume.is c.resume.ensures
+
+pub returns-in-Outcomes : goal.returns-in-Outcomes
+returns-in-Outcomes c = rw c.in-Outcomes.is c.search_bytes.ensures

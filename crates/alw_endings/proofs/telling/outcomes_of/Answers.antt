@@ -1,0 +1,22 @@
+-- What a search has found is told, each ending once.
+use Rattle.std.proofs.Common.{ℕ, List, map, sym, ap, ◌∙◌, subst}
+use Rattle.std.specs.Prelude.{IsTrue}
+use Rattle.alw_outcomes.specs.Outcomes.{HasEvery}
+use Rattle.alw_outcomes.specs.Explored.{Found, found_in, endings_in, trap_of, IsReal}
+use Rattle.alw_outcomes.specs.Endings.{halt_at}
+use Rattle.alw_outcomes.specs.declared.explored.Trapped.{Trapped}
+use Rattle.alw_endings.proofs.Told.{are_outcomes}
+use Rattle.alw_endings.proofs.telling.outcomes_of.Goals as goal
+
+pub traps_of-requires-clause-real : goal.traps_of-requires-clause-real
+traps_of-requires-clause-real c = subst (λ (f : Found). IsReal c.args.image.now f) (sym c.in_ok-stuck.ensures.same) c.in_ok-found.ensures.real
+
+pub returns : goal.returns
+returns c =
+    are_outcomes c.args.image.now (found_in c.stuck_run.new.found) c.in_ok-endings.endings _
+    (c.in_ok-halts.ensures.told ∙ ap (λ (ends : List ℕ). map (halt_at (found_in c.stuck_run.new.found)) ends) c.deref.ensures.value)
+    (c.in_ok-traps.ensures.told ∙ ap (λ (turns : List Trapped). map trap_of turns) c.deref-2.ensures.value) c.in_ok-endings.ensures.different
+    (record { width = c.width.ensures; height = c.height.ensures; contexts = c.contexts.ensures; per_node = c.per_node.ensures })
+    c.in_ok-halts.ensures.each c.in_ok-traps.ensures.each
+    (subst (λ (f : Found). IsTrue c.in_ok-found.found.is_complete → HasEvery c.args.image.now (endings_in f)) (sym c.in_ok-stuck.ensures.same) c.in_ok-found.ensures.complete)
+    c.in_ok-stuck.ensures.stuck
