@@ -210,9 +210,14 @@ def drawn_pauses(shape, draws):
     return pauses
 
 
-def source(shape, placement, number):
-    """The SPARC source of a shape in a placement. From its number is drawn how long a thread pauses before each statement."""
-    draws = random.Random(f'{shape.name} {placement.name} {number}')
+def no_pauses(shape):
+    """No pause before any statement."""
+    return [[0] * len(thread) for thread in shape.threads]
+
+
+def source(shape, placement, number=None):
+    """The SPARC source of a shape in a placement. From its number is drawn how long a thread pauses before each statement: without one it doesn't."""
+    pauses = no_pauses(shape) if number is None else drawn_pauses(shape, random.Random(f'{shape.name} {placement.name} {number}'))
     addresses = {name: SHARED + PLACES.index(name) * placement.stride for name in names_of(shape) if name in PLACES}
     last_line, nodes = (max(addresses.values()) - SHARED) // 16, nodes_of(shape, placement)
     lines = [f'! {shape.name}: {shape.about}', f'! {placement.name}: {placement.about}', code(f'.mesh {nodes},1'),
@@ -220,8 +225,8 @@ def source(shape, placement, number):
     for thread in range(len(shape.threads)):
         lines.append(code(f'.start {thread // placement.slots},{thread % placement.slots},thread{thread}'))
     lines += [code(f'.always {line}') for line in range(last_line + 1) if placement.always]
-    for index, (thread, pauses) in enumerate(zip(shape.threads, drawn_pauses(shape, draws))):
-        lines += thread_lines(index, thread, placement, addresses, pauses)
+    for index, (thread, own) in enumerate(zip(shape.threads, pauses)):
+        lines += thread_lines(index, thread, placement, addresses, own)
     return '\n'.join(lines) + '\n'
 
 
