@@ -1,7 +1,8 @@
 """What the launcher says below a refusal of the program: explain.py STATUS LINE PLACE WORDS..
 
-STATUS is 2 for refused words and 3 for a refused input, LINE is what the program wrote to standard error, PLACE is where standard input stood before it read,
-as far as that is known, and WORDS are the program's words. Writes the lines that say more, or none. Standard input is read again where it is a regular file.
+STATUS is 2 for refused words, 3 for a refused input and 8 for want of memory, LINE is what the program wrote to standard error, PLACE is where
+standard input stood before it read, as far as that is known, and WORDS are the program's words. Writes the lines that say more, or none. Standard
+input is read again where it is a regular file.
 The words that the program has are in words.json, beside this file.
 """
 import json
@@ -271,6 +272,17 @@ def of_input(reason, words, data):
         yield of_entry(number, data)
 
 
+# ---- want of memory
+
+
+def of_memory(words):
+    """What takes less memory: a search keeps its places."""
+    if words[:1] != ['outcomes']:
+        return None
+    most = words[words.index('--most') + 1] if '--most' in words else COMMANDS['outcomes']['options'][0]['default']
+    return f'a search keeps each place that it finds, at most those of --most {most}: with a smaller number it stops before'
+
+
 # ---- the call
 
 
@@ -289,6 +301,8 @@ def explanations(status, line, place, words):
     word = re.fullmatch(r'alewife: word (\d+) refused', line)
     if status == '2' and word:
         yield of_word(int(word[1]), words)
+    if status == '8':
+        yield of_memory(words)
     reason = re.fullmatch(r'alewife: input refused: (.*)', line)
     if status == '3' and reason and words:
         yield from of_input(reason[1], words, read_again(place))
