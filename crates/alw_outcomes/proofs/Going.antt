@@ -1,5 +1,5 @@
 -- What one context's turn adds to what was found.
-use Rattle.std.proofs.Common.{◌≡◌, ℕ, ◌+◌, ◌<◌, Bool, false, List, [], ◌∷◌, ◌++◌, length, IsTrue, sym, ap, ◌∙◌, subst}
+use Rattle.std.proofs.Common.{◌≡◌, ℕ, ◌+◌, ◌<◌, Bool, true, false, List, [], ◌∷◌, ◌++◌, length, IsTrue, refl, sym, ap, ◌∙◌, subst}
 use Rattle.alw_image.specs.declared.parts.Parts.{Parts}
 use Rattle.alw_image.specs.Images.{context_count}
 use Rattle.alw_msg.specs.Statuses.{is_ready}
@@ -15,11 +15,11 @@ use Rattle.alw_outcomes.specs.Pools.{thread_in, AreIn, GoOn}
 use Rattle.alw_outcomes.specs.Leads.{IsTrapOf, IsGoing, IsLead}
 use Rattle.alw_outcomes.specs.declared.remembered.Known.{Known}
 use Rattle.alw_outcomes.specs.Remembered.{NotesOne, IsLeadOf, AreLeads}
-use Rattle.alw_outcomes.specs.Explored.{Found, Adds, GoesTo, HasFirst, HasTurn, IsReal, IsStored, row_in, place_in, found_in}
+use Rattle.alw_outcomes.specs.Explored.{Found, Adds, GoesTo, IsAlone, HasTurn, IsReal, IsStored, row_in, place_in, found_in}
 use Rattle.alw_outcomes.proofs.Storing.{number_place, memory_inside, row_inside, place_grows, places_grow, stored_grows}
 use Rattle.alw_outcomes.proofs.Leading.{inside_grows, thread_grows}
 use Rattle.alw_outcomes.proofs.Remembering.{leads_grow, lead_noted}
-use Rattle.alw_outcomes.proofs.Steps.{IsTurnAdded, turn_idle, led_to, turn_led, first_led, trap_added, break_added, goes_refl}
+use Rattle.alw_outcomes.proofs.Steps.{IsTurnAdded, turn_idle, led_to, turn_led, alone_is, trap_added, break_added, goes_refl}
 
 pub found_grows : (parts : Parts) (before after : Explored) → IsStored parts before → GoOn parts before.pools after.pools → after.width ≡ before.width → after.memories.items ≡ before.memories.items → after.rows.items ≡ before.rows.items
     → after.origins.items ≡ before.origins.items → after.halted.items ≡ before.halted.items → after.trapped.items ≡ before.trapped.items → after.broken.items ≡ before.broken.items → found_in after ≡ found_in before
@@ -70,13 +70,23 @@ module _ (parts : Parts) (classes : List Class) (one : Found) (two : Explored) (
   pub trap_done : (pc tt' : ℕ) (trapped : List Trapped) → IsTrapOf parts classes context (thread_at (place_in two at) context) pc tt' → trapped ≡ two.trapped.items ++ record { at = at; context = context; pc = pc; tt = tt' } ∷ [] → IsDone parts classes one (record (found_in two) { trapped = trapped }) at context
   trap_done pc tt' trapped is pushed = done (record (found_in two) { trapped = trapped }) (trap_added parts classes (found_in two) at context pc (place_in two at) tt' trapped (number_place two at within) real_two is pushed)
 
+  pub alone_done : (to : Numbers) (more : ℕ) (first : Bool) → context < context_count parts → IsGoing parts classes context (thread_at (place_in two at) context) two.pools to more first → IsTrue first → IsAlone parts classes (found_in two) at context
+  alone_done to more first exists is yes' = alone_is parts classes (found_in two) at context (place_in two at) (number_place two at within) real_two exists (is.first_is yes')
+
   module _ (to : Numbers) (more : ℕ) (first : Bool) (three : Found) (exists : context < context_count parts) (is : IsGoing parts classes context (thread_at (place_in two at) context) two.pools to more first)
-      (adds : Adds (found_in two) three (with_thread (place_in two at) context (thread_in two.pools to)) (record { from = at; context = context; turns = more + 1 })) where
-    pub going_done : IsDone parts classes one three at context
-    going_done = record {
+      (kept : Bool) (added : IsTrue kept → Adds (found_in two) three (with_thread (place_in two at) context (thread_in two.pools to)) (record { from = at; context = context; turns = more + 1 })) (full : kept ≡ false → three ≡ found_in two) where
+    going_done : IsTrue kept → IsDone parts classes one three at context
+    going_done yes' = let adds = added yes' in record {
       goes = from_one three (led_to parts classes (found_in two) three at context more (place_in two at) (thread_in two.pools to) (number_place two at within) real_two exists is.goes is.chain.private is.chain.end adds).goes;
       turn = turn_led parts classes (found_in two) three at context more (place_in two at) (thread_in two.pools to) (number_place two at within) real_two exists is.goes is.chain.private is.chain.end adds;
     }
 
-    pub first_done : IsTrue first → HasFirst parts classes three at
-    first_done yes' = first_led parts classes (found_in two) three at context more (place_in two at) (thread_in two.pools to) (number_place two at within) real_two exists is.goes is.chain.private is.chain.end adds (is.first_is yes')
+    pub kept_turn : IsTrue kept → HasTurn parts classes three at context
+    kept_turn yes' = (going_done yes').turn
+
+    pub kept_goes : GoesTo parts one three
+    kept_goes = go kept refl
+      where
+        go : (b : Bool) → kept ≡ b → GoesTo parts one three
+        go true e = (going_done e).goes
+        go false e = subst (GoesTo parts one) (sym (full e)) goes_same

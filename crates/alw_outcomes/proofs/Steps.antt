@@ -9,11 +9,11 @@ use Rattle.alw_image.specs.declared.parts.Parts.{Parts}
 use Rattle.alw_image.specs.Images.{context_count}
 use Rattle.alw_flat.proofs.Turns.{ready_exists}
 use Rattle.alw_model.specs.Flat.{context_at}
-use Rattle.alw_outcomes.specs.Places.{Place, place_turn, places_after, outcome_at, traps, IsReadyAt, IsRun, HasSizes}
+use Rattle.alw_outcomes.specs.Places.{Place, place_turn, places_after, outcome_at, traps, IsForward, IsReadyAt, IsRun, HasSizes}
 use Rattle.alw_outcomes.specs.Outcomes.{Ending, Halts, Traps, all_halted, EndsIn, ComesTo}
 use Rattle.alw_outcomes.specs.declared.classes.Class.{Class}
-use Rattle.alw_outcomes.specs.Sharing.{is_allowed, need_at, HasNext, HasPrivateNext}
-use Rattle.alw_outcomes.specs.Explored.{Found, IsAmong, IsHeld, PrivateTurns, place_turns, HasHalted, HasTrapped, IsListed, IsBroken, IsReal, IsFull, IsExpanded, IsClosed, Grows, IsTurnFound, Adds, GoesTo, HasFirst, HasTurn, TellsHalt, HasFull, HasExpanded}
+use Rattle.alw_outcomes.specs.Sharing.{is_allowed, need_at, IsPrivate, HasNext, HasPrivateNext}
+use Rattle.alw_outcomes.specs.Explored.{Found, IsAmong, IsHeld, PrivateTurns, place_turns, HasHalted, HasTrapped, IsListed, IsBroken, IsReal, IsFull, IsExpanded, IsClosed, Grows, IsTurnFound, Adds, GoesTo, IsAlone, HasFirst, HasTurn, TellsHalt, HasFull, HasExpanded}
 use Rattle.alw_outcomes.specs.declared.explored.Trapped.{Trapped}
 use Rattle.alw_outcomes.specs.declared.classes.Broken.{Broken}
 use Rattle.alw_outcomes.proofs.Finding.{same_member, grows_refl, grows_trans, turn_grows, expanded_grows, adds_is, halt_listed, trap_listed, break_listed, sizes_found}
@@ -92,11 +92,12 @@ module _ (parts : Parts) (classes : List Class) (before after : Found) (at conte
       at_number parts classes after at context here (led.goes.grows.places at here there)
       (record { next = λ _. led.held; trap = λ pc tt' ends. absurd (false≢true (sym on.on.no_trap ∙ ap traps ends.1)); kept = λ breaks. absurd (false≢true (sym breaks.broken ∙ on.allowed)) })
 
-  pub first_led : ThreadPrivate parts classes context (thread_at here context) → HasFirst parts classes after at
-  first_led first place e =
-      let led = led_to in
-      let has : HasPrivateNext parts classes (IsHeld parts classes (IsAmong after.places)) here = record { context = context; private = private_at parts classes context exists here first; forward = forward_at parts classes context exists here sizes first; next = led.held } in
-      subst (λ (p : Place). HasPrivateNext parts classes (IsHeld parts classes (IsAmong after.places)) p) (same_member after.places at here place (led.goes.grows.places at here there) e) has
+-- a private turn, as its own context sees it
+pub alone_is : (parts : Parts) (classes : List Class) (found : Found) (at context : ℕ) (here : Place) → slice_get found.places at ≡ Some here → IsReal parts found → context < context_count parts → ThreadPrivate parts classes context (thread_at here context) → IsAlone parts classes found at context
+alone_is parts classes found at context here there real exists first place e =
+    let sizes = sizes_found parts found real at here there in
+    let is : IsPrivate parts classes here context × IsForward parts here context = (private_at parts classes context exists here first, forward_at parts classes context exists here sizes first) in
+    subst (λ (p : Place). IsPrivate parts classes p context × IsForward parts p context) (same_member found.places at here place there e) is
 
 pub same_type : (one two : ℕ) → Trap one ≡ Trap two → one ≡ two
 same_type one two e = cc
@@ -184,6 +185,15 @@ within_grows before after at within grows = let m = some_member before.places at
 pub turn_stays : (parts : Parts) (classes : List Class) (one two : Found) (at context : ℕ) (here : Place) → slice_get one.places at ≡ Some here → GoesTo parts one two → HasTurn parts classes one at context → HasTurn parts classes two at context
 turn_stays parts classes one two at context here there goes has =
     at_number parts classes two at context here (goes.grows.places at here there) (turn_grows parts classes one two goes.grows here context (has here there))
+
+-- a private turn leads to a place that is found
+pub first_led : (parts : Parts) (classes : List Class) (before after : Found) (at context : ℕ) → at < length before.places → GoesTo parts before after → IsAlone parts classes before at context → HasTurn parts classes after at context → HasFirst parts classes after at
+first_led parts classes before after at context within goes alone turn place e =
+    let m = some_member before.places at within in
+    let there = goes.grows.places at m.0 m.1 in
+    let is = alone m.0 m.1 in
+    let has : HasPrivateNext parts classes (IsHeld parts classes (IsAmong after.places)) m.0 = record { context = context; private = is.0; forward = is.1; next = (turn m.0 there).next is.0.goes } in
+    subst (λ (p : Place). HasPrivateNext parts classes (IsHeld parts classes (IsAmong after.places)) p) (same_member after.places at m.0 place there e) has
 
 -- one context's turn more
 pub turns_more : (parts : Parts) (classes : List Class) (one two : Found) (at past : ℕ) → at < length one.places → GoesTo parts one two → ((context : ℕ) → context < past → HasTurn parts classes one at context) → HasTurn parts classes two at past → (context : ℕ) → context < past + 1 → HasTurn parts classes two at context

@@ -194,6 +194,10 @@ pub record GoesTo (parts : Parts) (before after : Found) : Type 0 where
   pub real : IsReal parts after
   pub grows : Grows before after
 
+-- the context's turn at the place with this number is private, and goes forward
+abbrev pub IsAlone : Parts → List Class → Found → ℕ → ℕ → Type 0
+IsAlone parts classes found at context = (place : Place) → slice_get found.places at ≡ Some place → IsPrivate parts classes place context × IsForward parts place context
+
 -- from the place with this number a private turn is found
 abbrev pub HasFirst : Parts → List Class → Found → ℕ → Type 0
 HasFirst parts classes found at = (place : Place) → slice_get found.places at ≡ Some place → HasPrivateNext parts classes (IsHeld parts classes (IsAmong found.places)) place

@@ -1,4 +1,4 @@
-ghost use Rattle.std.specs.Prelude.{◌≡◌, ◌<◌, ◌≤◌, ◌+◌, ◌*◌, ◌++◌, ◌∷◌, [], length, map, take, drop, replicate, slice_get, slice_set, slice_index_or, ℕ, Some, true, IfOk, IfSome, OnOk, IsTrue};
+ghost use Rattle.std.specs.Prelude.{◌≡◌, ◌<◌, ◌≤◌, ◌+◌, ◌*◌, ◌++◌, ◌∷◌, [], length, map, take, drop, replicate, slice_get, slice_set, slice_index_or, ℕ, Some, true, false, IfOk, IfSome, OnOk, IsTrue};
 ghost use Rattle.std.specs.List.{range_with_len};
 ghost use Rattle.alw_image.specs.Images.{line_count, context_count};
 ghost use Rattle.alw_model.specs.Flat.{context_start};
@@ -9,7 +9,7 @@ ghost use Rattle.alw_outcomes.specs.Threads.{thread_at, with_thread};
 ghost use Rattle.alw_outcomes.specs.Pools.{context_of, no_seat, thread_in, AreIn};
 ghost use Rattle.alw_msg.specs.Statuses.{is_halted};
 ghost use Rattle.alw_outcomes.specs.Leads.{IsLead};
-ghost use Rattle.alw_outcomes.specs.Explored.{found_in, place_in, places_in, row_in, endings_in, halted_in, IsStored, IsRow, AreAtStart, IsReal, IsClosed, LeadsTo, Adds, GoesTo, HasFirst, HasTurn, TellsHalt, HasFull, HasExpanded};
+ghost use Rattle.alw_outcomes.specs.Explored.{found_in, place_in, places_in, row_in, endings_in, halted_in, IsStored, IsRow, AreAtStart, IsReal, IsClosed, LeadsTo, Adds, GoesTo, IsAlone, HasTurn, TellsHalt, HasFull, HasExpanded};
 
 use crate::classes::{Broken, Class};
 use crate::leads::{Lead, lead_of};
@@ -51,11 +51,12 @@ pub enum Search {
     Whole,
 }
 
-/// What a search has found: its hint, pools, leads, and of each place the number of its memory, those of
-/// its contexts, and where it came from.
+/// What a search has found: how many places it may keep, its hint, pools, leads, and of each place the
+/// number of its memory, those of its contexts, and where it came from.
 #[derive(Debug, Drop)]
 pub struct Explored {
     pub width: u32,
+    pub most: u32,
     pub search: Search,
     pub classes: Vec<Class>,
     pub pools: Pools,
@@ -71,7 +72,7 @@ pub struct Explored {
 }
 
 // Finds every outcome of an image, or stops as incomplete where a turn doesn't keep to the hint, or
-// once it has gone on from so many places.
+// where it would keep more places than it may.
 pub(crate) fn explore_by(
     alloc: Global,
     image: &Image,
@@ -84,20 +85,35 @@ pub(crate) fn explore_by(
     ensures closed { IfOk result (λ found. IsTrue found.is_complete → IsClosed image.now found.classes.items (found_in found)) }
     ensures complete { IfOk result (λ found. IsTrue found.is_complete → HasEvery image.now (endings_in (found_in found))) }
 {
-    let mut found = start(alloc, image, classes, search)?;
+    let mut found = start(alloc, image, classes, most, search)?;
+    let is_complete = expand_all(image, &mut found, most)?;
+    found.is_complete = is_complete;
+    Ok(found)
+}
+
+// Goes on from each place, and says whether all that there is was found.
+fn expand_all(image: &Image, found: &mut Explored, most: u32) -> Result<bool, NoMemory>
+    requires stored { IsStored image.now found.old }
+    requires real { IsReal image.now (found_in found.old) }
+    ensures stored { OnOk result (IsStored image.now found.new) }
+    ensures real { OnOk result (IsReal image.now (found_in found.new)) }
+    ensures closed { IfOk result (λ all. IsTrue all → IsClosed image.now found.new.classes.items (found_in found.new)) }
+{
     for next in 0..most {
         if !found.broken.is_empty() {
-            found.is_complete = false;
-            return Ok(found);
+            return Ok(false);
         }
         if next as usize >= found.memories.len() {
-            found.is_complete = true;
-            return Ok(found);
+            return Ok(true);
         }
-        expand(image, &mut found, next)?;
+        if !expand(image, found, next)? {
+            return Ok(false);
+        }
     }
-    found.is_complete = false;
-    Ok(found)
+    if found.memories.len() > most as usize {
+        return Ok(false);
+    }
+    Ok(found.broken.is_empty())
 }
 
 /// The contexts that take turns, one after the other, from the start to a place.
@@ -138,6 +154,7 @@ fn start(
     alloc: Global,
     image: &Image,
     classes: &[Class],
+    most: u32,
     search: Search,
 ) -> Result<Explored, NoMemory>
     ensures stored { IfOk result (λ found. IsStored image.now found) }
@@ -158,6 +175,7 @@ fn start(
     })?;
     Ok(Explored {
         width: contexts_of(image),
+        most,
         search,
         classes: classes.to_vec(alloc)?,
         pools,
@@ -219,20 +237,27 @@ fn status_of(start: Option<u32>) -> Status
 }
 
 // Goes on from a place: by a private turn alone where there is one, and else by the turns of all contexts.
-fn expand(image: &Image, found: &mut Explored, at: u32) -> Result<(), NoMemory>
+// It answers whether it could keep all places that they lead to.
+fn expand(image: &Image, found: &mut Explored, at: u32) -> Result<bool, NoMemory>
     requires at { at < length found.old.memories.items }
     requires stored { IsStored image.now found.old }
     requires real { IsReal image.now (found_in found.old) }
     ensures stored { OnOk result (IsStored image.now found.new) }
     ensures goes { OnOk result (GoesTo image.now (found_in found.old) (found_in found.new)) }
     ensures hint { OnOk result (found.new.classes.items ≡ found.old.classes.items) }
-    ensures expanded { OnOk result (HasExpanded image.now found.new.classes.items (found_in found.new) at) }
+    ensures expanded { IfOk result (λ kept. IsTrue kept → HasExpanded image.now found.new.classes.items (found_in found.new) at) }
 {
-    if goes_alone(image, found, at)? {
-        return Ok(());
+    let alone = first_alone(image, found, at)?;
+    match alone {
+        Some(context) => {
+            let kept = add_turn(image, found, at, context)?;
+            Ok(kept)
+        }
+        None => {
+            let kept = add_turns(image, found, at)?;
+            Ok(kept)
+        }
     }
-    goes_all(image, found, at)?;
-    Ok(())
 }
 
 // A private turn of a context is looked for. Behind each turn those of its context are taken at once, so
@@ -244,42 +269,69 @@ fn may_go_alone(found: &Explored, at: u32) -> bool {
     }
 }
 
-// Goes on by a private turn of the first context that has one.
-fn goes_alone(image: &Image, found: &mut Explored, at: u32) -> Result<bool, NoMemory>
+// The first context with a private turn, where one is looked for.
+fn first_alone(image: &Image, found: &mut Explored, at: u32) -> Result<Option<u32>, NoMemory>
     requires at { at < length found.old.memories.items }
     requires stored { IsStored image.now found.old }
     requires real { IsReal image.now (found_in found.old) }
     ensures stored { OnOk result (IsStored image.now found.new) }
-    ensures goes { OnOk result (GoesTo image.now (found_in found.old) (found_in found.new)) }
+    ensures same { OnOk result (found_in found.new ≡ found_in found.old) }
     ensures hint { OnOk result (found.new.classes.items ≡ found.old.classes.items) }
-    ensures alone { IfOk result (λ alone. IsTrue alone → HasFirst image.now found.new.classes.items (found_in found.new) at) }
+    ensures memories { OnOk result (found.new.memories.items ≡ found.old.memories.items) }
+    ensures context { IfOk result (λ first. IfSome first (λ context. context < context_count image.now)) }
+    ensures alone { IfOk result (λ first. IfSome first (λ context. IsAlone image.now found.new.classes.items (found_in found.new) at context)) }
 {
     if !may_go_alone(found, at) {
-        return Ok(false);
+        return Ok(None);
     }
     for context in 0..contexts_of(image) {
-        if add_alone(image, found, at, context)? {
-            return Ok(true);
+        if is_alone(image, found, at, context)? {
+            return Ok(Some(context));
         }
     }
-    Ok(false)
+    Ok(None)
+}
+
+// A context's turn is private.
+fn is_alone(image: &Image, found: &mut Explored, at: u32, context: u32) -> Result<bool, NoMemory>
+    requires context { context < context_count image.now }
+    requires at { at < length found.old.memories.items }
+    requires stored { IsStored image.now found.old }
+    requires real { IsReal image.now (found_in found.old) }
+    ensures stored { OnOk result (IsStored image.now found.new) }
+    ensures same { OnOk result (found_in found.new ≡ found_in found.old) }
+    ensures hint { OnOk result (found.new.classes.items ≡ found.old.classes.items) }
+    ensures memories { OnOk result (found.new.memories.items ≡ found.old.memories.items) }
+    ensures alone { IfOk result (λ alone. IsTrue alone → IsAlone image.now found.new.classes.items (found_in found.new) at context) }
+{
+    let lead = lead_at(image, found, at, context)?;
+    match lead {
+        Lead::Goes {
+            to: _,
+            more: _,
+            first,
+        } => Ok(first),
+        _ => Ok(false),
+    }
 }
 
 // Goes on by the turns of all contexts.
-fn goes_all(image: &Image, found: &mut Explored, at: u32) -> Result<(), NoMemory>
+fn add_turns(image: &Image, found: &mut Explored, at: u32) -> Result<bool, NoMemory>
     requires at { at < length found.old.memories.items }
     requires stored { IsStored image.now found.old }
     requires real { IsReal image.now (found_in found.old) }
     ensures stored { OnOk result (IsStored image.now found.new) }
     ensures goes { OnOk result (GoesTo image.now (found_in found.old) (found_in found.new)) }
     ensures hint { OnOk result (found.new.classes.items ≡ found.old.classes.items) }
-    ensures full { OnOk result (HasFull image.now found.new.classes.items (found_in found.new) at) }
+    ensures full { IfOk result (λ kept. IsTrue kept → HasFull image.now found.new.classes.items (found_in found.new) at) }
 {
     for context in 0..contexts_of(image) {
-        add_turn(image, found, at, context)?;
+        if !add_turn(image, found, at, context)? {
+            return Ok(false);
+        }
     }
     tell_halt(image, found, at)?;
-    Ok(())
+    Ok(true)
 }
 
 // Lists a place where all contexts have halted.
@@ -330,8 +382,8 @@ fn seat_halted(seats: &[Seat], at: u32) -> bool
     seats[at as usize].has_halted()
 }
 
-// Finds the place after a private turn of a context, if its turn is one.
-fn add_alone(image: &Image, found: &mut Explored, at: u32, context: u32) -> Result<bool, NoMemory>
+// Finds what a context's turn leads to, and answers whether a place that it leads to could be kept.
+fn add_turn(image: &Image, found: &mut Explored, at: u32, context: u32) -> Result<bool, NoMemory>
     requires context { context < context_count image.now }
     requires at { at < length found.old.memories.items }
     requires stored { IsStored image.now found.old }
@@ -339,38 +391,14 @@ fn add_alone(image: &Image, found: &mut Explored, at: u32, context: u32) -> Resu
     ensures stored { OnOk result (IsStored image.now found.new) }
     ensures goes { OnOk result (GoesTo image.now (found_in found.old) (found_in found.new)) }
     ensures hint { OnOk result (found.new.classes.items ≡ found.old.classes.items) }
-    ensures alone { IfOk result (λ alone. IsTrue alone → HasFirst image.now found.new.classes.items (found_in found.new) at) }
+    ensures turn { IfOk result (λ kept. IsTrue kept → HasTurn image.now found.new.classes.items (found_in found.new) at context) }
 {
     let lead = lead_at(image, found, at, context)?;
     match lead {
-        Lead::Goes { to, more, first } => {
-            if !first {
-                return Ok(false);
-            }
-            add(image, found, at, context, to, more)?;
-            Ok(true)
-        }
-        _ => Ok(false),
-    }
-}
-
-// Finds what a context's turn leads to.
-fn add_turn(image: &Image, found: &mut Explored, at: u32, context: u32) -> Result<(), NoMemory>
-    requires context { context < context_count image.now }
-    requires at { at < length found.old.memories.items }
-    requires stored { IsStored image.now found.old }
-    requires real { IsReal image.now (found_in found.old) }
-    ensures stored { OnOk result (IsStored image.now found.new) }
-    ensures goes { OnOk result (GoesTo image.now (found_in found.old) (found_in found.new)) }
-    ensures hint { OnOk result (found.new.classes.items ≡ found.old.classes.items) }
-    ensures turn { OnOk result (HasTurn image.now found.new.classes.items (found_in found.new) at context) }
-{
-    let lead = lead_at(image, found, at, context)?;
-    match lead {
-        Lead::Idle => Ok(()),
+        Lead::Idle => Ok(true),
         Lead::Breaks { turn } => {
             found.broken.push(turn)?;
-            Ok(())
+            Ok(true)
         }
         Lead::Traps { pc, tt } => {
             found.trapped.push(Trapped {
@@ -379,11 +407,11 @@ fn add_turn(image: &Image, found: &mut Explored, at: u32, context: u32) -> Resul
                 pc,
                 tt,
             })?;
-            Ok(())
+            Ok(true)
         }
         Lead::Goes { to, more, first: _ } => {
-            add(image, found, at, context, to, more)?;
-            Ok(())
+            let kept = add(image, found, at, context, to, more)?;
+            Ok(kept)
         }
     }
 }
@@ -448,7 +476,8 @@ fn row_of(rows: &[u32], width: u32, at: u32) -> &[u32]
     row
 }
 
-// Finds the place at which a context's turns from another lead, which may be found already.
+// Finds the place at which a context's turns from another lead, which may be found already. It answers
+// whether the place is kept: one more than may be kept is left out.
 fn add(
     image: &Image,
     found: &mut Explored,
@@ -456,24 +485,28 @@ fn add(
     context: u32,
     to: Numbers,
     more: u32,
-) -> Result<(), NoMemory>
+) -> Result<bool, NoMemory>
     requires context { context < context_count image.now }
     requires at { at < length found.old.memories.items }
     requires to { AreIn found.old.pools to }
     requires stored { IsStored image.now found.old }
     ensures stored { OnOk result (IsStored image.now found.new) }
     ensures hint { OnOk result (found.new.classes.items ≡ found.old.classes.items) }
-    ensures adds { OnOk result (Adds (found_in found.old) (found_in found.new) (with_thread (place_in found.old at) context (thread_in found.old.pools to)) (record { from = at; context = context; turns = more + 1 })) }
+    ensures adds { IfOk result (λ kept. IsTrue kept → Adds (found_in found.old) (found_in found.new) (with_thread (place_in found.old at) context (thread_in found.old.pools to)) (record { from = at; context = context; turns = more + 1 })) }
+    ensures full { IfOk result (λ kept. kept ≡ false → found_in found.new ≡ found_in found.old) }
 {
     let _parts = image.parts();
-    if more == u32::MAX || found.memories.len() >= 4_294_967_295 {
+    if more == u32::MAX {
         return Err(NoMemory);
     }
     let row = changed_row(found, at, context, to.seat)?;
     let digest = digest_of(to.memory, &row);
     match find_row(found, to.memory, &row, digest) {
-        Some(_at) => return Ok(()),
+        Some(_at) => return Ok(true),
         None => {}
+    }
+    if found.memories.len() >= found.most as usize {
+        return Ok(false);
     }
     found.by_row.add(digest, found.memories.len() as u32)?;
     found.memories.push(to.memory)?;
@@ -483,7 +516,7 @@ fn add(
         context,
         turns: more + 1,
     })?;
-    Ok(())
+    Ok(true)
 }
 
 // The number of the place at which a context's turns from another lead, if the table tells one.

@@ -10,7 +10,8 @@ use alw_num::{Mode, NoMemory};
 use std::alloc::Global;
 
 /// Finds every outcome of an image. It first takes each line for one that nobody writes, and begins
-/// again whenever a turn shows that the line is written by one context, or used by several.
+/// again whenever a turn shows that the line is written by one context, or used by several. It keeps at
+/// most `most` places, and the start, and stops as incomplete where there are more.
 pub fn explore(alloc: Global, image: &Image, most: u32) -> Result<Explored, NoMemory>
     ensures stored { IfOk result (λ found. IsStored image.now found) }
     ensures real { IfOk result (λ found. IsReal image.now (found_in found)) }

@@ -40,6 +40,16 @@ fn a_search_that_stops_is_not_complete(rt: HostRuntime) -> Result<(), Fail> {
     let image = read_image(rt.alloc(), &CROSSING)?;
     let found = explore(rt.alloc(), &image, 10)?;
     assert!(rt; !found.is_complete);
+    assert_eq!(rt; found.memories.len(), 10);
+    Ok(())
+}
+
+// The search is complete where it may keep just as many places as there are.
+#[test]
+fn a_search_of_all_places_is_complete(rt: HostRuntime) -> Result<(), Fail> {
+    let image = read_image(rt.alloc(), &CROSSING)?;
+    let found = explore_whole(rt.alloc(), &image, 193)?;
+    assert!(rt; found.is_complete);
     Ok(())
 }
 

@@ -1,41 +1,18 @@
--- One place more, and all at the end.
-use Rattle.std.proofs.Common.{List, arith, sym, ◌∙◌, subst}
-use Rattle.std.proofs.lemmas.Bool.{eqb-true}
+-- All is found, or it is said that it isn't.
 use Rattle.alw_outcomes.specs.Explored.{found_in, places_in}
-use Rattle.alw_outcomes.proofs.Storing.{places_length}
-use Rattle.alw_outcomes.specs.declared.classes.Class.{Class}
-use Rattle.alw_outcomes.proofs.Steps.{IsExploredTo, explored_more, all_closed, all_listed}
+use Rattle.alw_outcomes.proofs.Steps.{all_listed}
 use Rattle.alw_outcomes.proofs.Listed.{every_contained}
 use Rattle.alw_outcomes.proofs.explored.explore_by.Goals as goal
 
-pub returns-then-next-len-clause-closed : goal.returns-then-next-len-clause-closed
-unfolding places_in
-returns-then-next-len-clause-closed c = λ _.
-    all_closed c.args.image.now c.loop-next.found.classes.items (found_in c.loop-next.found) c.loop-next.next c.loop-next.invariant.explored (omega (arith, c.if-next-len.true, c.len.ensures, places_length c.loop-next.found))
-    (let none = eqb-true _ 0 (sym c.is_empty.ensures ∙ c.if-not-is_empty.false) in omega (arith, none, c.loop-next.found.broken.ok.0))
-
-pub returns-then-next-len-clause-complete : goal.returns-then-next-len-clause-complete
-unfolding places_in
-returns-then-next-len-clause-complete c = λ _. every_contained c.args.image.now (found_in c.loop-next.found) (λ ending comes.
-    all_listed c.args.image.now c.loop-next.found.classes.items (found_in c.loop-next.found) c.loop-next.invariant.explored.real
-    (all_closed c.args.image.now c.loop-next.found.classes.items (found_in c.loop-next.found) c.loop-next.next c.loop-next.invariant.explored (omega (arith, c.if-next-len.true, c.len.ensures, places_length c.loop-next.found))
-    (let none = eqb-true _ 0 (sym c.is_empty.ensures ∙ c.if-not-is_empty.false) in omega (arith, none, c.loop-next.found.broken.ok.0))) ending comes)
-
-pub loop-next-preserved : goal.loop-next-preserved
-loop-next-preserved c = record {
-  explored = explored_more c.args.image.now c.expand.new.found.classes.items (found_in c.loop-next.found) (found_in c.expand.new.found) c.loop-next.next
-      (subst (λ (l : List Class). IsExploredTo c.args.image.now l (found_in c.loop-next.found) c.loop-next.next) (sym c.in_ok-expand.ensures.hint) c.loop-next.invariant.explored) (omega (arith, c.if-next-len.false, c.len.ensures, places_length c.loop-next.found)) c.in_ok-expand.ensures.goes c.in_ok-expand.ensures.expanded;
-  stored = c.in_ok-expand.ensures.stored;
-}
-
-pub returns-then-not-is_empty-clause-real : goal.returns-then-not-is_empty-clause-real
-unfolding places_in
-returns-then-not-is_empty-clause-real c = c.loop-next.invariant.explored.real
-
-pub returns-then-next-len-clause-real : goal.returns-then-next-len-clause-real
-unfolding places_in
-returns-then-next-len-clause-real c = c.loop-next.invariant.explored.real
-
 pub returns-clause-real : goal.returns-clause-real
 unfolding places_in
-returns-clause-real c = c.loop-next.invariant.explored.real
+returns-clause-real c = c.in_ok-is_complete.ensures.real
+
+pub returns-clause-closed : goal.returns-clause-closed
+unfolding places_in
+returns-clause-closed c = c.in_ok-is_complete.ensures.closed
+
+pub returns-clause-complete : goal.returns-clause-complete
+unfolding places_in
+returns-clause-complete c = λ yes'. every_contained c.args.image.now (found_in c.expand_all.new.found)
+    (all_listed c.args.image.now c.expand_all.new.found.classes.items (found_in c.expand_all.new.found) c.in_ok-is_complete.ensures.real (c.in_ok-is_complete.ensures.closed yes'))

@@ -1,7 +1,7 @@
 -- What was found is still found, and what the contexts so far lead to.
 use Rattle.std.proofs.Common.{◌≡◌, ℕ, ◌<◌}
 use Rattle.alw_outcomes.specs.Explored.{found_in, GoesTo, HasTurn, IsStored}
-use Rattle.alw_outcomes.proofs.explored.goes_all.Given as goal
+use Rattle.alw_outcomes.proofs.explored.add_turns.Given as goal
 
 abbrev pub invariant-loop-context : goal.invariant-loop-context
 invariant-loop-context l = record {
