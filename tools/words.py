@@ -54,7 +54,7 @@ PHRASES = {
     'route': {'--seed': 'the number that the order of hops is drawn from'},
     'save': {'--at': 'the greatest stamp that is kept'},
     'resume': {'--seed': ORDER, '--evict': EVICT, '--write': FORM},
-    'outcomes': {'--most': 'the places that turns are taken from at most'},
+    'outcomes': {'--most': 'the places that are kept at most'},
 }
 OWN = {
     '--unproved': ('WORDS..', 'the same by a build that nothing is proved of'),
