@@ -1,5 +1,5 @@
-use crate::{Explored, Stuck, endings_of, explore, explore_whole, stuck_of, turns_to, words_at};
-use alw_image::{Image, read_image};
+use crate::{Stuck, explore, explore_whole, stuck_of, turns_to};
+use alw_image::read_image;
 use std::test::Fail;
 
 // Two nodes: each stores 1 into a word of its own, then loads and prints the other's word.
@@ -63,28 +63,6 @@ fn two_turns_lead_to_the_fourth_place(rt: HostRuntime) -> Result<(), Fail> {
         assert_eq!(rt; turns.len(), 2);
         assert!(rt; turns.iter().all(|context| *context == 0));
     }
-    Ok(())
-}
-
-// The words that both contexts print at the ends, in the ends' order, a digit each.
-fn prints(rt: &HostRuntime, image: &Image, found: &Explored) -> Result<Vec<u32>, Fail> {
-    let mut all = Vec::new(rt.alloc());
-    let endings = endings_of(rt.alloc(), image, found)?;
-    for at in &endings.ends {
-        for context in 0..2 {
-            all.extend_from_slice(&words_at(rt.alloc(), image, found, *at, context)?)?;
-        }
-    }
-    Ok(all)
-}
-
-// The ends ascend by the first context's prints, and then by the second's.
-#[test]
-fn ends_ascend_by_prints(rt: HostRuntime) -> Result<(), Fail> {
-    let image = read_image(rt.alloc(), &CROSSING)?;
-    let found = explore(rt.alloc(), &image, 1000)?;
-    let all = prints(&rt, &image, &found)?;
-    assert!(rt; all.as_slice() == [0, 1, 1, 0, 1, 1].as_slice());
     Ok(())
 }
 
