@@ -6,8 +6,8 @@ ghost use Rattle.sparc_exec.specs.Runs.{need_with};
 
 use alw_num::{LINE_BYTES, Line, LineNo, Width, lane, line_of, with_lane};
 
-// The width of an access.
-fn width(op3: u8) -> Width
+/// The width of an access.
+pub fn width(op3: u8) -> Width
     ensures { result ≡ width_of op3 }
 {
     match op3 {
@@ -28,7 +28,7 @@ fn bytes(width: Width) -> u32
     }
 }
 
-// Is an op3 of a load, which writes nothing?
+/// Is an op3 of a load, which writes nothing?
 pub fn is_load(op3: u8) -> bool
     ensures { result ≡ is_load op3 }
 {

@@ -37,7 +37,7 @@ fn sign_extend_13(bits: u32) -> u32
     }
 }
 
-// The sum of both operands.
+/// The sum of both operands.
 pub fn address(rs1: u8, operand: Operand, regs: &Regs) -> u32
     requires rs1 { rs1 < 32 }
     requires operand { FitsOperand 13 operand }

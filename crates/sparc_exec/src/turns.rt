@@ -79,10 +79,10 @@ fn mode_for(op3: u8) -> Mode
     }
 }
 
-// The instruction at an address, or the type of the trap that fetching it gives.
+/// The instruction at an address, or the type of the trap that fetching it gives.
 #[tactic(auto, unfolding(sparc_table::specs::Turns::fetched))]
 #[inline(always)]
-fn fetch(code: &[u32], pc: u32) -> Result<Instr, u8>
+pub fn fetch(code: &[u32], pc: u32) -> Result<Instr, u8>
     ensures found { result ≡ fetched code.now pc }
     ensures fits { IfOk result (λ instr. Fits instr) }
 {
