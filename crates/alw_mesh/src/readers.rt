@@ -7,7 +7,7 @@ ghost use Rattle.alw_image.specs.Images.{node_count, line_count, context_count};
 ghost use Rattle.alw_ctx.specs.Residents.{number_of};
 ghost use Rattle.alw_model.specs.Messages.{home_node};
 ghost use Rattle.alw_model.specs.Machine.{is_settled, link_at};
-ghost use Rattle.alw_model.specs.Contexts.{all_halted};
+ghost use Rattle.alw_model.specs.Contexts.{all_halted, running};
 ghost use Rattle.alw_model.specs.Lines.{entry_of, current_value};
 ghost use Rattle.alw_model.specs.Counts.{count_holds};
 ghost use Rattle.alw_model.specs.Flat.{context_at, line_at, AreReady, flat_prints};
@@ -186,6 +186,14 @@ impl Machine {
         ensures { result ≡ (node_in self.now n.0).clock }
     {
         self.mesh.node(n).clock()
+    }
+
+    /// The slot of a node that runs next. None exactly where no slot is Ready.
+    pub fn current(&self, n: NodeNo) -> Option<u8>
+        requires { n.0 < node_count self.now.image }
+        ensures { result ≡ running (node_in self.now n.0).slots (node_in self.now n.0).current }
+    {
+        self.mesh.node(n).current()
     }
 
     /// A node's current slot: the one that ran last.

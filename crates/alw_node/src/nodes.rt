@@ -169,6 +169,13 @@ impl Node {
         self.clock
     }
 
+    /// The slot that runs. None exactly where no slot is Ready.
+    pub fn current(&self) -> Option<u8>
+        ensures { result ≡ running self.now.state.slots self.now.state.current }
+    {
+        self.proc.current()
+    }
+
     /// The current slot: the one that ran last.
     pub fn last(&self) -> u8
         ensures slot { result ≡ self.now.state.current }

@@ -203,6 +203,13 @@ impl Proc {
         self.contexts.count()
     }
 
+    /// The slot that runs. None exactly where no slot is Ready.
+    pub fn current(&self) -> Option<u8>
+        ensures { result ≡ running self.now.slots self.now.current }
+    {
+        self.contexts.current()
+    }
+
     /// The current slot: the one that ran last.
     pub fn last(&self) -> u8
         ensures slot { result ≡ self.now.current }
