@@ -3,7 +3,7 @@ use Rattle.std.specs.Prelude.{ℕ, suc, Bool, true, false, List, [], ◌∷◌, 
 use Rattle.std.specs.Fmt.{decimal}
 use Rattle.std.specs.List.{flat_map}
 use Rattle.alw_text.specs.Numbers.{hex_byte, hex_word}
-use Rattle.alw_report.specs.Reports.{heading, run_line, print_line, word_line, runs_text}
+use Rattle.alw_report.specs.Reports.{heading, sizes_line, run_line, print_line, word_line, runs_text}
 use Rattle.alw_endings.specs.declared.values.Outcomes.{Outcomes}
 use Rattle.alw_endings.specs.declared.values.HaltEnd.{HaltEnd}
 use Rattle.alw_endings.specs.declared.values.TrapEnd.{TrapEnd}
@@ -14,11 +14,6 @@ use Rattle.alw_endings.specs.declared.values.StuckRun.TheVariants.{No, Yes, Unkn
 
 unfoldable pub title : List ℕ
 title = codes "ALEWIFE OUTCOMES 1\n"
-
-unfoldable pub mesh_line : Outcomes → List ℕ
-mesh_line e =
-    codes "mesh " ++ (decimal e.width ++ (codes " " ++ (decimal e.height
-    ++ (codes " contexts " ++ (decimal e.contexts ++ (codes " lines " ++ (decimal e.per_node ++ codes "\n")))))))
 
 unfoldable pub places_line : ℕ → List ℕ
 places_line places = codes "places " ++ (decimal places ++ codes "\n")
@@ -32,7 +27,7 @@ unfoldable pub search_line : Bool → List ℕ
 search_line complete = codes "search " ++ (search_word complete ++ codes "\n")
 
 unfoldable pub head_text : Outcomes → List ℕ
-head_text e = title ++ (mesh_line e ++ (places_line e.places ++ search_line e.is_complete))
+head_text e = title ++ (sizes_line e.width e.height e.contexts e.per_node ++ (places_line e.places ++ search_line e.is_complete))
 
 -- ---- where all contexts have halted
 

@@ -1,11 +1,13 @@
 ghost use Rattle.std.specs.Prelude.{◌≡◌, ◌++◌, IfOk, OnOk};
 ghost use Rattle.std.specs.List.{flat_map};
 ghost use Rattle.alw_report.specs.Reports.{print_line, run_line, word_line};
-ghost use Rattle.alw_endings.specs.Texts.{title, mesh_line, places_line, search_word, search_line, head_text, halt_line, halt_text, halts_from, halts_text, trap_line, trap_place, trap_text, traps_from, traps_text, stuck_answer, stuck_text, lists_text, outcomes_text};
+ghost use Rattle.alw_endings.specs.Texts.{title, places_line, search_word, search_line, head_text, halt_line, halt_text, halts_from, halts_text, trap_line, trap_place, trap_text, traps_from, traps_text, stuck_answer, stuck_text, lists_text, outcomes_text};
 
 use crate::values::{HaltEnd, HaltEnds, Outcomes, StuckRun, TrapEnd, TrapEnds};
 use alw_num::NoMemory;
-use alw_report::{put_heading, put_print_lines, put_run_lines, put_runs, put_word_lines};
+use alw_report::{
+    put_heading, put_print_lines, put_run_lines, put_runs, put_sizes, put_word_lines,
+};
 use alw_text::{Spell, Text, put_number};
 use std::alloc::Global;
 
@@ -27,7 +29,7 @@ fn put_head(text: &mut Text, told: &Outcomes) -> Result<(), NoMemory>
     ensures { OnOk result (text.new ≡ text.old ++ head_text told.now) }
 {
     put_title(text)?;
-    put_mesh(text, told)?;
+    put_sizes(text, told.width, told.height, told.contexts, told.per_node)?;
     put_places(text, told.places)?;
     put_search(text, told.is_complete)?;
     Ok(())
@@ -38,18 +40,6 @@ fn put_title(text: &mut Text) -> Result<(), NoMemory>
     ensures { OnOk result (text.new ≡ text.old ++ title) }
 {
     text.put(b"ALEWIFE OUTCOMES 1\n")
-}
-
-#[tactic(auto, unfolding(crate::specs::Texts::mesh_line))]
-fn put_mesh(text: &mut Text, told: &Outcomes) -> Result<(), NoMemory>
-    ensures { OnOk result (text.new ≡ text.old ++ mesh_line told.now) }
-{
-    put_number(text, b"mesh ", u64::from(told.width))?;
-    put_number(text, b" ", u64::from(told.height))?;
-    put_number(text, b" contexts ", u64::from(told.contexts))?;
-    put_number(text, b" lines ", u64::from(told.per_node))?;
-    text.put(b"\n")?;
-    Ok(())
 }
 
 #[tactic(auto, unfolding(crate::specs::Texts::places_line))]

@@ -1,3 +1,4 @@
+pub mod Names
 pub mod Json
 pub mod Reports
 pub mod Sends

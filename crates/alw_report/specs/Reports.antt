@@ -26,10 +26,11 @@ use Rattle.alw_report.specs.declared.values.Report.{Report}
 unfoldable pub title : List ℕ
 title = codes "ALEWIFE REPORT 1\n"
 
-unfoldable pub mesh_line : Report → List ℕ
-mesh_line r =
-    codes "mesh " ++ (decimal r.width ++ (codes " " ++ (decimal r.height
-    ++ (codes " contexts " ++ (decimal r.contexts ++ (codes " lines " ++ (decimal r.per_node ++ codes "\n")))))))
+-- columns and rows of the mesh, and how many contexts and lines each node has
+unfoldable pub sizes_line : ℕ → ℕ → ℕ → ℕ → List ℕ
+sizes_line width height contexts per_node =
+    codes "mesh " ++ (decimal width ++ (codes " " ++ (decimal height
+    ++ (codes " contexts " ++ (decimal contexts ++ (codes " lines " ++ (decimal per_node ++ codes "\n")))))))
 
 unfoldable pub params_word : List ℕ
 params_word = codes "params pointers "
@@ -72,7 +73,7 @@ hops_line c =
 
 -- the first four lines, and the counts in three
 unfoldable pub head_text : Report → List ℕ
-head_text r = title ++ (mesh_line r ++ (params_line r.params ++ ended_line r.ended))
+head_text r = title ++ (sizes_line r.width r.height r.contexts r.per_node ++ (params_line r.params ++ ended_line r.ended))
 
 unfoldable pub counts_text : Counts → List ℕ
 counts_text c = events_line c ++ (requests_text c ++ (replies_text c ++ hops_line c))

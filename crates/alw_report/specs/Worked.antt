@@ -3,7 +3,7 @@ use Rattle.std.specs.Prelude.{List, [], ◌∷◌, ◌++◌, ℕ, codes}
 use Rattle.std.specs.Fmt.{digits}
 use Rattle.std.specs.List.{flat_map}
 use Rattle.alw_text.specs.Numbers.{hex_digits}
-use Rattle.alw_report.specs.Reports.{title, mesh_line, params_word, params_line, ended_line, events_line, requests_text, replies_text, hops_line, head_text, counts_text, summary_text, states_text, pointers_text, runs_text, prints_text, memory_text, directory_text, lists_text, report_text}
+use Rattle.alw_report.specs.Reports.{title, sizes_line, params_word, params_line, ended_line, events_line, requests_text, replies_text, hops_line, head_text, counts_text, summary_text, states_text, pointers_text, runs_text, prints_text, memory_text, directory_text, lists_text, report_text}
 
 -- lines, each with its LF
 abbrev pub lines_text : List (List ℕ) → List ℕ
@@ -76,7 +76,7 @@ recorded_report = lines_text (
 
 -- To unfold this is to unfold all that a report computes with.
 unfoldable pub closed_reports : Unit {0}
-unfolding digits hex_digits title mesh_line params_word params_line ended_line events_line requests_text replies_text hops_line head_text counts_text
+unfolding digits hex_digits title sizes_line params_word params_line ended_line events_line requests_text replies_text hops_line head_text counts_text
     summary_text states_text pointers_text runs_text prints_text memory_text directory_text lists_text report_text writers_report trap_report
     limit_report recorded_report
 closed_reports = tt

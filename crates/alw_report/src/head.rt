@@ -1,7 +1,7 @@
 ghost use Rattle.std.specs.Prelude.{◌≡◌, ◌++◌, OnOk, IsUtf8};
 ghost use Rattle.std.specs.Fmt.{decimal};
 ghost use Rattle.alw_model.specs.declared.ends.Ended.TheVariants.{Trapped};
-ghost use Rattle.alw_report.specs.Reports.{title, mesh_line, params_word, params_line, ended_text, ended_line, events_line, requests_text, replies_text, hops_line, head_text, counts_text, summary_text};
+ghost use Rattle.alw_report.specs.Reports.{title, sizes_line, params_word, params_line, ended_text, ended_line, events_line, requests_text, replies_text, hops_line, head_text, counts_text, summary_text};
 
 use crate::values::Report;
 use alw_image::Params;
@@ -25,7 +25,13 @@ fn put_head(text: &mut Text, report: &Report) -> Result<(), NoMemory>
     ensures { OnOk result (text.new ≡ text.old ++ head_text report.now) }
 {
     put_title(text)?;
-    put_mesh(text, report)?;
+    put_sizes(
+        text,
+        report.width,
+        report.height,
+        report.contexts,
+        report.per_node,
+    )?;
     put_params(text, &report.params)?;
     put_ended_line(text, &report.ended)?;
     Ok(())
@@ -50,14 +56,21 @@ fn put_title(text: &mut Text) -> Result<(), NoMemory>
     text.put(b"ALEWIFE REPORT 1\n")
 }
 
-#[tactic(auto, unfolding(crate::specs::Reports::mesh_line))]
-fn put_mesh(text: &mut Text, report: &Report) -> Result<(), NoMemory>
-    ensures { OnOk result (text.new ≡ text.old ++ mesh_line report.now) }
+/// Columns and rows of the mesh, and how many contexts and lines each node has.
+#[tactic(auto, unfolding(crate::specs::Reports::sizes_line))]
+pub fn put_sizes(
+    text: &mut Text,
+    width: u8,
+    height: u8,
+    contexts: u8,
+    per_node: u16,
+) -> Result<(), NoMemory>
+    ensures { OnOk result (text.new ≡ text.old ++ sizes_line width height contexts per_node) }
 {
-    put_number(text, b"mesh ", u64::from(report.width))?;
-    put_number(text, b" ", u64::from(report.height))?;
-    put_number(text, b" contexts ", u64::from(report.contexts))?;
-    put_number(text, b" lines ", u64::from(report.per_node))?;
+    put_number(text, b"mesh ", u64::from(width))?;
+    put_number(text, b" ", u64::from(height))?;
+    put_number(text, b" contexts ", u64::from(contexts))?;
+    put_number(text, b" lines ", u64::from(per_node))?;
     text.put(b"\n")?;
     Ok(())
 }
@@ -82,8 +95,9 @@ pub fn put_params(text: &mut Text, params: &Params) -> Result<(), NoMemory>
     Ok(())
 }
 
+/// The line that says how the run ended.
 #[tactic(auto, unfolding(crate::specs::Reports::ended_line))]
-fn put_ended_line(text: &mut Text, ended: &Ended) -> Result<(), NoMemory>
+pub fn put_ended_line(text: &mut Text, ended: &Ended) -> Result<(), NoMemory>
     ensures { OnOk result (text.new ≡ text.old ++ ended_line ended.now) }
 {
     text.put(b"ended ")?;

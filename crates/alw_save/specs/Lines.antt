@@ -3,18 +3,14 @@ use Rattle.std.specs.Prelude.{ℕ, Bool, cond, Option, None, Some, List, [], ◌
 use Rattle.std.specs.Fmt.{decimal}
 use Rattle.std.specs.List.{flat_map}
 use Rattle.alw_num.specs.declared.addresses.Line.{Line}
-use Rattle.alw_num.specs.declared.states.Mode.{Mode}
-use Rattle.alw_num.specs.declared.states.Mode.TheVariants.{Read, Write}
 use Rattle.alw_num.specs.NodeSets.{members}
-use Rattle.alw_text.specs.Numbers.{hex_byte, hex_word}
+use Rattle.alw_text.specs.Numbers.{hex_word}
 use Rattle.sparc_table.specs.declared.registers.Regs.{Regs}
 use Rattle.alw_msg.specs.declared.contexts.Status.{Status}
-use Rattle.alw_msg.specs.declared.contexts.Status.TheVariants.{Ready, Waiting, Halted, Trapped}
-use Rattle.alw_msg.specs.declared.messages.Kind.{Kind}
-use Rattle.alw_msg.specs.declared.messages.Kind.TheVariants as kinds
 use Rattle.alw_msg.specs.declared.messages.Msg.{Msg}
 use Rattle.alw_model.specs.Caches.{Copy, Transaction}
 use Rattle.alw_model.specs.LimitLess.{Directory}
+use Rattle.alw_report.specs.Names.{mode_text, kind_text, status_text}
 use Rattle.alw_report.specs.Reports.{state_text, meta_text}
 use Rattle.alw_text.specs.Pieces.{nodes_text}
 
@@ -28,30 +24,7 @@ spaced_word word = codes " " ++ hex_word word
 unfoldable pub body_text : Line → List ℕ
 body_text body = spaced_word body.a ++ (spaced_word body.b ++ (spaced_word body.c ++ spaced_word body.d))
 
-abbrev pub mode_text : Mode → List ℕ
-mode_text Read = codes "read"
-mode_text Write = codes "write"
-
-abbrev pub kind_text : Kind → List ℕ
-kind_text kinds.RREQ = codes "RREQ"
-kind_text kinds.WREQ = codes "WREQ"
-kind_text kinds.REPM = codes "REPM"
-kind_text kinds.UPDATE = codes "UPDATE"
-kind_text kinds.ACKC = codes "ACKC"
-kind_text kinds.RDATA = codes "RDATA"
-kind_text kinds.WDATA = codes "WDATA"
-kind_text kinds.INV = codes "INV"
-kind_text kinds.BUSY = codes "BUSY"
-
 -- ---- contexts
-
--- what a context does: a hold comes before its status, which is then Ready
-abbrev pub status_text : Option ℕ → Status → List ℕ
-status_text (Some line) status = codes "hold " ++ decimal line
-status_text None Ready = codes "ready"
-status_text None (Waiting line) = codes "wait " ++ decimal line.0
-status_text None Halted = codes "halted"
-status_text None (Trapped pc tt) = codes "trapped " ++ hex_byte tt
 
 -- a condition code
 abbrev pub flag_digit : Bool → ℕ

@@ -1,18 +1,18 @@
-ghost use Rattle.std.specs.Prelude.{◌≡◌, ◌<◌, ◌++◌, OnOk, codes};
+ghost use Rattle.std.specs.Prelude.{◌≡◌, ◌<◌, ◌++◌, OnOk};
 ghost use Rattle.std.specs.List.{flat_map};
 ghost use Rattle.std.specs.Option.{option_map};
-ghost use Rattle.alw_text.specs.Numbers.{hex_byte};
 ghost use Rattle.alw_image.specs.Images.{node_count, context_count};
 ghost use Rattle.alw_ctx.specs.Residents.{number_of};
 ghost use Rattle.alw_mesh.specs.Histories.{state_of};
-ghost use Rattle.alw_save.specs.Lines.{flag_digit, spaced_word, status_text, counters_text, registers_text, context_line};
+ghost use Rattle.alw_save.specs.Lines.{flag_digit, spaced_word, counters_text, registers_text, context_line};
 ghost use Rattle.alw_save.specs.States.{slot_in, slot_text, contexts_text};
 
 use crate::pieces::put_word;
 use alw_mesh::Machine;
 use alw_msg::Status;
 use alw_num::{LineNo, NoMemory, NodeNo};
-use alw_text::{Spell, Text, put_number};
+use alw_report::put_status;
+use alw_text::{Text, put_number};
 use sparc_table::Regs;
 
 /// The contexts of a node, by slot.
@@ -55,30 +55,6 @@ fn put_context(
     put_counters(text, regs)?;
     put_registers(text, regs)?;
     text.put(b"\n")?;
-    Ok(())
-}
-
-// What a context does: a hold comes before its status.
-fn put_status(text: &mut Text, hold: Option<LineNo>, status: Status) -> Result<(), NoMemory>
-    ensures { OnOk result (text.new ≡ text.old ++ status_text (option_map number_of hold) status) }
-{
-    if let Some(line) = hold {
-        return put_number(text, b"hold ", u64::from(line.0));
-    }
-    match status {
-        Status::Ready => text.put(b"ready"),
-        Status::Waiting { line } => put_number(text, b"wait ", u64::from(line.0)),
-        Status::Halted => text.put(b"halted"),
-        Status::Trapped { tt, .. } => put_trap(text, tt),
-    }
-}
-
-// The type of a trap.
-fn put_trap(text: &mut Text, tt: u8) -> Result<(), NoMemory>
-    ensures { OnOk result (text.new ≡ text.old ++ (codes "trapped " ++ hex_byte tt)) }
-{
-    text.put(b"trapped ")?;
-    text.put_hex8(tt)?;
     Ok(())
 }
 

@@ -9,10 +9,11 @@ ghost use Rattle.alw_save.specs.States.{line_at};
 ghost use Rattle.alw_msg.specs.Statuses.{waited};
 ghost use Rattle.alw_save.specs.Waiting.{nearest, lowest_of, waited_at, transaction_of, copy_of};
 
-use crate::pieces::{mode_name, put_body};
+use crate::pieces::put_body;
 use alw_mesh::Machine;
 use alw_msg::Status;
 use alw_num::{Line, LineNo, Mode, NoMemory, NodeNo};
+use alw_report::mode_name;
 use alw_text::{Text, put_number};
 
 /// The transactions of a node, by line: each slot that opened one waits on its line, so that no other lines

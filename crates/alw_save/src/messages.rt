@@ -3,13 +3,14 @@ ghost use Rattle.std.specs.List.{flat_map};
 ghost use Rattle.alw_image.specs.Images.{node_count};
 ghost use Rattle.alw_mesh.specs.Histories.{state_of};
 ghost use Rattle.alw_mesh.specs.Readings.{node_in};
-ghost use Rattle.alw_save.specs.Lines.{kind_text, message_text, packet_line, link_line};
+ghost use Rattle.alw_save.specs.Lines.{message_text, packet_line, link_line};
 ghost use Rattle.alw_save.specs.States.{member_line, link_text, links_from};
 
 use crate::pieces::put_body;
 use alw_mesh::Machine;
-use alw_msg::{Kind, Msg};
+use alw_msg::Msg;
 use alw_num::{NoMemory, NodeNo};
+use alw_report::kind_name;
 use alw_text::{Text, put_number};
 
 /// The packets of a node, in queue order.
@@ -81,21 +82,4 @@ fn put_message(text: &mut Text, msg: &Msg) -> Result<(), NoMemory>
     put_body(text, &msg.body)?;
     text.put(b"\n")?;
     Ok(())
-}
-
-// The name of a kind of message.
-fn kind_name(kind: Kind) -> &'static str
-    ensures { result.now ≡ kind_text kind }
-{
-    match kind {
-        Kind::RREQ => "RREQ",
-        Kind::WREQ => "WREQ",
-        Kind::REPM => "REPM",
-        Kind::UPDATE => "UPDATE",
-        Kind::ACKC => "ACKC",
-        Kind::RDATA => "RDATA",
-        Kind::WDATA => "WDATA",
-        Kind::INV => "INV",
-        Kind::BUSY => "BUSY",
-    }
 }

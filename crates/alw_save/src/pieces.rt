@@ -1,7 +1,7 @@
 ghost use Rattle.std.specs.Prelude.{◌≡◌, ◌++◌, OnOk};
-ghost use Rattle.alw_save.specs.Lines.{spaced_word, body_text, mode_text};
+ghost use Rattle.alw_save.specs.Lines.{spaced_word, body_text};
 
-use alw_num::{Line, Mode, NoMemory};
+use alw_num::{Line, NoMemory};
 use alw_text::{Spell, Text};
 
 /// A word behind a blank.
@@ -23,14 +23,4 @@ pub fn put_body(text: &mut Text, body: &Line) -> Result<(), NoMemory>
     put_word(text, body.c)?;
     put_word(text, body.d)?;
     Ok(())
-}
-
-/// The name of a mode.
-pub fn mode_name(mode: Mode) -> &'static str
-    ensures { result.now ≡ mode_text mode }
-{
-    match mode {
-        Mode::Read => "read",
-        Mode::Write => "write",
-    }
 }

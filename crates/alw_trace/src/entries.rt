@@ -36,7 +36,8 @@ fn put_entry(text: &mut Text, entry: &Entry) -> Result<(), NoMemory>
     Ok(())
 }
 
-fn put_event(text: &mut Text, event: Event) -> Result<(), NoMemory>
+/// An event behind a blank: its letter and what it names; of a delivery the sender comes first.
+pub fn put_event(text: &mut Text, event: Event) -> Result<(), NoMemory>
     ensures { OnOk result (text.new ≡ text.old ++ event_text event) }
 {
     match event {

@@ -21,6 +21,7 @@ mod values;
 mod writing;
 
 pub use claim_reading::read_claim;
+pub use entries::put_event;
 pub use faults::TextErr;
 pub use fronts::{Front, put_front, read_front};
 pub use laws::{claims_are_read_back, traces_are_read_back};

@@ -9,7 +9,8 @@ use Rattle.alw_num.specs.declared.states.Meta.TheVariants.{Normal, Progress, Tra
 use Rattle.alw_msg.specs.declared.messages.Kind.{Kind}
 use Rattle.alw_msg.specs.declared.messages.Kind.TheVariants as kinds
 use Rattle.alw_report.specs.Reports.{state_text, meta_text}
-use Rattle.alw_save.specs.Lines.{mode_text, kind_text, flag_digit}
+use Rattle.alw_report.specs.Names.{mode_text, kind_text}
+use Rattle.alw_save.specs.Lines.{flag_digit}
 use Rattle.law_texts.proofs.Readings.{Tells, chosen, byte_at}
 
 -- a condition code

@@ -5,7 +5,7 @@ use Rattle.alw_text.specs.Numbers.{hex_byte}
 use Rattle.alw_msg.specs.declared.contexts.Status.{Status}
 use Rattle.alw_msg.specs.declared.contexts.Status.TheVariants.{Ready, Waiting, Halted, Trapped}
 use Rattle.alw_trace.specs.Lines.{IsNumber}
-use Rattle.alw_save.specs.Lines.{status_text}
+use Rattle.alw_report.specs.Names.{status_text}
 use Rattle.law_texts.proofs.Readings.{Tells, both, said_as, chosen, byte_at, number, Stops}
 use Rattle.law_texts.proofs.Words.{one_byte}
 

@@ -1,7 +1,7 @@
 -- The digits behind the name.
 use Rattle.std.proofs.Common.{ℕ, List, ◌++◌, codes, ap, ◌∙◌, append_assoc}
 use Rattle.alw_text.specs.Numbers.{hex_byte}
-use Rattle.alw_save.proofs.contexts.put_trap.Goals as goal
+use Rattle.alw_report.proofs.names.put_trap_type.Goals as goal
 
 pub returns : goal.returns
 returns c =
