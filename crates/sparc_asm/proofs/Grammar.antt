@@ -1,5 +1,5 @@
 -- Reading expressions, operands and statements.
-use Rattle.std.proofs.Common.{◌≡◌, true, false, Bool, ℕ, suc, ◌+◌, ◌<◌, ◌≤◌, if◌then◌else◌, List, [], ◌∷◌, ◌++◌, length, take, drop, position, ltb, cond, ⊎_elim, Option, Some, None, refl, sym, ap, ◌∙◌, arith, append_assoc}
+use Rattle.std.proofs.Common.{◌≡◌, true, false, Bool, ℕ, suc, ◌+◌, ◌-◌, ◌<◌, ◌≤◌, if◌then◌else◌, List, [], ◌∷◌, ◌++◌, length, take, drop, position, ltb, cond, ⊎_elim, Option, Some, None, refl, sym, ap, ◌∙◌, arith, append_assoc}
 use Rattle.std.specs.Option.{option_map}
 use Rattle.sparc_asm.specs.declared.lexemes.Lexeme.{Lexeme}
 use Rattle.sparc_asm.specs.declared.statements.Term.{Term}
@@ -7,7 +7,8 @@ use Rattle.sparc_asm.specs.declared.statements.Signed.{Signed}
 use Rattle.sparc_asm.specs.Expressions.{term_of, minus_of, signed, sum_of, expression_of, before_last}
 use Rattle.std.specs.List.{position_or_len}
 use Rattle.std.proofs.lemmas.Bool.{cases_lt, lt-ltb, le-ltb}
-use Rattle.std.proofs.lemmas.List.{append-nil, drop-drop}
+use Rattle.std.proofs.Math.Seq.{take-length}
+use Rattle.std.proofs.lemmas.List.{append-nil, drop-drop, length-drop, length-take-le}
 use Rattle.sparc_asm.specs.Statements.{is_comma, at_comma, value_before, values_of}
 use Rattle.sparc_asm.proofs.Reading.{map_append}
 
@@ -40,6 +41,14 @@ more_terms minus next rest behind after first sign term old new e f is turn push
 
 pub two_off : (rest behind after : List Lexeme) (first sign : Lexeme) → rest ≡ first ∷ behind → behind ≡ sign ∷ after → length rest ≡ length after + 2
 two_off rest behind after first sign e f = omega (arith, ap length e, ap length f)
+
+-- the slice from a place on
+pub rest_at : (lexemes : List Lexeme) (at : ℕ) → take (length lexemes - at) (drop at lexemes) ≡ drop at lexemes
+rest_at lexemes at = sym (ap (λ n. take n (drop at lexemes)) (length-drop at lexemes)) ∙ take-length (drop at lexemes)
+
+-- what stands behind them, by its place
+pub two_on : (lexemes behind after : List Lexeme) (at : ℕ) (first sign : Lexeme) → drop at lexemes ≡ first ∷ behind → behind ≡ sign ∷ after → after ≡ drop (at + 2) lexemes
+two_on lexemes behind after at first sign e f = sym (ap (drop 2) (e ∙ ap (λ xs. first ∷ xs) f)) ∙ drop-drop 2 at lexemes
 
 abbrev Found : List Lexeme → Type 0
 Found lexemes = position_or_len is_comma lexemes < length lexemes → at_comma lexemes ≡ Some (take (position_or_len is_comma lexemes) lexemes, drop (position_or_len is_comma lexemes + 1) lexemes)
@@ -95,6 +104,21 @@ unparted lexemes none = ⊎_elim
     let other = rw is at none in absurd cc)
     (λ l. comma_past lexemes l)
     (cases_lt (position_or_len is_comma lexemes) (length lexemes))
+
+-- what stands behind the first comma, by its place
+behind_comma : (lexemes front behind : List Lexeme) → at_comma lexemes ≡ Some (front, behind) → behind ≡ drop (length front + 1) lexemes
+behind_comma lexemes front behind e = ⊎_elim
+    (λ l. let parts : List Lexeme × List Lexeme = (front, behind) in
+    let found : List Lexeme × List Lexeme = (take (position_or_len is_comma lexemes) lexemes, drop (position_or_len is_comma lexemes + 1) lexemes) in
+    let both : Some parts ≡ Some found = sym e ∙ comma_here lexemes l in
+    let same : parts ≡ found = cc in
+    let size : length front ≡ position_or_len is_comma lexemes = ap (λ (p : List Lexeme × List Lexeme). length p.0) same ∙ length-take-le (position_or_len is_comma lexemes) lexemes (omega (arith, l)) in
+    ap (λ (p : List Lexeme × List Lexeme). p.1) same ∙ ap (λ n. drop (n + 1) lexemes) (sym size))
+    (λ l. let none = comma_past lexemes l in absurd cc)
+    (cases_lt (position_or_len is_comma lexemes) (length lexemes))
+
+pub next_value : (lexemes front behind : List Lexeme) (at : ℕ) → at_comma (drop at lexemes) ≡ Some (front, behind) → behind ≡ drop (at + (length front + 1)) lexemes
+next_value lexemes front behind at e = behind_comma (drop at lexemes) front behind e ∙ drop-drop (length front + 1) at lexemes
 
 values_at-comma : (front lexemes a b : List Lexeme) → at_comma lexemes ≡ Some (a, b) → values_of front lexemes ≡ value_before (expression_of (front ++ a)) (values_of [] b)
 values_at-comma front [] a b e = absurd cc

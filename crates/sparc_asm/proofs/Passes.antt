@@ -2,7 +2,7 @@
 use Rattle.std.proofs.Common.{◌≡◌, true, false, ℕ, ◌+◌, ◌-◌, ◌<◌, ◌≤◌, List, [], ◌∷◌, ◌++◌, length, take, drop, Some, Result, Ok, Err, refl, sym, ap, ◌∙◌, arith, append_assoc, length-append, ⊎_elim, ltb}
 use Rattle.std.specs.List.{position_or_len}
 use Rattle.std.proofs.lemmas.Bool.{cases_lt, lt-ltb, le-ltb}
-use Rattle.std.proofs.lemmas.List.{length-take-le, drop_all}
+use Rattle.std.proofs.lemmas.List.{append-nil, length-take-le, drop_all}
 use Rattle.alw_text.specs.declared.lines.Span.{Span}
 use Rattle.alw_text.specs.Lines.{is_line_feed, lines_of, line_end, next_line}
 use Rattle.alw_text.proofs.Splits.{lines_of-drop}
@@ -78,3 +78,7 @@ refused_counted source from number span old wanted e count is some before answer
 pub start_counted : (source : List ℕ) (none : List Line) → none ≡ [] → read_source source ≡ onto none (read_from source (length none + 1) 0 (lines_of source))
 unfolding read_source
 start_counted source none e = lines_start none (read_from source 1 0 (lines_of source)) e ∙ ap (λ xs. onto none (read_from source (length xs + 1) 0 (lines_of source))) (sym e)
+
+-- no line is left
+pub ended_counted : (source : List ℕ) (from : ℕ) (lines : List Line) → length source ≤ from → read_source source ≡ onto lines (read_from source (length lines + 1) from (lines_of (drop from source))) → read_source source ≡ Ok lines
+ended_counted source from lines end reads = reads ∙ ap (λ xs. onto lines (read_from source (length lines + 1) from (lines_of xs))) (drop_all from source end) ∙ ap Ok (append-nil lines)

@@ -9,14 +9,14 @@ use alw_num::NoMemory;
 use std::alloc::Global;
 
 // A number, a name or the dot.
-fn term_of(alloc: Global, lexeme: &Lexeme) -> Result<Option<Term>, NoMemory>
-    ensures { IfOk result (λ term. term ≡ term_of lexeme.now) }
+fn term_of<'a>(lexeme: &Lexeme<'a>) -> Option<Term<'a>>
+    ensures { result ≡ term_of lexeme.now }
 {
     match lexeme {
-        Lexeme::Number(number) => Ok(Some(Term::Number(*number))),
-        Lexeme::Name(name) => Ok(Some(Term::Name(Name::copied(alloc, name.bytes())?))),
-        Lexeme::Here => Ok(Some(Term::Here)),
-        _ => Ok(None),
+        Lexeme::Number(number) => Some(Term::Number(*number)),
+        Lexeme::Name(name) => Some(Term::Name(Name::of(name.bytes()))),
+        Lexeme::Here => Some(Term::Here),
+        _ => None,
     }
 }
 
@@ -32,32 +32,39 @@ fn minus_of(lexeme: &Lexeme) -> Option<bool>
 }
 
 // A term, and then any number of signs with a term each.
-fn sum_of(alloc: Global, minus: bool, lexemes: &[Lexeme]) -> Result<Option<Expression>, NoMemory>
+fn sum_of<'a>(
+    alloc: Global,
+    minus: bool,
+    lexemes: &[Lexeme<'a>],
+) -> Result<Option<Expression<'a>>, NoMemory>
     requires { length lexemes.now < 2 ^ 32 }
     ensures { IfOk result (λ sum. sum ≡ sum_of minus lexemes.now) }
 {
     let mut terms = Expression::empty(alloc);
     let mut minus = minus;
-    let mut rest = lexemes;
-    while let Some((first, behind)) = rest.split_first() {
-        let Some(term) = term_of(alloc, first)? else {
+    let mut at = 0;
+    while let Some((first, behind)) = lexemes[at..].split_first() {
+        let Some(term) = term_of(first) else {
             return Ok(None);
         };
         terms.push(Signed { minus, term })?;
-        let Some((sign, after)) = behind.split_first() else {
+        let Some((sign, _after)) = behind.split_first() else {
             return Ok(Some(terms));
         };
         match minus_of(sign) {
             Some(next) => minus = next,
             None => return Ok(None),
         }
-        rest = after;
+        at += 2;
     }
     Ok(None)
 }
 
 /// The expression that lexemes spell. None exactly where they spell none.
-pub fn expression_of(alloc: Global, lexemes: &[Lexeme]) -> Result<Option<Expression>, NoMemory>
+pub fn expression_of<'a>(
+    alloc: Global,
+    lexemes: &[Lexeme<'a>],
+) -> Result<Option<Expression<'a>>, NoMemory>
     requires { length lexemes.now < 2 ^ 32 }
     ensures { IfOk result (λ sum. sum ≡ expression_of lexemes.now) }
 {
@@ -80,7 +87,7 @@ fn is_close(lexeme: &Lexeme) -> bool
 }
 
 // What stands before a closing parenthesis at the end.
-fn before_close_paren(lexemes: &[Lexeme]) -> Option<&[Lexeme]>
+fn before_close_paren<'b, 'a>(lexemes: &'b [Lexeme<'a>]) -> Option<&'b [Lexeme<'a>]>
     ensures inner { MatchOption result (before_last is_close_paren lexemes.now ≡ None) (λ inner. before_last is_close_paren lexemes.now ≡ Some inner.now) }
     ensures shorter { IfSome result (λ inner. length inner.now ≤ length lexemes.now) }
 {
@@ -97,7 +104,7 @@ fn before_close_paren(lexemes: &[Lexeme]) -> Option<&[Lexeme]>
 }
 
 // What stands before a closing bracket at the end.
-fn before_close(lexemes: &[Lexeme]) -> Option<&[Lexeme]>
+fn before_close<'b, 'a>(lexemes: &'b [Lexeme<'a>]) -> Option<&'b [Lexeme<'a>]>
     ensures inner { MatchOption result (before_last is_close lexemes.now ≡ None) (λ inner. before_last is_close lexemes.now ≡ Some inner.now) }
     ensures shorter { IfSome result (λ inner. length inner.now ≤ length lexemes.now) }
 {
@@ -108,7 +115,10 @@ fn before_close(lexemes: &[Lexeme]) -> Option<&[Lexeme]>
 }
 
 /// The expression in parentheses that lexemes spell.
-pub fn in_parens(alloc: Global, lexemes: &[Lexeme]) -> Result<Option<Expression>, NoMemory>
+pub fn in_parens<'a>(
+    alloc: Global,
+    lexemes: &[Lexeme<'a>],
+) -> Result<Option<Expression<'a>>, NoMemory>
     requires { length lexemes.now < 2 ^ 32 }
     ensures { IfOk result (λ sum. sum ≡ in_parens lexemes.now) }
 {
@@ -132,7 +142,7 @@ pub fn register_of(lexemes: &[Lexeme]) -> Option<u8>
 }
 
 /// The second operand that lexemes spell.
-pub fn operand_of(alloc: Global, lexemes: &[Lexeme]) -> Result<Option<Source>, NoMemory>
+pub fn operand_of<'a>(alloc: Global, lexemes: &[Lexeme<'a>]) -> Result<Option<Source<'a>>, NoMemory>
     requires { length lexemes.now < 2 ^ 32 }
     ensures { IfOk result (λ operand. operand ≡ operand_of lexemes.now) }
 {
@@ -146,7 +156,7 @@ pub fn operand_of(alloc: Global, lexemes: &[Lexeme]) -> Result<Option<Source>, N
 }
 
 // What stands behind an address's register.
-fn offset_of(alloc: Global, lexemes: &[Lexeme]) -> Result<Option<Source>, NoMemory>
+fn offset_of<'a>(alloc: Global, lexemes: &[Lexeme<'a>]) -> Result<Option<Source<'a>>, NoMemory>
     requires { length lexemes.now < 2 ^ 32 }
     ensures { IfOk result (λ offset. offset ≡ offset_of lexemes.now) }
 {
@@ -159,11 +169,11 @@ fn offset_of(alloc: Global, lexemes: &[Lexeme]) -> Result<Option<Source>, NoMemo
 }
 
 // A term alone that is taken away.
-fn less(alloc: Global, lexemes: &[Lexeme]) -> Result<Option<Source>, NoMemory>
+fn less<'a>(alloc: Global, lexemes: &[Lexeme<'a>]) -> Result<Option<Source<'a>>, NoMemory>
     ensures { IfOk result (λ offset. offset ≡ offset_of (Lexeme.Minus ∷ lexemes.now)) }
 {
     match lexemes.split_first() {
-        Some((last, rest)) if rest.is_empty() => match term_of(alloc, last)? {
+        Some((last, rest)) if rest.is_empty() => match term_of(last) {
             Some(term) => {
                 let mut terms = Expression::empty(alloc);
                 terms.push(Signed { minus: true, term })?;
@@ -176,7 +186,10 @@ fn less(alloc: Global, lexemes: &[Lexeme]) -> Result<Option<Source>, NoMemory>
 }
 
 /// The address that lexemes spell.
-pub fn address_of(alloc: Global, lexemes: &[Lexeme]) -> Result<Option<Address>, NoMemory>
+pub fn address_of<'a>(
+    alloc: Global,
+    lexemes: &[Lexeme<'a>],
+) -> Result<Option<Address<'a>>, NoMemory>
     requires { length lexemes.now < 2 ^ 32 }
     ensures { IfOk result (λ address. address ≡ address_of lexemes.now) }
 {
@@ -193,7 +206,10 @@ pub fn address_of(alloc: Global, lexemes: &[Lexeme]) -> Result<Option<Address>, 
 }
 
 /// The address in brackets that lexemes spell.
-pub fn in_brackets(alloc: Global, lexemes: &[Lexeme]) -> Result<Option<Address>, NoMemory>
+pub fn in_brackets<'a>(
+    alloc: Global,
+    lexemes: &[Lexeme<'a>],
+) -> Result<Option<Address<'a>>, NoMemory>
     requires { length lexemes.now < 2 ^ 32 }
     ensures { IfOk result (λ address. address ≡ in_brackets lexemes.now) }
 {

@@ -1,20 +1,19 @@
-ghost use Rattle.std.specs.Prelude.{◌≡◌, ◌<◌, ◌≤◌, ◌^◌, length, slice_index, Some, None, MatchOption, IfOk, IfSome};
+ghost use Rattle.std.specs.Prelude.{◌≡◌, ◌<◌, ◌≤◌, ◌^◌, cond, length, slice_index, Some, None, MatchOption, IfOk, IfSome};
 ghost use Rattle.std.specs.Option.{option_map};
 ghost use Rattle.sparc_asm.specs.Lexemes.{banked, short_register, long_register, two_characters, percented, number_in, behind_0x, literal, marked, worded, lexeme_of, lexeme_before, lexemes_of};
 
 use crate::names::Name;
 use alw_num::{NoMemory, Sequence};
 use alw_text::digits;
-use sparc_lex::{TokenKind, Tokens};
-use std::alloc::Global;
+use sparc_lex::{TokenKind, Tokens, clear};
 
 /// What a token says.
 #[derive(Debug, Drop)]
-pub enum Lexeme {
+pub enum Lexeme<'a> {
     /// A name, or the name of an instruction.
-    Name(Name),
+    Name(Name<'a>),
     /// A name with a dot before it.
-    Directive(Name),
+    Directive(Name<'a>),
     /// The dot alone.
     Here,
     Number(u32),
@@ -36,7 +35,7 @@ pub enum Lexeme {
 }
 
 /// The lexemes of a line.
-pub type Lexemes = Sequence<Lexeme>;
+pub type Lexemes<'a> = Sequence<Lexeme<'a>>;
 
 // A bank's register with this digit.
 fn banked(start: u8, digit: u8) -> Option<u8>
@@ -80,7 +79,7 @@ fn long_register(tens: u8, units: u8) -> Option<u8>
 }
 
 // What stands behind a `%`.
-fn percented(text: &[u8]) -> Option<Lexeme>
+fn percented(text: &[u8]) -> Option<Lexeme<'static>>
     ensures { result ≡ percented text.now }
 {
     match text.len() {
@@ -92,7 +91,7 @@ fn percented(text: &[u8]) -> Option<Lexeme>
 }
 
 // `%hi`, `%lo` or a register.
-fn two_characters(first: u8, second: u8) -> Option<Lexeme>
+fn two_characters(first: u8, second: u8) -> Option<Lexeme<'static>>
     ensures { result ≡ two_characters first second }
 {
     match (first, second) {
@@ -102,7 +101,7 @@ fn two_characters(first: u8, second: u8) -> Option<Lexeme>
     }
 }
 
-fn register(number: Option<u8>) -> Option<Lexeme>
+fn register(number: Option<u8>) -> Option<Lexeme<'static>>
     ensures { result ≡ option_map Lexeme.Register number }
 {
     match number {
@@ -147,7 +146,7 @@ fn literal(text: &[u8]) -> Option<u32>
 }
 
 // One of `,` `:` `+` `-` `[` `]` `(` `)`.
-fn marked(byte: u8) -> Option<Lexeme>
+fn marked(byte: u8) -> Option<Lexeme<'static>>
     ensures { result ≡ marked byte }
 {
     match byte {
@@ -164,30 +163,30 @@ fn marked(byte: u8) -> Option<Lexeme>
 }
 
 // A name, or one with a dot before it.
-fn worded(alloc: Global, text: &[u8]) -> Result<Option<Lexeme>, NoMemory>
-    ensures { IfOk result (λ lexeme. lexeme ≡ worded text.now) }
+fn worded(text: &[u8]) -> Option<Lexeme<'_>>
+    ensures { result ≡ worded text.now }
 {
     match text.split_first() {
-        None => Ok(None),
-        Some((b'.', rest)) => Ok(Some(Lexeme::Directive(Name::copied(alloc, rest)?))),
-        Some(_) => Ok(Some(Lexeme::Name(Name::copied(alloc, text)?))),
+        None => None,
+        Some((b'.', rest)) => Some(Lexeme::Directive(Name::of(rest))),
+        Some(_) => Some(Lexeme::Name(Name::of(text))),
     }
 }
 
 // What a token with this text says. None where it says nothing.
-fn lexeme_of(alloc: Global, kind: TokenKind, text: &[u8]) -> Result<Option<Lexeme>, NoMemory>
-    ensures { IfOk result (λ lexeme. lexeme ≡ lexeme_of kind text.now) }
+fn lexeme_of(kind: TokenKind, text: &[u8]) -> Option<Lexeme<'_>>
+    ensures { result ≡ lexeme_of kind text.now }
 {
     match kind {
-        TokenKind::Word => worded(alloc, text),
-        TokenKind::Dot => Ok(Some(Lexeme::Here)),
-        TokenKind::Number => Ok(number(literal(text))),
-        TokenKind::Percent => Ok(percented(text)),
-        TokenKind::Mark => Ok(mark_of(text)),
+        TokenKind::Word => worded(text),
+        TokenKind::Dot => Some(Lexeme::Here),
+        TokenKind::Number => number(literal(text)),
+        TokenKind::Percent => percented(text),
+        TokenKind::Mark => mark_of(text),
     }
 }
 
-fn number(value: Option<u32>) -> Option<Lexeme>
+fn number(value: Option<u32>) -> Option<Lexeme<'static>>
     ensures { result ≡ option_map Lexeme.Number value }
 {
     match value {
@@ -196,7 +195,7 @@ fn number(value: Option<u32>) -> Option<Lexeme>
     }
 }
 
-fn mark_of(text: &[u8]) -> Option<Lexeme>
+fn mark_of(text: &[u8]) -> Option<Lexeme<'static>>
     ensures { result ≡ marked (slice_index text.now 0) }
 {
     if text.is_empty() {
@@ -206,22 +205,22 @@ fn mark_of(text: &[u8]) -> Option<Lexeme>
     }
 }
 
-/// What tokens of a source say. None where one of them says nothing.
-pub fn lexemes_of(
-    alloc: Global,
-    source: &[u8],
+/// What tokens of a source say takes the place of a list's members. False where one of them says nothing.
+pub fn lexemes_of<'a>(
+    source: &'a [u8],
     tokens: &Tokens,
-) -> Result<Option<Lexemes>, NoMemory>
-    ensures lexemes { IfOk result (λ lexemes. lexemes ≡ lexemes_of source.now tokens.now) }
-    ensures count { IfOk result (λ read. IfSome read (λ lexemes. length lexemes ≡ length tokens.now)) }
+    lexemes: &mut Lexemes<'a>,
+) -> Result<bool, NoMemory>
+    ensures lexemes { IfOk result (λ all. cond all (Some lexemes.new) None ≡ lexemes_of source.now tokens.now) }
+    ensures count { length lexemes.new ≤ length tokens.now }
 {
-    let mut lexemes = Lexemes::empty(alloc);
+    clear(lexemes);
     for i in 0..tokens.len() {
         let token = tokens.at(i);
-        match lexeme_of(alloc, token.kind, token.text(source))? {
+        match lexeme_of(token.kind, token.text(source)) {
             Some(lexeme) => lexemes.push(lexeme)?,
-            None => return Ok(None),
+            None => return Ok(false),
         }
     }
-    Ok(Some(lexemes))
+    Ok(true)
 }

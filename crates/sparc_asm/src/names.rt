@@ -1,79 +1,65 @@
-ghost use Rattle.std.specs.Prelude.{◌≡◌, List, ℕ, Some, None, refl, bytes_eq, if◌then◌else◌, IfOk, OnOk};
-ghost use Rattle.std.specs.Ordering.{nat_cmp};
+ghost use Rattle.std.specs.Prelude.{◌≡◌, List, ℕ, [], ◌∷◌, Some, None, bytes_eq, if◌then◌else◌, IfOk, OnOk};
 ghost use Rattle.std.specs.Cmp.{partial_equiv_from_equiv};
-ghost use Rattle.std.specs.Cmp.Lexicographic.{slice_cmp, nat_list_eq_equiv, nat_list_cmp_total, texts_ties, texts_po};
+ghost use Rattle.std.specs.Cmp.Lexicographic.{nat_list_eq_equiv};
+ghost use Rattle.std.specs.Cmp.Rules.{hashing};
+ghost use Rattle.std.proofs.Common.{rules};
 
 use alw_num::NoMemory;
 use std::alloc::Global;
-use std::cmp::Ordering;
-use std::collections::BTreeMap;
+use std::collections::HashMap;
+use std::hash::{Hash, Hasher};
 use std::marker::Model;
 
-/// A name of a source. Contracts see its bytes.
+/// A name, where it stands in a source. Contracts see its bytes.
 #[derive(Debug, Drop)]
-pub struct Name {
-    bytes: Vec<u8>,
+pub struct Name<'a> {
+    bytes: &'a [u8],
 }
 
-impl Model for Name {
+impl<'a> Model for Name<'a> {
     ghost use Rattle.std.specs.Prelude.{List, ℕ};
 
     ghost Value = { List ℕ };
 
-    ghost view = { λ n. n.bytes.items };
+    ghost view = { λ n. n.bytes.now };
 }
 
-impl Name {
+impl<'a> Name<'a> {
     /// The name with these bytes.
-    pub fn copied(alloc: Global, bytes: &[u8]) -> Result<Name, NoMemory>
-        ensures { IfOk result (λ name. name ≡ bytes.now) }
+    pub fn of(bytes: &'a [u8]) -> Name<'a>
+        ensures { result ≡ bytes.now }
     {
-        let bytes = bytes.to_vec(alloc)?;
-        Ok(Name { bytes })
+        Name { bytes }
     }
 
-    pub fn bytes(&self) -> &[u8]
+    pub fn bytes(&self) -> &'a [u8]
         ensures { result.now ≡ self.now }
     {
-        &self.bytes
+        self.bytes
     }
 }
 
-impl PartialEq for Name {
+impl<'a> PartialEq for Name<'a> {
     ghost eq = { λ a b. bytes_eq a b };
 
     ghost laws = { partial_equiv_from_equiv nat_list_eq_equiv };
 
-    fn eq(&self, other: &Name) -> bool {
+    fn eq(&self, other: &Name<'a>) -> bool {
         self.bytes() == other.bytes()
     }
 }
 
-impl Eq for Name {
+impl<'a> Eq for Name<'a> {
     ghost laws = { nat_list_eq_equiv };
 }
 
-impl PartialOrd for Name {
-    ghost partial_cmp = { λ a b. Some (slice_cmp nat_cmp a b) };
+impl<'a> Hash for Name<'a> {
+    ghost hash_input = { λ n. n ∷ [] };
 
-    ghost laws = { texts_po };
+    ghost respects_eq = { Prim.search (hashing, rules) };
 
-    fn partial_cmp(&self, other: &Name) -> Option<Ordering> {
-        Some(self.cmp(other))
-    }
-}
-
-impl Ord for Name {
-    ghost cmp = { λ a b. slice_cmp nat_cmp a b };
-
-    ghost total = { nat_list_cmp_total };
-
-    ghost matches_partial_cmp = { λ a b. refl };
-
-    ghost matches_eq = { λ a b. texts_ties a b };
-
-    fn cmp(&self, other: &Name) -> Ordering {
-        self.bytes().cmp(other.bytes())
+    fn hash<H: Hasher>(&self, state: &mut H) {
+        state.write(self.bytes());
     }
 }
 
@@ -86,19 +72,19 @@ pub struct Value {
 
 /// The names that are defined, with their values.
 #[derive(Debug, Drop)]
-pub struct Names {
-    map: BTreeMap<Name, Value>,
+pub struct Names<'a> {
+    map: HashMap<Name<'a>, Value>,
 }
 
-impl Names {
+impl<'a> Names<'a> {
     ghost use Rattle.sparc_asm.specs.Names.{value_in};
 
     /// No names.
-    pub fn empty(alloc: Global) -> Names
+    pub fn empty(alloc: Global) -> Names<'a>
         ensures { (name : List ℕ) → value_in result name ≡ None }
     {
         Names {
-            map: BTreeMap::new(alloc),
+            map: HashMap::new(alloc),
         }
     }
 
@@ -110,8 +96,8 @@ impl Names {
     }
 
     /// Gives a name a value.
-    pub fn define(&mut self, name: Name, value: Value) -> Result<(), NoMemory>
-        ensures ok { OnOk result ((other : List ℕ) → value_in self.new other ≡ (if bytes_eq name other then Some value else value_in self.old other)) }
+    pub fn define(&mut self, name: Name<'a>, value: Value) -> Result<(), NoMemory>
+        ensures ok { OnOk result ((other : List ℕ) → value_in self.new other ≡ (if bytes_eq name.entry other then Some value else value_in self.old other)) }
     {
         self.map.insert(name, value)?;
         Ok(())

@@ -22,7 +22,7 @@ fn comma_at(lexemes: &[Lexeme]) -> Option<usize>
 }
 
 /// What stands before the first comma, and what stands behind it.
-pub fn at_comma(lexemes: &[Lexeme]) -> Option<(&[Lexeme], &[Lexeme])>
+pub fn at_comma<'b, 'a>(lexemes: &'b [Lexeme<'a>]) -> Option<(&'b [Lexeme<'a>], &'b [Lexeme<'a>])>
     ensures parts { MatchOption result (at_comma lexemes.now ≡ None) (λ parts. at_comma lexemes.now ≡ Some (parts.0.now, parts.1.now)) }
     ensures shorter { IfSome result (λ parts. length parts.0.now + length parts.1.now < length lexemes.now) }
 {
@@ -37,23 +37,23 @@ pub fn at_comma(lexemes: &[Lexeme]) -> Option<(&[Lexeme], &[Lexeme])>
 }
 
 /// Expressions between commas, one or more.
-pub fn values_of(
+pub fn values_of<'a>(
     alloc: Global,
-    lexemes: &[Lexeme],
-) -> Result<Option<Sequence<Expression>>, NoMemory>
+    lexemes: &[Lexeme<'a>],
+) -> Result<Option<Sequence<Expression<'a>>>, NoMemory>
     requires { length lexemes.now < 2 ^ 32 - 1 }
     ensures { IfOk result (λ values. values ≡ values_of [] lexemes.now) }
 {
     let mut values = Sequence::empty(alloc);
-    let mut rest = lexemes;
-    while let Some((front, behind)) = at_comma(rest) {
+    let mut at = 0;
+    while let Some((front, _behind)) = at_comma(&lexemes[at..]) {
         match expression_of(alloc, front)? {
             Some(value) => values.push(value)?,
             None => return Ok(None),
         }
-        rest = behind;
+        at += front.len() + 1;
     }
-    match expression_of(alloc, rest)? {
+    match expression_of(alloc, &lexemes[at..])? {
         Some(value) => {
             values.push(value)?;
             Ok(Some(values))
@@ -63,10 +63,10 @@ pub fn values_of(
 }
 
 /// A register, an operand and a register.
-pub fn three_operands(
+pub fn three_operands<'a>(
     alloc: Global,
-    lexemes: &[Lexeme],
-) -> Result<Option<(u8, Source, u8)>, NoMemory>
+    lexemes: &[Lexeme<'a>],
+) -> Result<Option<(u8, Source<'a>, u8)>, NoMemory>
     requires { length lexemes.now < 2 ^ 32 }
     ensures { IfOk result (λ operands. operands ≡ three_operands lexemes.now) }
 {
@@ -86,7 +86,7 @@ pub fn three_operands(
 }
 
 /// Whether a branch is written with `,a`, and what stands behind that.
-pub fn annulled(lexemes: &[Lexeme]) -> (bool, &[Lexeme])
+pub fn annulled<'b, 'a>(lexemes: &'b [Lexeme<'a>]) -> (bool, &'b [Lexeme<'a>])
     ensures annul { result.0 ≡ (annulled lexemes.now).0 }
     ensures rest { result.1.now ≡ (annulled lexemes.now).1 }
     ensures shorter { length result.1.now ≤ length lexemes.now }
@@ -101,7 +101,10 @@ pub fn annulled(lexemes: &[Lexeme]) -> (bool, &[Lexeme])
 }
 
 /// The address of a trap: an address, or an expression alone, which is added to register 0.
-pub fn trap_address(alloc: Global, lexemes: &[Lexeme]) -> Result<Option<Address>, NoMemory>
+pub fn trap_address<'a>(
+    alloc: Global,
+    lexemes: &[Lexeme<'a>],
+) -> Result<Option<Address<'a>>, NoMemory>
     requires { length lexemes.now < 2 ^ 32 }
     ensures { IfOk result (λ address. address ≡ trap_address lexemes.now) }
 {
@@ -128,7 +131,7 @@ pub fn is_y(lexemes: &[Lexeme]) -> bool
 }
 
 /// The expression that is one number.
-pub fn constant(alloc: Global, number: u32) -> Result<Expression, NoMemory>
+pub fn constant<'a>(alloc: Global, number: u32) -> Result<Expression<'a>, NoMemory>
     ensures { IfOk result (λ terms. terms ≡ constant number) }
 {
     let mut terms = Expression::empty(alloc);

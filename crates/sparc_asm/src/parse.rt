@@ -24,9 +24,9 @@ const ORCC: u8 = 0x12;
 const SUBCC: u8 = 0x14;
 
 // What the parser makes of operands: None where they don't fit.
-type Parsed = Result<Option<Statement>, NoMemory>;
+type Parsed<'a> = Result<Option<Statement<'a>>, NoMemory>;
 
-fn arith_of(alloc: Global, op3: u8, lexemes: &[Lexeme]) -> Parsed
+fn arith_of<'a>(alloc: Global, op3: u8, lexemes: &[Lexeme<'a>]) -> Parsed<'a>
     requires { length lexemes.now < 2 ^ 32 - 1 }
     ensures { IfOk result (λ statement. statement ≡ arith_of op3 lexemes.now) }
 {
@@ -41,7 +41,7 @@ fn arith_of(alloc: Global, op3: u8, lexemes: &[Lexeme]) -> Parsed
     }
 }
 
-fn shift_of(alloc: Global, op3: u8, lexemes: &[Lexeme]) -> Parsed
+fn shift_of<'a>(alloc: Global, op3: u8, lexemes: &[Lexeme<'a>]) -> Parsed<'a>
     requires { length lexemes.now < 2 ^ 32 - 1 }
     ensures { IfOk result (λ statement. statement ≡ shift_of op3 lexemes.now) }
 {
@@ -56,7 +56,7 @@ fn shift_of(alloc: Global, op3: u8, lexemes: &[Lexeme]) -> Parsed
     }
 }
 
-fn load_of(alloc: Global, op3: u8, lexemes: &[Lexeme]) -> Parsed
+fn load_of<'a>(alloc: Global, op3: u8, lexemes: &[Lexeme<'a>]) -> Parsed<'a>
     requires { length lexemes.now < 2 ^ 32 - 1 }
     ensures { IfOk result (λ statement. statement ≡ load_of op3 lexemes.now) }
 {
@@ -69,7 +69,7 @@ fn load_of(alloc: Global, op3: u8, lexemes: &[Lexeme]) -> Parsed
     }
 }
 
-fn store_of(alloc: Global, op3: u8, lexemes: &[Lexeme]) -> Parsed
+fn store_of<'a>(alloc: Global, op3: u8, lexemes: &[Lexeme<'a>]) -> Parsed<'a>
     requires { length lexemes.now < 2 ^ 32 - 1 }
     ensures { IfOk result (λ statement. statement ≡ store_of op3 lexemes.now) }
 {
@@ -82,7 +82,7 @@ fn store_of(alloc: Global, op3: u8, lexemes: &[Lexeme]) -> Parsed
     }
 }
 
-fn branch_of(alloc: Global, cond: u8, lexemes: &[Lexeme]) -> Parsed
+fn branch_of<'a>(alloc: Global, cond: u8, lexemes: &[Lexeme<'a>]) -> Parsed<'a>
     requires { length lexemes.now < 2 ^ 32 - 1 }
     ensures { IfOk result (λ statement. statement ≡ branch_of cond lexemes.now) }
 {
@@ -97,7 +97,7 @@ fn branch_of(alloc: Global, cond: u8, lexemes: &[Lexeme]) -> Parsed
     }
 }
 
-fn read_y_of(lexemes: &[Lexeme]) -> Option<Statement>
+fn read_y_of<'a>(lexemes: &[Lexeme<'a>]) -> Option<Statement<'a>>
     ensures { result ≡ read_y_of lexemes.now }
 {
     match lexemes.split_first() {
@@ -112,7 +112,7 @@ fn read_y_of(lexemes: &[Lexeme]) -> Option<Statement>
     }
 }
 
-fn write_y_of(alloc: Global, lexemes: &[Lexeme]) -> Parsed
+fn write_y_of<'a>(alloc: Global, lexemes: &[Lexeme<'a>]) -> Parsed<'a>
     requires { length lexemes.now < 2 ^ 32 - 1 }
     ensures { IfOk result (λ statement. statement ≡ write_y_of lexemes.now) }
 {
@@ -130,7 +130,7 @@ fn write_y_of(alloc: Global, lexemes: &[Lexeme]) -> Parsed
     }
 }
 
-fn jmpl_of(alloc: Global, lexemes: &[Lexeme]) -> Parsed
+fn jmpl_of<'a>(alloc: Global, lexemes: &[Lexeme<'a>]) -> Parsed<'a>
     requires { length lexemes.now < 2 ^ 32 - 1 }
     ensures { IfOk result (λ statement. statement ≡ jmpl_of lexemes.now) }
 {
@@ -143,7 +143,7 @@ fn jmpl_of(alloc: Global, lexemes: &[Lexeme]) -> Parsed
     }
 }
 
-fn sethi_of(alloc: Global, rd: u8, lexemes: &[Lexeme]) -> Parsed
+fn sethi_of<'a>(alloc: Global, rd: u8, lexemes: &[Lexeme<'a>]) -> Parsed<'a>
     requires { length lexemes.now < 2 ^ 32 - 1 }
     ensures { IfOk result (λ statement. statement ≡ sethi_of rd lexemes.now) }
 {
@@ -159,7 +159,7 @@ fn sethi_of(alloc: Global, rd: u8, lexemes: &[Lexeme]) -> Parsed
     }
 }
 
-fn sethi_to(alloc: Global, lexemes: &[Lexeme]) -> Parsed
+fn sethi_to<'a>(alloc: Global, lexemes: &[Lexeme<'a>]) -> Parsed<'a>
     requires { length lexemes.now < 2 ^ 32 - 1 }
     ensures { IfOk result (λ statement. statement ≡ sethi_to lexemes.now) }
 {
@@ -172,7 +172,7 @@ fn sethi_to(alloc: Global, lexemes: &[Lexeme]) -> Parsed
     }
 }
 
-fn compare_of(alloc: Global, lexemes: &[Lexeme]) -> Parsed
+fn compare_of<'a>(alloc: Global, lexemes: &[Lexeme<'a>]) -> Parsed<'a>
     requires { length lexemes.now < 2 ^ 32 - 1 }
     ensures { IfOk result (λ statement. statement ≡ compare_of lexemes.now) }
 {
@@ -190,7 +190,7 @@ fn compare_of(alloc: Global, lexemes: &[Lexeme]) -> Parsed
     }
 }
 
-fn move_of(alloc: Global, lexemes: &[Lexeme]) -> Parsed
+fn move_of<'a>(alloc: Global, lexemes: &[Lexeme<'a>]) -> Parsed<'a>
     requires { length lexemes.now < 2 ^ 32 - 1 }
     ensures { IfOk result (λ statement. statement ≡ move_of lexemes.now) }
 {
@@ -208,7 +208,7 @@ fn move_of(alloc: Global, lexemes: &[Lexeme]) -> Parsed
     }
 }
 
-fn test_of(lexemes: &[Lexeme]) -> Option<Statement>
+fn test_of<'a>(lexemes: &[Lexeme<'a>]) -> Option<Statement<'a>>
     ensures { result ≡ test_of lexemes.now }
 {
     match register_of(lexemes) {
@@ -222,7 +222,7 @@ fn test_of(lexemes: &[Lexeme]) -> Option<Statement>
     }
 }
 
-fn clear_of(lexemes: &[Lexeme]) -> Option<Statement>
+fn clear_of<'a>(lexemes: &[Lexeme<'a>]) -> Option<Statement<'a>>
     ensures { result ≡ clear_of lexemes.now }
 {
     match register_of(lexemes) {
@@ -236,7 +236,7 @@ fn clear_of(lexemes: &[Lexeme]) -> Option<Statement>
     }
 }
 
-fn set_of(alloc: Global, lexemes: &[Lexeme]) -> Parsed
+fn set_of<'a>(alloc: Global, lexemes: &[Lexeme<'a>]) -> Parsed<'a>
     requires { length lexemes.now < 2 ^ 32 - 1 }
     ensures { IfOk result (λ statement. statement ≡ set_of lexemes.now) }
 {
@@ -249,7 +249,7 @@ fn set_of(alloc: Global, lexemes: &[Lexeme]) -> Parsed
     }
 }
 
-fn mesh_of(alloc: Global, lexemes: &[Lexeme]) -> Parsed
+fn mesh_of<'a>(alloc: Global, lexemes: &[Lexeme<'a>]) -> Parsed<'a>
     requires { length lexemes.now < 2 ^ 32 - 1 }
     ensures { IfOk result (λ statement. statement ≡ mesh_of lexemes.now) }
 {
@@ -262,7 +262,7 @@ fn mesh_of(alloc: Global, lexemes: &[Lexeme]) -> Parsed
     }
 }
 
-fn equ_of(alloc: Global, lexemes: &[Lexeme]) -> Parsed
+fn equ_of<'a>(alloc: Global, lexemes: &[Lexeme<'a>]) -> Parsed<'a>
     requires { length lexemes.now < 2 ^ 32 - 1 }
     ensures { IfOk result (λ statement. statement ≡ equ_of lexemes.now) }
 {
@@ -270,7 +270,7 @@ fn equ_of(alloc: Global, lexemes: &[Lexeme]) -> Parsed
         Some((Lexeme::Name(name), behind)) => match behind.split_first() {
             Some((Lexeme::Comma, rest)) => match expression_of(alloc, rest)? {
                 Some(value) => {
-                    let name = Name::copied(alloc, name.bytes())?;
+                    let name = Name::of(name.bytes());
                     Ok(Some(Statement::Equ { name, value }))
                 }
                 None => Ok(None),
@@ -281,7 +281,7 @@ fn equ_of(alloc: Global, lexemes: &[Lexeme]) -> Parsed
     }
 }
 
-fn start_of(alloc: Global, lexemes: &[Lexeme]) -> Parsed
+fn start_of<'a>(alloc: Global, lexemes: &[Lexeme<'a>]) -> Parsed<'a>
     requires { length lexemes.now < 2 ^ 32 - 1 }
     ensures { IfOk result (λ statement. statement ≡ start_of lexemes.now) }
 {
@@ -306,8 +306,8 @@ fn start_of(alloc: Global, lexemes: &[Lexeme]) -> Parsed
 }
 
 // A statement without operands.
-fn nothing(found: Statement, lexemes: &[Lexeme]) -> Option<Statement>
-    ensures { result ≡ nothing found lexemes.now }
+fn nothing<'a>(found: Statement<'a>, lexemes: &[Lexeme<'a>]) -> Option<Statement<'a>>
+    ensures { result ≡ nothing found.entry lexemes.now }
 {
     if lexemes.is_empty() {
         Some(found)
@@ -317,7 +317,7 @@ fn nothing(found: Statement, lexemes: &[Lexeme]) -> Option<Statement>
 }
 
 #[tactic(auto, unfolding(crate::specs::Statements::statement_of))]
-fn nop_of(alloc: Global, lexemes: &[Lexeme]) -> Parsed
+fn nop_of<'a>(alloc: Global, lexemes: &[Lexeme<'a>]) -> Parsed<'a>
     ensures { IfOk result (λ statement. statement ≡ statement_of Form.Nop lexemes.now) }
 {
     let value = constant(alloc, 0)?;
@@ -325,7 +325,7 @@ fn nop_of(alloc: Global, lexemes: &[Lexeme]) -> Parsed
 }
 
 #[tactic(auto, unfolding(crate::specs::Statements::statement_of))]
-fn return_leaf_of(alloc: Global, lexemes: &[Lexeme]) -> Parsed
+fn return_leaf_of<'a>(alloc: Global, lexemes: &[Lexeme<'a>]) -> Parsed<'a>
     ensures { IfOk result (λ statement. statement ≡ statement_of Form.ReturnLeaf lexemes.now) }
 {
     let address = Address {
@@ -335,7 +335,7 @@ fn return_leaf_of(alloc: Global, lexemes: &[Lexeme]) -> Parsed
     Ok(nothing(Statement::Jmpl { address, rd: 0 }, lexemes))
 }
 
-fn trap_of(alloc: Global, cond: u8, lexemes: &[Lexeme]) -> Parsed
+fn trap_of<'a>(alloc: Global, cond: u8, lexemes: &[Lexeme<'a>]) -> Parsed<'a>
     requires { length lexemes.now < 2 ^ 32 - 1 }
     ensures { IfOk result (λ statement. statement ≡ option_map (Statement.Trap cond) (trap_address lexemes.now)) }
 {
@@ -345,7 +345,7 @@ fn trap_of(alloc: Global, cond: u8, lexemes: &[Lexeme]) -> Parsed
     }
 }
 
-fn jump_of(alloc: Global, lexemes: &[Lexeme]) -> Parsed
+fn jump_of<'a>(alloc: Global, lexemes: &[Lexeme<'a>]) -> Parsed<'a>
     requires { length lexemes.now < 2 ^ 32 - 1 }
     ensures { IfOk result (λ statement. statement ≡ option_map (λ address. Statement.Jmpl address 0) (address_of lexemes.now)) }
 {
@@ -355,7 +355,7 @@ fn jump_of(alloc: Global, lexemes: &[Lexeme]) -> Parsed
     }
 }
 
-fn data_of(alloc: Global, width: Width, lexemes: &[Lexeme]) -> Parsed
+fn data_of<'a>(alloc: Global, width: Width, lexemes: &[Lexeme<'a>]) -> Parsed<'a>
     requires { length lexemes.now < 2 ^ 32 - 1 }
     ensures { IfOk result (λ statement. statement ≡ option_map (Statement.Data width) (values_of [] lexemes.now)) }
 {
@@ -367,7 +367,7 @@ fn data_of(alloc: Global, width: Width, lexemes: &[Lexeme]) -> Parsed
 
 // The statement of a form with these operands. None exactly where they don't fit it.
 #[tactic(auto, unfolding(crate::specs::Statements::statement_of))]
-fn statement_of(alloc: Global, form: Form, lexemes: &[Lexeme]) -> Parsed
+fn statement_of<'a>(alloc: Global, form: Form, lexemes: &[Lexeme<'a>]) -> Parsed<'a>
     requires { length lexemes.now < 2 ^ 32 - 1 }
     ensures { IfOk result (λ statement. statement ≡ statement_of form lexemes.now) }
 {
@@ -407,7 +407,7 @@ fn statement_of(alloc: Global, form: Form, lexemes: &[Lexeme]) -> Parsed
 
 // A statement that takes one expression.
 #[tactic(auto, unfolding(crate::specs::Statements::statement_of))]
-fn with_expression(alloc: Global, form: Form, lexemes: &[Lexeme]) -> Parsed
+fn with_expression<'a>(alloc: Global, form: Form, lexemes: &[Lexeme<'a>]) -> Parsed<'a>
     requires form { TakesOne form }
     requires short { length lexemes.now < 2 ^ 32 - 1 }
     ensures { IfOk result (λ statement. statement ≡ statement_of form lexemes.now) }
@@ -427,11 +427,11 @@ fn with_expression(alloc: Global, form: Form, lexemes: &[Lexeme]) -> Parsed
 }
 
 // The statement with a form and operands.
-fn named(
+fn named<'a>(
     alloc: Global,
     form: Option<Form>,
-    lexemes: &[Lexeme],
-) -> Result<Option<Option<Statement>>, NoMemory>
+    lexemes: &[Lexeme<'a>],
+) -> Result<Option<Option<Statement<'a>>>, NoMemory>
     requires { length lexemes.now < 2 ^ 32 - 1 }
     ensures { IfOk result (λ statement. statement ≡ named form lexemes.now) }
 {
@@ -445,10 +445,10 @@ fn named(
 }
 
 // A statement, or nothing.
-fn perhaps_statement(
+fn perhaps_statement<'a>(
     alloc: Global,
-    lexemes: &[Lexeme],
-) -> Result<Option<Option<Statement>>, NoMemory>
+    lexemes: &[Lexeme<'a>],
+) -> Result<Option<Option<Statement<'a>>>, NoMemory>
     requires { length lexemes.now < 2 ^ 32 - 1 }
     ensures { IfOk result (λ statement. statement ≡ perhaps_statement lexemes.now) }
 {
@@ -462,13 +462,13 @@ fn perhaps_statement(
 
 /// The line that lexemes spell: a label with its colon or none, and a statement or none. None
 /// exactly where they spell none.
-pub fn spelled_line(alloc: Global, lexemes: &[Lexeme]) -> Result<Option<Line>, NoMemory>
+pub fn spelled_line<'a>(alloc: Global, lexemes: &[Lexeme<'a>]) -> Result<Option<Line<'a>>, NoMemory>
     requires { length lexemes.now < 2 ^ 32 - 1 }
     ensures { IfOk result (λ line. line ≡ spelled_line lexemes.now) }
 {
     if let Some((Lexeme::Name(name), behind)) = lexemes.split_first() {
         if let Some((Lexeme::Colon, rest)) = behind.split_first() {
-            let label = Some(Name::copied(alloc, name.bytes())?);
+            let label = Some(Name::of(name.bytes()));
             return with_label(alloc, label, rest);
         }
     }
@@ -476,13 +476,13 @@ pub fn spelled_line(alloc: Global, lexemes: &[Lexeme]) -> Result<Option<Line>, N
 }
 
 // The line with this label.
-fn with_label(
+fn with_label<'a>(
     alloc: Global,
-    label: Option<Name>,
-    lexemes: &[Lexeme],
-) -> Result<Option<Line>, NoMemory>
+    label: Option<Name<'a>>,
+    lexemes: &[Lexeme<'a>],
+) -> Result<Option<Line<'a>>, NoMemory>
     requires { length lexemes.now < 2 ^ 32 - 1 }
-    ensures { IfOk result (λ line. line ≡ option_map (line_with label) (perhaps_statement lexemes.now)) }
+    ensures { IfOk result (λ line. line ≡ option_map (line_with label.entry) (perhaps_statement lexemes.now)) }
 {
     match perhaps_statement(alloc, lexemes)? {
         Some(statement) => Ok(Some(Line { label, statement })),

@@ -3,52 +3,52 @@ use alw_num::{Sequence, Width};
 
 /// A term of an expression.
 #[derive(Debug, Drop)]
-pub enum Term {
+pub enum Term<'a> {
     Number(u32),
-    Name(Name),
+    Name(Name<'a>),
     /// The address of the statement's first byte.
     Here,
 }
 
 /// A term that is added, or taken away where `minus` is true.
 #[derive(Debug, Drop)]
-pub struct Signed {
+pub struct Signed<'a> {
     pub minus: bool,
-    pub term: Term,
+    pub term: Term<'a>,
 }
 
 /// An expression: the sum of one or more terms.
-pub type Expression = Sequence<Signed>;
+pub type Expression<'a> = Sequence<Signed<'a>>;
 
 /// A second operand: a register, a number, or the low ten bits of one.
 #[derive(Debug, Drop)]
-pub enum Source {
+pub enum Source<'a> {
     Register(u8),
-    Number(Expression),
-    Low(Expression),
+    Number(Expression<'a>),
+    Low(Expression<'a>),
 }
 
 /// An address: the sum of a register and an operand.
 #[derive(Debug, Drop)]
-pub struct Address {
+pub struct Address<'a> {
     pub base: u8,
-    pub offset: Source,
+    pub offset: Source<'a>,
 }
 
 /// A statement. The synthetic forms stand as the instructions that they are; `op3` and `cond` are
 /// the fields of the instruction word.
 #[derive(Debug, Drop)]
-pub enum Statement {
+pub enum Statement<'a> {
     Arith {
         op3: u8,
         rs1: u8,
-        operand: Source,
+        operand: Source<'a>,
         rd: u8,
     },
     Shift {
         op3: u8,
         rs1: u8,
-        operand: Source,
+        operand: Source<'a>,
         rd: u8,
     },
     ReadY {
@@ -56,88 +56,88 @@ pub enum Statement {
     },
     WriteY {
         rs1: u8,
-        operand: Source,
+        operand: Source<'a>,
     },
     Jmpl {
-        address: Address,
+        address: Address<'a>,
         rd: u8,
     },
     Call {
-        target: Expression,
+        target: Expression<'a>,
     },
     Branch {
         annul: bool,
         cond: u8,
-        target: Expression,
+        target: Expression<'a>,
     },
     Trap {
         cond: u8,
-        address: Address,
+        address: Address<'a>,
     },
     /// SETHI with the value of its field.
     Sethi {
-        value: Expression,
+        value: Expression<'a>,
         rd: u8,
     },
     /// SETHI with bits 31 to 10 of a value.
     SethiHigh {
-        value: Expression,
+        value: Expression<'a>,
         rd: u8,
     },
     Memory {
         op3: u8,
-        address: Address,
+        address: Address<'a>,
         rd: u8,
     },
     /// SETHI and OR of a value, always two words.
     Set {
-        value: Expression,
+        value: Expression<'a>,
         rd: u8,
     },
     Mesh {
-        width: Expression,
-        height: Expression,
+        width: Expression<'a>,
+        height: Expression<'a>,
     },
     Contexts {
-        count: Expression,
+        count: Expression<'a>,
     },
     Lines {
-        count: Expression,
+        count: Expression<'a>,
     },
     Text,
     Shared {
-        offset: Expression,
+        offset: Expression<'a>,
     },
     Data {
         width: Width,
-        values: Sequence<Expression>,
+        values: Sequence<Expression<'a>>,
     },
     Skip {
-        count: Expression,
+        count: Expression<'a>,
     },
     Align {
-        unit: Expression,
+        unit: Expression<'a>,
     },
     Equ {
-        name: Name,
-        value: Expression,
+        name: Name<'a>,
+        value: Expression<'a>,
     },
     Start {
-        node: Expression,
-        slot: Expression,
-        address: Expression,
+        node: Expression<'a>,
+        slot: Expression<'a>,
+        address: Expression<'a>,
     },
     Always {
-        line: Expression,
+        line: Expression<'a>,
     },
 }
 
 /// A line of a source: a label, a statement, both or neither.
 #[derive(Debug, Drop)]
-pub struct Line {
-    pub label: Option<Name>,
-    pub statement: Option<Statement>,
+pub struct Line<'a> {
+    pub label: Option<Name<'a>>,
+    pub statement: Option<Statement<'a>>,
 }
 
 /// The lines of a source, in order: line n of the source is member n - 1.
-pub type Lines = Sequence<Line>;
+pub type Lines<'a> = Sequence<Line<'a>>;

@@ -50,7 +50,7 @@ fn bodies_of(alloc: Global, memory: &Memory, count: u32) -> Result<Bodies, NoMem
     ensures { IfOk result (λ bodies. bodies ≡ gathered (data_line (slice_index memory.now)) count) }
 {
     let mut bodies = Bodies::empty(alloc);
-    for number in 0..count {
+    for number in 0..memory.lines(count) {
         let body = body_at(memory, number);
         if is_zero(&body) {
             continue;

@@ -3,7 +3,7 @@ ghost use Rattle.std.specs.List.{flat_map};
 ghost use Rattle.alw_num.specs.Lanes.{bytes_in};
 ghost use Rattle.sparc_assemble.specs.Assembly.{spelled_as, written_over};
 
-use alw_num::{NoMemory, Sequence, Width};
+use alw_num::{LINE_BYTES, NoMemory, Sequence, Width};
 use std::alloc::Global;
 use std::marker::Model;
 
@@ -50,6 +50,19 @@ impl Memory {
         match self.bytes.get(place) {
             Some(byte) => *byte,
             None => 0,
+        }
+    }
+
+    /// How many of so many lines its bytes reach at most: the bytes of those behind are 0.
+    pub fn lines(&self, count: u32) -> u32
+        ensures few { result ≤ count }
+        ensures rest { result < count → length self.now ≤ 16 * result }
+    {
+        let reached = self.bytes.len() / LINE_BYTES as usize + 1;
+        if reached < count as usize {
+            reached as u32
+        } else {
+            count
         }
     }
 

@@ -100,11 +100,11 @@ AppendsLine line wanted old new (Err NoMemory) = ⊤
 AppendsLine line wanted old new (Err (Syntax refused)) = (refused ≡ line) × (wanted ≡ None)
 AppendsLine line wanted old new (Ok done) = option_map (λ tokens. old ++ tokens) wanted ≡ Some new
 
--- a line's tokens, or it is the line that can't be cut, or memory was refused
-abbrev pub AnswersLine : ℕ → Option (List Token) → Result (List Token) LexErr → Type 0
-AnswersLine line wanted (Err NoMemory) = ⊤
-AnswersLine line wanted (Err (Syntax refused)) = (refused ≡ line) × (wanted ≡ None)
-AnswersLine line wanted (Ok tokens) = wanted ≡ Some tokens
+-- a line's tokens are those of a list, or it is the line that can't be cut, or memory was refused
+abbrev pub LineIsCut : ℕ → Option (List Token) → List Token → Result (Unit {0}) LexErr → Type 0
+LineIsCut line wanted list (Err NoMemory) = ⊤
+LineIsCut line wanted list (Err (Syntax refused)) = (refused ≡ line) × (wanted ≡ None)
+LineIsCut line wanted list (Ok done) = wanted ≡ Some list
 
 -- the text of a token: its slice of the source
 abbrev pub text_of : List ℕ → Token → List ℕ

@@ -61,5 +61,5 @@ pub fn is_mark(byte: u8) -> bool
 pub fn is_allowed(byte: u8) -> bool
     ensures { result ≡ is_allowed byte }
 {
-    (b' '..=b'~').contains(&byte) || Class::Blank.has(byte)
+    matches!(byte, b' '..=b'~' | b'\r' | b'\t')
 }

@@ -1,11 +1,12 @@
 ghost use Rattle.std.specs.Prelude.{◌≡◌, ◌<◌, ◌≤◌, ◌+◌, ◌-◌, ◌==◌, ◌^◌, ◌++◌, position, length, take, drop, Some, Ok, Err, IfOk, IfSome};
 ghost use Rattle.std.specs.Option.{option_map};
-ghost use Rattle.sparc_lex.specs.Cut.{hex_run, number_length, token_from, cut_from, is_fit, code_of, line_tokens, tokens_of, Answers, AnswersLine, AppendsLine};
+ghost use Rattle.sparc_lex.specs.Cut.{hex_run, number_length, token_from, cut_from, is_fit, code_of, line_tokens, tokens_of, Answers, AppendsLine, LineIsCut};
 ghost use Rattle.sparc_lex.specs.Characters.{is_allowed};
 ghost use Rattle.std.specs.List.{list_all};
 
 use crate::characters::{Class, begins_name, is_allowed, is_mark};
 use crate::kinds::{LexErr, Token, TokenKind, Tokens};
+use crate::lists::clear;
 use alw_text::{Span, line_at};
 use std::alloc::Global;
 
@@ -146,17 +147,17 @@ fn cut_line(tokens: &mut Tokens, source: &[u8], span: &Span, line: u32) -> Resul
     cut_code(tokens, code_of(bytes), line, span.start)
 }
 
-/// The tokens of one line of a source, as `tokens` has them.
-pub fn line_tokens(alloc: Global, source: &[u8], span: &Span, line: u32) -> Result<Tokens, LexErr>
+/// The tokens of one line of a source, as `tokens` has them, take the place of a list's members.
+pub fn line_tokens(tokens: &mut Tokens, source: &[u8], span: &Span, line: u32) -> Result<(), LexErr>
     requires order { span.now.start ≤ span.now.end }
     requires within { span.now.end ≤ length source.now }
     requires short { length source.now < 2 ^ 32 - 1 }
-    ensures cut { AnswersLine line (line_tokens line span.now.start (take (span.now.end - span.now.start) (drop span.now.start source.now))) result }
-    ensures few { IfOk result (λ tokens. length tokens ≤ span.now.end) }
+    ensures cut { LineIsCut line (line_tokens line span.now.start (take (span.now.end - span.now.start) (drop span.now.start source.now))) tokens.new result }
+    ensures few { length tokens.new ≤ span.now.end }
 {
-    let mut tokens = Tokens::empty(alloc);
-    match cut_line(&mut tokens, source, span, line) {
-        Ok(()) => Ok(tokens),
+    clear(tokens);
+    match cut_line(tokens, source, span, line) {
+        Ok(()) => Ok(()),
         Err(e) => Err(e),
     }
 }

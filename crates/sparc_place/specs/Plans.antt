@@ -42,7 +42,7 @@ abbrev pub stepped : Step → Layout → Layout
 stepped (Sized sizes) m = record m { width = sizes.width; height = sizes.height; contexts = sizes.contexts; per_node = sizes.per_node }
 stepped (Moved cursor) m = record m { begun = true; in_data = cursor.in_data; code = cursor.code; shared = cursor.shared }
 stepped (Wrote cursor) m = record m { begun = true; in_data = cursor.in_data; code = cursor.code; shared = cursor.shared; written = with_range m.shared cursor.shared m.written }
-stepped (Defined name value) m = record m { begun = true; names = named_so name.now value m.names }
+stepped (Defined name value) m = record m { begun = true; names = named_so name value m.names }
 stepped (Started node slot) m = with_started node slot m
 stepped (Always line) m = record m { begun = true; always = with_range line (line + 1) m.always }
 

@@ -10,8 +10,8 @@ use std::alloc::Global;
 
 /// What all lines of a source have laid down, and where each of them stands.
 #[derive(Debug, Drop)]
-pub struct Laid {
-    pub plan: Plan,
+pub struct Laid<'a> {
+    pub plan: Plan<'a>,
     pub places: Places,
 }
 
@@ -28,9 +28,9 @@ pub fn fault_at(fault: Fault, line: u32) -> AsmErr
     }
 }
 
-impl Plan {
+impl<'a> Plan<'a> {
     // Lays down a label.
-    fn lay_label(&mut self, alloc: Global, line: &Line, number: u32) -> Result<Place, AsmErr>
+    fn lay_label(&mut self, line: &Line<'a>, number: u32) -> Result<Place, AsmErr>
         requires { line.now.statement ≡ None }
         ensures { LineIsLaid (layout_of self.old) (layout_of self.new) line.now number result }
     {
@@ -38,26 +38,26 @@ impl Plan {
             return Err(AsmErr::Redefined { line: number });
         }
         let place = self.place(0, 0);
-        match self.define_label(alloc, &line.label) {
+        match self.define_label(&line.label) {
             Ok(()) => Ok(place),
             Err(NoMemory) => Err(AsmErr::NoMemory),
         }
     }
 
     // Lays down a line with a number: where it stands, or its fault.
-    fn lay(&mut self, alloc: Global, line: &Line, number: u32) -> Result<Place, AsmErr>
+    fn lay(&mut self, line: &Line<'a>, number: u32) -> Result<Place, AsmErr>
         ensures { LineIsLaid (layout_of self.old) (layout_of self.new) line.now number result }
     {
         let Some(statement) = &line.statement else {
-            return self.lay_label(alloc, line, number);
+            return self.lay_label(line, number);
         };
         let step = match self.step(&line.label, statement) {
             Ok(step) => step,
             Err(fault) => return Err(fault_at(fault, number)),
         };
         let place = self.placed(&step);
-        match self.define_label(alloc, &line.label) {
-            Ok(()) => match self.take(alloc, step) {
+        match self.define_label(&line.label) {
+            Ok(()) => match self.take(step) {
                 Ok(()) => Ok(place),
                 Err(NoMemory) => Err(AsmErr::NoMemory),
             },
@@ -67,13 +67,13 @@ impl Plan {
 }
 
 /// Lays down the lines of a source: the second pass. The fault is that of the first line that has one.
-pub fn lay_out(alloc: Global, lines: &Lines) -> Result<Laid, AsmErr>
+pub fn lay_out<'a>(alloc: Global, lines: &Lines<'a>) -> Result<Laid<'a>, AsmErr>
     ensures { AnswersPlaces (places 1 nothing_laid lines.now) (places_of nothing_laid lines.now) result }
 {
     let mut plan = Plan::empty(alloc);
     let mut all = Places::empty(alloc);
     for i in 0..lines.len() {
-        match plan.lay(alloc, lines.at_ref(i), i + 1) {
+        match plan.lay(lines.at_ref(i), i + 1) {
             Ok(place) => all.push(place)?,
             Err(e) => return Err(e),
         }

@@ -12,10 +12,10 @@ use std::alloc::Global;
 
 /// What the lines so far have laid down.
 #[derive(Debug, Drop)]
-pub struct Plan {
+pub struct Plan<'a> {
     pub(crate) sizes: Sizes,
     pub(crate) begun: bool,
-    pub(crate) names: Names,
+    pub(crate) names: Names<'a>,
     pub(crate) cursor: Cursor,
     pub(crate) written: Marks,
     pub(crate) started: Marks,
@@ -32,16 +32,16 @@ pub enum Step<'a> {
     /// The same, where the bytes up to there are written.
     Wrote(Cursor),
     /// A name stands for a value.
-    Defined(&'a Name, Value),
+    Defined(Name<'a>, Value),
     /// A context starts.
     Started { node: u16, slot: u8 },
     /// A line is Trap-Always.
     Always(u32),
 }
 
-impl Plan {
+impl<'a> Plan<'a> {
     /// Nothing is laid down.
-    pub fn empty(alloc: Global) -> Plan
+    pub fn empty(alloc: Global) -> Plan<'a>
         ensures { layout_of result ≡ nothing_laid }
     {
         Plan {
@@ -63,7 +63,7 @@ impl Plan {
     }
 
     /// The names that are defined.
-    pub fn names(&self) -> &Names
+    pub fn names(&self) -> &Names<'a>
         ensures { result.now ≡ self.now.names }
     {
         &self.names
@@ -109,11 +109,7 @@ impl Plan {
     }
 
     // Gives a label the address of its line.
-    pub(crate) fn define_label(
-        &mut self,
-        alloc: Global,
-        label: &Option<Name>,
-    ) -> Result<(), NoMemory>
+    pub(crate) fn define_label(&mut self, label: &Option<Name<'a>>) -> Result<(), NoMemory>
         ensures { OnOk result (layout_of self.new ≡ labelled label.now (layout_of self.old)) }
     {
         if let Some(name) = label {
@@ -121,8 +117,7 @@ impl Plan {
                 plus: self.cursor.here(),
                 minus: 0,
             };
-            self.names
-                .define(Name::copied(alloc, name.bytes())?, value)?;
+            self.names.define(Name::of(name.bytes()), value)?;
             self.begun = true;
         }
         Ok(())
@@ -138,7 +133,7 @@ impl Plan {
     }
 
     // Takes a step.
-    pub(crate) fn take(&mut self, alloc: Global, step: Step) -> Result<(), NoMemory>
+    pub(crate) fn take(&mut self, step: Step<'a>) -> Result<(), NoMemory>
         ensures { OnOk result (layout_of self.new ≡ stepped step.entry (layout_of self.old)) }
     {
         match step {
@@ -154,8 +149,7 @@ impl Plan {
                 self.begun = true;
             }
             Step::Defined(name, value) => {
-                self.names
-                    .define(Name::copied(alloc, name.bytes())?, value)?;
+                self.names.define(name, value)?;
                 self.begun = true;
             }
             Step::Started { node, slot } => self.start(node, slot)?,

@@ -20,7 +20,7 @@ fn is_label(label: &Option<Name>, name: &Name) -> bool
     }
 }
 
-impl Plan {
+impl<'a> Plan<'a> {
     // The end of shared data.
     fn data_end(&self) -> u32
         ensures end { result ≡ data_end (layout_of self.now) }
@@ -252,10 +252,10 @@ impl Plan {
     }
 
     // `.equ`.
-    fn equ_step<'a>(
+    fn equ_step(
         &self,
         label: &Option<Name>,
-        name: &'a Name,
+        name: &Name<'a>,
         value: &Expression,
     ) -> Result<Step<'a>, Fault>
         ensures { IsStep (layout_of self.now) label.now (Equ name.now value.now) result }
@@ -273,7 +273,7 @@ impl Plan {
             plus: value.above() as u32,
             minus: value.below() as u32,
         };
-        Ok(Step::Defined(name, value))
+        Ok(Step::Defined(Name::of(name.bytes()), value))
     }
 
     // The context has a start.
@@ -340,10 +340,10 @@ impl Plan {
     }
 
     /// What a statement lays down, or its fault.
-    pub(crate) fn step<'a>(
+    pub(crate) fn step(
         &self,
         label: &Option<Name>,
-        statement: &'a Statement,
+        statement: &Statement<'a>,
     ) -> Result<Step<'a>, Fault>
         ensures { IsStep (layout_of self.now) label.now statement.now result }
     {

@@ -1,7 +1,7 @@
 use Rattle.std.proofs.Common.{◌≡◌, [], ◌∷◌, ◌++◌, ◌∙◌, ap, sym, arith, slice_index}
 use Rattle.sparc_asm.proofs.Reading.{pushed_length}
-use Rattle.sparc_assemble.specs.Assembly.{data_line}
-use Rattle.sparc_assemble.proofs.Gathering.{with_more, listed}
+use Rattle.sparc_assemble.specs.Assembly.{gathered, data_line}
+use Rattle.sparc_assemble.proofs.Gathering.{with_more, listed, all_lines}
 use Rattle.sparc_assemble.proofs.images.bodies_of.Goals as goal
 
 pub loop-number-preserved : goal.loop-number-preserved
@@ -11,3 +11,8 @@ loop-number-preserved c =
       found = with_more (data_line (slice_index c.args.memory.now)) c.loop-number.number c.loop-number.bodies c.push.new.self c.loop-number.invariant.found (c.in_ok-push.ensures.ok ∙ ap (λ xs. c.loop-number.bodies ++ xs) (sym found));
       count = omega (arith, pushed_length _ _ _ c.in_ok-push.ensures.ok);
     }
+
+pub returns : goal.returns
+returns c =
+    let end : c.loop-number.number ≡ c.lines-number-end.result = omega arith in
+    c.loop-number.invariant.found ∙ ap (gathered (data_line (slice_index c.args.memory.now))) end ∙ all_lines c.args.memory.now c.lines-number-end.result c.args.count c.lines-number-end.ensures.few c.lines-number-end.ensures.rest
