@@ -1,0 +1,10 @@
+//! What an instruction of a machine did, as text.
+#![tactic(auto)]
+
+mod accesses;
+mod effects;
+mod pieces;
+mod sights;
+mod turns;
+
+pub use turns::put_turn;

@@ -1,0 +1,118 @@
+ghost use Rattle.std.specs.Prelude.{◌≡◌, ◌<◌, ◌+◌, ◌*◌, IsTrue};
+ghost use Rattle.std.specs.Option.{option_map};
+ghost use Rattle.alw_ctx.specs.Residents.{number_of};
+ghost use Rattle.alw_image.specs.Images.{node_count, line_count, context_count};
+ghost use Rattle.alw_model.specs.Caches.{set_of};
+ghost use Rattle.alw_model.specs.Contexts.{slot_at};
+ghost use Rattle.alw_mesh.specs.Readings.{node_in};
+ghost use Rattle.alw_turns.specs.Sights.{seen_of, IsLineOf};
+ghost use Rattle.alw_turns.specs.Turns.{is_waited, bytes_in_set, bytes_needed};
+
+use alw_mesh::Machine;
+use alw_num::{Line, LineNo, NodeNo};
+use sparc_exec::need;
+use sparc_table::{Need, Regs};
+
+/// What is read of a slot of a node before its turn: its registers, the line that it has a hold on, what it
+/// needs, and of the line that it needs, whether a transaction is open and the bytes of the copy in its set.
+#[derive(Clone, Copy, Debug)]
+pub struct Seen {
+    pub node: NodeNo,
+    pub slot: u8,
+    pub regs: Regs,
+    pub hold: Option<u32>,
+    pub need: Need,
+    pub waits: bool,
+    pub body: Line,
+}
+
+/// What is read of a slot now.
+pub fn look(machine: &Machine, node: NodeNo, slot: u8) -> Seen
+    requires node { node.0 < node_count machine.now.image }
+    requires slot { slot < machine.now.image.contexts }
+    ensures { result ≡ seen_of machine.now.image machine.now.parameters node.0 (node_in machine.now node.0) slot }
+{
+    let regs = regs_of(machine, node, slot);
+    let image = machine.image();
+    let need = need(image.code().words(), &regs, image.lines());
+    Seen {
+        node,
+        slot,
+        regs,
+        hold: hold_of(machine, node, slot),
+        need,
+        waits: is_waited(machine, node, need),
+        body: bytes_needed(machine, node, need),
+    }
+}
+
+// The number of a slot's context.
+fn context_of(machine: &Machine, node: NodeNo, slot: u8) -> u32
+    requires node { node.0 < node_count machine.now.image }
+    requires slot { slot < machine.now.image.contexts }
+    ensures number { result ≡ node.0 * machine.now.image.contexts + slot }
+    ensures exists { result < context_count machine.now.image }
+{
+    let contexts = u32::from(machine.image().contexts());
+    let first = u32::from(node.0) * contexts;
+    first + u32::from(slot)
+}
+
+/// The registers of a slot.
+pub fn regs_of(machine: &Machine, node: NodeNo, slot: u8) -> Regs
+    requires node { node.0 < node_count machine.now.image }
+    requires slot { slot < machine.now.image.contexts }
+    ensures { result ≡ (slot_at (node_in machine.now node.0).slots slot).regs }
+{
+    machine.regs(context_of(machine, node, slot))
+}
+
+// The line that a slot has a hold on.
+fn hold_of(machine: &Machine, node: NodeNo, slot: u8) -> Option<u32>
+    requires node { node.0 < node_count machine.now.image }
+    requires slot { slot < machine.now.image.contexts }
+    ensures { result ≡ (slot_at (node_in machine.now node.0).slots slot).hold }
+{
+    number_of(machine.held(context_of(machine, node, slot)))
+}
+
+fn number_of(line: Option<LineNo>) -> Option<u32>
+    ensures { result ≡ option_map number_of line }
+{
+    line.map(|line| line.0)
+}
+
+// A transaction on the line that is needed is open.
+fn is_waited(machine: &Machine, node: NodeNo, need: Need) -> bool
+    requires node { node.0 < node_count machine.now.image }
+    requires line { IsLineOf (line_count machine.now.image) need }
+    ensures { result ≡ is_waited need (node_in machine.now node.0).transactions }
+{
+    match need {
+        Need::Copy { line, .. } => machine.pending(node, line).is_some(),
+        _ => false,
+    }
+}
+
+/// The bytes of the copy in the set of the line that is needed: zero where there is none.
+pub fn bytes_needed(machine: &Machine, node: NodeNo, need: Need) -> Line
+    requires { node.0 < node_count machine.now.image }
+    ensures { result ≡ bytes_needed machine.now.parameters.sets (node_in machine.now node.0).cache need }
+{
+    match need {
+        Need::Copy { line, .. } => bytes_in(machine, node, line),
+        _ => Line::ZERO,
+    }
+}
+
+// The bytes of the copy in a line's set.
+fn bytes_in(machine: &Machine, node: NodeNo, line: LineNo) -> Line
+    requires { node.0 < node_count machine.now.image }
+    ensures { result ≡ bytes_in_set (node_in machine.now node.0).cache (set_of machine.now.parameters.sets line.0) }
+{
+    let set = line.0 % machine.params().sets();
+    match machine.cached(node, set) {
+        Some((_line, _mode, body)) => body,
+        None => Line::ZERO,
+    }
+}
