@@ -1,0 +1,4 @@
+mod Lists
+mod Enabled
+mod Runs
+mod Examples
