@@ -1,0 +1,11 @@
+mod Telling
+mod Marking
+mod Lists
+mod Slots
+mod Enabled
+mod Tells
+mod Again
+mod Ascii
+mod Listed
+mod Sent
+mod Apart

@@ -1,0 +1,29 @@
+-- Each member is sent, and then the rest.
+use Rattle.std.proofs.Common.{subst}
+use Rattle.std.proofs.lemmas.Result.{on_ok_weaker}
+use Rattle.serde_json.specs.Events.{SendsValue}
+use Rattle.alw_profile.specs.Counted.{LineCounts}
+use Rattle.alw_profile.specs.Json.{line_data}
+use Rattle.alw_profile.proofs.Sent.{then_sent}
+use Rattle.alw_profile.proofs.json_text.LineRowSerialize.serialize.Goals as goal
+
+pub returns : goal.returns
+returns g c =
+    let first = g.S.Serializer.written c.begin_map.new.self in
+    let end = g.S.Serializer.written c.end_map.new.self in
+    on_ok_weaker c.end_map.result (λ e. subst (λ (r : LineCounts). SendsValue (line_data r) (g.S.Serializer.written c.args.out.now) end) c.self.view_is (
+      first,
+      c.in_ok-begin_map.ensures,
+      then_sent _ _ _ c.in_ok-put.ensures (
+          then_sent _ _ _ c.in_ok-put-2.ensures (
+          then_sent _ _ _ c.in_ok-put-3.ensures (
+          then_sent _ _ _ c.in_ok-put-4.ensures (
+          then_sent _ _ _ c.in_ok-put-5.ensures (
+          then_sent _ _ _ c.in_ok-put-6.ensures (
+          then_sent _ _ _ c.in_ok-put-7.ensures (
+          then_sent _ _ _ c.in_ok-put-8.ensures (
+          then_sent _ _ _ c.in_ok-put-9.ensures (
+          then_sent _ _ _ c.in_ok-put-10.ensures (
+          then_sent _ _ _ c.in_ok-put-11.ensures (
+          then_sent _ _ _ c.in_ok-put-12.ensures e))))))))))),
+    )) c.end_map.ensures

@@ -1,0 +1,9 @@
+pub mod Marks
+pub mod Tables
+pub mod Places
+pub mod Events
+pub mod Tallies
+pub mod Counted
+pub mod Rows
+pub mod Listing
+pub mod Json
