@@ -11,7 +11,6 @@ use alw_mesh::FitErr;
 use alw_model::{Ended, TrapAt};
 use alw_msg::{Event, Journal};
 use alw_num::{Bytes, NoMemory};
-use alw_save::{CutErr, RestoreErr};
 use alw_trace::TextErr;
 use sparc_asm::AsmErr;
 use std::alloc::Global;
@@ -136,42 +135,6 @@ impl From<FitErr> for Refusal {
             FitErr::DoesNotFit { number, most } => {
                 Refusal::Fault(InputErr::LimitDoesNotFit(number, most))
             }
-        }
-    }
-}
-
-impl From<CutErr> for Refusal {
-    ghost use Rattle.std.specs.Prelude.{◌≡◌};
-    ghost use Rattle.alw_answers.specs.Refusals.{refusal_of_cut};
-
-    ghost from_gives = { λ cut refusal. refusal ≡ refusal_of_cut cut };
-
-    fn from(cut: CutErr) -> Refusal {
-        match cut {
-            CutErr::NoMemory => Refusal::NoMemory,
-            CutErr::DoesNotFit { number, most } => {
-                Refusal::Fault(InputErr::LimitDoesNotFit(number, most))
-            }
-            CutErr::NotLegal(k) => Refusal::Fault(InputErr::NotLegal(k)),
-        }
-    }
-}
-
-impl From<RestoreErr> for Refusal {
-    ghost use Rattle.std.specs.Prelude.{◌≡◌};
-    ghost use Rattle.alw_answers.specs.Refusals.{refusal_of_restore};
-
-    ghost from_gives = { λ fault refusal. refusal ≡ refusal_of_restore fault };
-
-    fn from(fault: RestoreErr) -> Refusal {
-        match fault {
-            RestoreErr::NoMemory => Refusal::NoMemory,
-            RestoreErr::Text(fault) => Refusal::Fault(InputErr::Text(fault)),
-            RestoreErr::DoesNotFit { number, most } => {
-                Refusal::Fault(InputErr::LimitDoesNotFit(number, most))
-            }
-            RestoreErr::NotLegal(k) => Refusal::Fault(InputErr::NotLegal(k)),
-            RestoreErr::StateDiffers(line) => Refusal::Fault(InputErr::StateDiffers(line)),
         }
     }
 }

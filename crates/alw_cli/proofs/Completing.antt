@@ -16,7 +16,7 @@ use Rattle.alw_cli.specs.Streams.{Stream, IsRead, IsInput, TookTooMany, HadNoFau
 use Rattle.alw_answers.specs.Tasks.{Task}
 use Rattle.alw_cli.specs.Answered.{Reads, Answered, Outputs}
 use Rattle.alw_cli.specs.Answers.{task_of, Performed, Answers, IsComplete}
-use Rattle.alw_commands.proofs.Tasks.{IsKept}
+use Rattle.alw_answers.proofs.Kept.{IsKept}
 use Rattle.alw_cli.proofs.Each.{each_kept}
 
 -- no more bytes are taken than a source has

@@ -3,7 +3,10 @@ use Rattle.alw_config.specs.declared.commands.Command.{Command}
 use Rattle.alw_config.specs.declared.commands.How.TheVariants as hows
 use Rattle.alw_config.specs.declared.commands.Command.TheVariants as commands
 use Rattle.alw_cli.specs.Answers.{task_of}
-use Rattle.alw_commands.proofs.Tasks.{IsKept, asm_kept, run_kept, work_kept, replay_kept, route_kept, audit_kept, gen_kept, save_kept, resume_kept, search_kept}
+use Rattle.alw_answers.proofs.Kept.{IsKept}
+use Rattle.alw_builds.proofs.Kept.{asm_kept, dis_kept, gen_kept}
+use Rattle.alw_checks.proofs.Kept.{audit_kept, search_kept}
+use Rattle.alw_runs.proofs.Kept.{run_kept, work_kept, replay_kept, route_kept, save_kept, resume_kept}
 
 pub each_kept : (command : Command) → IsKept (task_of command)
 each_kept (commands.Asm form) = asm_kept form
@@ -16,3 +19,4 @@ each_kept (commands.Route seed) = route_kept
 each_kept (commands.Save at) = save_kept at
 each_kept (commands.Resume seed evict form) = resume_kept seed evict form
 each_kept (commands.Outcomes most) = search_kept
+each_kept commands.Dis = dis_kept

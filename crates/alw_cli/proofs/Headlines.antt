@@ -18,11 +18,11 @@ use Rattle.alw_answers.specs.Outputs.{cause_of, ending_of}
 use Rattle.alw_cli.specs.Streams.{Stream}
 use Rattle.alw_answers.specs.Tasks.{Task}
 use Rattle.alw_cli.specs.Answered.{Reads, Answered}
-use Rattle.alw_commands.specs.Forms.{IsTold}
-use Rattle.alw_commands.specs.Running.{run_task}
-use Rattle.alw_commands.specs.Working.{work_task}
-use Rattle.alw_commands.specs.Replaying.{replay_task}
-use Rattle.alw_commands.specs.Resuming.{resume_task}
+use Rattle.alw_runs.specs.Forms.{IsTold}
+use Rattle.alw_runs.specs.Running.{run_task}
+use Rattle.alw_runs.specs.Working.{work_task}
+use Rattle.alw_runs.specs.Replaying.{replay_task}
+use Rattle.alw_runs.specs.Resuming.{resume_task}
 use Rattle.alw_cli.specs.Answers.{task_of, Answers}
 use Rattle.alw_cli.specs.Headline.{has_journal, IsCoherent, Promised, Headline}
 use Rattle.alw_cli.proofs.Completing.{answered_to}

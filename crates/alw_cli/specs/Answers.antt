@@ -11,16 +11,17 @@ use Rattle.alw_answers.specs.declared.answers.Cause.TheVariants as cause
 use Rattle.alw_cli.specs.Streams.{Stream, IsInput, Stays, GainedPart, HadNoFault}
 use Rattle.alw_answers.specs.Tasks.{Task, IsNothing}
 use Rattle.alw_cli.specs.Answered.{Answered}
-use Rattle.alw_commands.specs.Assembling.{asm_task}
-use Rattle.alw_commands.specs.Running.{run_task}
-use Rattle.alw_commands.specs.Working.{work_task}
-use Rattle.alw_commands.specs.Replaying.{replay_task}
-use Rattle.alw_commands.specs.Auditing.{audit_task}
-use Rattle.alw_commands.specs.Making.{gen_task}
-use Rattle.alw_commands.specs.Routing.{route_task}
-use Rattle.alw_commands.specs.Saving.{save_task}
-use Rattle.alw_commands.specs.Resuming.{resume_task}
-use Rattle.alw_commands.specs.Searching.{search_task}
+use Rattle.alw_builds.specs.Assembling.{asm_task}
+use Rattle.alw_runs.specs.Running.{run_task}
+use Rattle.alw_runs.specs.Working.{work_task}
+use Rattle.alw_runs.specs.Replaying.{replay_task}
+use Rattle.alw_checks.specs.Auditing.{audit_task}
+use Rattle.alw_builds.specs.Making.{gen_task}
+use Rattle.alw_builds.specs.ReadingBack.{dis_task}
+use Rattle.alw_runs.specs.Routing.{route_task}
+use Rattle.alw_runs.specs.Saving.{save_task}
+use Rattle.alw_runs.specs.Resuming.{resume_task}
+use Rattle.alw_checks.specs.Searching.{search_task}
 use Rattle.alw_answers.specs.ErrLines.{err_line}
 
 -- ---- the answers
@@ -37,6 +38,7 @@ task_of (commands.Route seed) = route_task
 task_of (commands.Save at) = save_task at
 task_of (commands.Resume seed evict form) = resume_task seed evict form
 task_of (commands.Outcomes most) = search_task
+task_of commands.Dis = dis_task
 
 -- a command asks for no workers
 abbrev pub IsAlone : Command → Type 0

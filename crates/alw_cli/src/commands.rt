@@ -11,13 +11,12 @@ ghost use Rattle.alw_cli.specs.Answered.{Answered};
 
 use crate::streams::{bytes_for, write_made};
 use alw_answers::{Done, MOST_INPUT, Output, Refusal};
-use alw_commands::{
-    assemble_source, audit_bytes, make_workload, replay_bytes, resume, route_bytes, run_bytes,
-    save_bytes, search_bytes,
-};
+use alw_builds::{assemble_source, make_workload, read_back};
+use alw_checks::{audit_bytes, search_bytes};
 use alw_config::{Command, Form, How};
 use alw_image::Params;
 use alw_io::{Sink, Source};
+use alw_runs::{replay_bytes, resume, route_bytes, run_bytes, save_bytes};
 use std::alloc::Global;
 
 /// Carries out a command that asks for no workers: reads `input` to its end, where it reads any, and writes
@@ -76,6 +75,7 @@ fn make(alloc: Global, command: Command, bytes: &[u8]) -> Result<Output, Refusal
         Command::Save { at } => save_bytes(alloc, at, bytes),
         Command::Resume { seed, evict, write } => resume(alloc, seed, evict, write, bytes),
         Command::Outcomes { most } => search_bytes(alloc, most, bytes),
+        Command::Dis => read_back(alloc, bytes),
     }
 }
 

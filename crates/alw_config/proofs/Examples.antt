@@ -2,10 +2,10 @@
 use Rattle.std.proofs.Common.{◌≡◌, ℕ, zero, suc, ◌<◌, Bool, true, false, List, [], ◌∷◌, codes, refl, inl, arith}
 use Rattle.std.specs.Prelude.{None, Some}
 use Rattle.std.specs.Fmt.{digits}
-use Rattle.alw_config.specs.declared.commands.Command.TheVariants.{Asm, Run, Replay, Audit, Gen, Route, Save, Resume, Outcomes}
+use Rattle.alw_config.specs.declared.commands.Command.TheVariants.{Asm, Run, Replay, Audit, Gen, Route, Save, Resume, Outcomes, Dis}
 use Rattle.alw_config.specs.declared.commands.How.TheVariants.{Seed, Workers}
 use Rattle.alw_config.specs.declared.commands.AsmForm.TheVariants.{Image, Listing}
-use Rattle.alw_config.specs.declared.commands.Form.TheVariants.{Report, Claim}
+use Rattle.alw_config.specs.declared.commands.Form.TheVariants.{Report, Claim, Log, Profile}
 use Rattle.alw_config.specs.Places.{IsFirstPlace, IsRefusedAt, is_bad, asked, misfit_in}
 
 -- the first place that passes a test is 2
@@ -90,6 +90,15 @@ replayed = refl
 
 audited : asked (codes "audit" ∷ []) ≡ Some Audit
 audited = refl
+
+read_back : asked (codes "dis" ∷ []) ≡ Some Dis
+read_back = refl
+
+logged : asked (codes "replay" ∷ codes "--write" ∷ codes "log" ∷ []) ≡ Some (Replay Log)
+logged = refl
+
+profiled : asked (codes "replay" ∷ codes "--write" ∷ codes "profile" ∷ []) ≡ Some (Replay Profile)
+profiled = refl
 
 made : asked (codes "gen" ∷ []) ≡ Some (Gen 0 4 4 16)
 made = refl

@@ -8,7 +8,7 @@ use Rattle.alw_config.specs.declared.commands.Command.TheVariants as command
 use Rattle.alw_config.specs.declared.rows.Value.{Value}
 use Rattle.alw_config.specs.declared.rows.Value.TheVariants.{Number, How, AsmForm, Form}
 use Rattle.alw_config.specs.declared.rows.Name.{Name}
-use Rattle.alw_config.specs.declared.rows.Name.TheVariants.{Asm, Run, Replay, Audit, Gen, Route, Save, Resume, Outcomes}
+use Rattle.alw_config.specs.declared.rows.Name.TheVariants.{Asm, Run, Replay, Audit, Gen, Route, Save, Resume, Outcomes, Dis}
 use Rattle.alw_config.specs.declared.rows.Kind.{Kind}
 use Rattle.alw_config.specs.declared.rows.Kind.TheVariants as kinds
 use Rattle.alw_config.specs.declared.commands.How.TheVariants as hows
@@ -23,7 +23,7 @@ use Rattle.alw_config.specs.Values.{row_of, value_of}
 abbrev pub commands : List (List ℕ × Name)
 commands =
     (codes "asm", Asm) ∷ (codes "run", Run) ∷ (codes "replay", Replay) ∷ (codes "audit", Audit) ∷ (codes "gen", Gen) ∷ (codes "route", Route) ∷ (codes "save", Save) ∷
-    (codes "resume", Resume) ∷ (codes "outcomes", Outcomes) ∷ []
+    (codes "resume", Resume) ∷ (codes "outcomes", Outcomes) ∷ (codes "dis", Dis) ∷ []
 
 -- options, by their names
 abbrev pub Options : Type 0
@@ -42,6 +42,7 @@ options_of Run =
     (codes "--write", makes_by 5 kinds.Form) ∷ []
 options_of Replay = (codes "--write", makes_by 0 kinds.Form) ∷ []
 options_of Audit = []
+options_of Dis = []
 options_of Gen =
     (codes "--seed", makes_by 0 (kinds.Between 0 18446744073709551615)) ∷ (codes "--width", makes_by 1 (kinds.Between 1 16)) ∷
     (codes "--height", makes_by 2 (kinds.Between 1 16)) ∷ (codes "--size", makes_by 3 (kinds.Between 1 255)) ∷ []
@@ -56,6 +57,7 @@ defaults_of Asm = AsmForm asms.Image ∷ []
 defaults_of Run = How (hows.Seed 0) ∷ Number 4 ∷ Number 256 ∷ Number 32768 ∷ Number 0 ∷ Form forms.Report ∷ []
 defaults_of Replay = Form forms.Report ∷ []
 defaults_of Audit = []
+defaults_of Dis = []
 defaults_of Gen = Number 0 ∷ Number 4 ∷ Number 4 ∷ Number 16 ∷ []
 defaults_of Route = Number 0 ∷ []
 defaults_of Save = Number 4294967295 ∷ []
@@ -128,6 +130,7 @@ command_of Run (How how ∷ Number pointers ∷ Number sets ∷ Number limit ∷
     Some (command.Run how (record { pointers = pointers; sets = sets; limit = limit; evict = evict }) write)
 command_of Replay (Form write ∷ []) = Some (command.Replay write)
 command_of Audit [] = Some command.Audit
+command_of Dis [] = Some command.Dis
 command_of Gen (Number seed ∷ Number width ∷ Number height ∷ Number size ∷ []) = Some (command.Gen seed width height size)
 command_of Route (Number seed ∷ []) = Some (command.Route seed)
 command_of Save (Number at ∷ []) = Some (command.Save at)

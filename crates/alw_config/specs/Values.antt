@@ -23,7 +23,7 @@ abbrev pub asm_forms : List (List ℕ × AsmForm)
 asm_forms = (codes "image", asms.Image) ∷ (codes "listing", asms.Listing) ∷ []
 
 abbrev pub forms : List (List ℕ × Form)
-forms = (codes "report", runs.Report) ∷ (codes "json", runs.Json) ∷ (codes "trace", runs.Trace) ∷ (codes "claim", runs.Claim) ∷ (codes "summary", runs.Summary) ∷ []
+forms = (codes "report", runs.Report) ∷ (codes "json", runs.Json) ∷ (codes "trace", runs.Trace) ∷ (codes "claim", runs.Claim) ∷ (codes "summary", runs.Summary) ∷ (codes "log", runs.Log) ∷ (codes "profile", runs.Profile) ∷ []
 
 -- the number whose decimal digits a word is
 abbrev pub number_of : List ℕ → ℕ

@@ -46,6 +46,8 @@ pub enum Command {
     Outcomes {
         most: u32,
     },
+    /// Writes the source of an image.
+    Dis,
 }
 
 /// What an assembled source is written as.
@@ -76,6 +78,10 @@ pub enum Form {
     Claim,
     /// The report's first lines.
     Summary,
+    /// What each event did, a line an event.
+    Log,
+    /// Counts by node, line and code word, as one object.
+    Profile,
 }
 
 /// The place of the first refused word, from 0. A missing word has the place behind the last.

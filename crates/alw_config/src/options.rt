@@ -7,8 +7,8 @@ ghost use Rattle.alw_config.specs.Choices.{HavePlaces, ChoicesAreMade, ValuesAre
 use crate::commands::{AsmForm, Command, Form, How, WordErr};
 use crate::lookups::row_of;
 use crate::rows::{
-    ASM_DEFAULTS, ASM_OPTIONS, AUDIT_DEFAULTS, AUDIT_OPTIONS, GEN_DEFAULTS, GEN_OPTIONS, GEN_RULE,
-    MOST_CHOICES, Made, Meaning, Name, OUTCOMES_DEFAULTS, OUTCOMES_OPTIONS, REPLAY_DEFAULTS,
+    ASM_DEFAULTS, ASM_OPTIONS, GEN_DEFAULTS, GEN_OPTIONS, GEN_RULE, MOST_CHOICES, Made, Meaning,
+    NO_DEFAULTS, NO_OPTIONS, Name, OUTCOMES_DEFAULTS, OUTCOMES_OPTIONS, REPLAY_DEFAULTS,
     REPLAY_OPTIONS, RESUME_DEFAULTS, RESUME_OPTIONS, ROUTE_DEFAULTS, ROUTE_OPTIONS, RUN_DEFAULTS,
     RUN_OPTIONS, Row, Rule, SAVE_DEFAULTS, SAVE_OPTIONS, Value,
 };
@@ -91,12 +91,13 @@ impl Name {
             Name::Asm => &ASM_OPTIONS,
             Name::Run => &RUN_OPTIONS,
             Name::Replay => &REPLAY_OPTIONS,
-            Name::Audit => &AUDIT_OPTIONS,
+            Name::Audit => &NO_OPTIONS,
             Name::Gen => &GEN_OPTIONS,
             Name::Route => &ROUTE_OPTIONS,
             Name::Save => &SAVE_OPTIONS,
             Name::Resume => &RESUME_OPTIONS,
             Name::Outcomes => &OUTCOMES_OPTIONS,
+            Name::Dis => &NO_OPTIONS,
         }
     }
 
@@ -109,12 +110,13 @@ impl Name {
             Name::Asm => &ASM_DEFAULTS,
             Name::Run => &RUN_DEFAULTS,
             Name::Replay => &REPLAY_DEFAULTS,
-            Name::Audit => &AUDIT_DEFAULTS,
+            Name::Audit => &NO_DEFAULTS,
             Name::Gen => &GEN_DEFAULTS,
             Name::Route => &ROUTE_DEFAULTS,
             Name::Save => &SAVE_DEFAULTS,
             Name::Resume => &RESUME_DEFAULTS,
             Name::Outcomes => &OUTCOMES_DEFAULTS,
+            Name::Dis => &NO_DEFAULTS,
         }
     }
 
@@ -170,6 +172,7 @@ impl Name {
                 write: self.value(chosen, 0).form(),
             },
             Name::Audit => Command::Audit,
+            Name::Dis => Command::Dis,
             Name::Gen => Command::Gen {
                 seed: self.value(chosen, 0).number(),
                 width: self.value(chosen, 1).number() as u8,

@@ -18,6 +18,7 @@ pub(crate) enum Name {
     Save,
     Resume,
     Outcomes,
+    Dis,
 }
 
 // What an option stands for. A command leaves choices, numbered from 0: an option makes one of them, by a
@@ -76,7 +77,7 @@ pub(crate) struct Rule {
 pub(crate) const MOST_CHOICES: usize = 6;
 
 // The commands, by their names.
-pub(crate) const COMMANDS: [Row<Name>; 9] = [
+pub(crate) const COMMANDS: [Row<Name>; 10] = [
     (b"asm", Name::Asm),
     (b"run", Name::Run),
     (b"replay", Name::Replay),
@@ -86,6 +87,7 @@ pub(crate) const COMMANDS: [Row<Name>; 9] = [
     (b"save", Name::Save),
     (b"resume", Name::Resume),
     (b"outcomes", Name::Outcomes),
+    (b"dis", Name::Dis),
 ];
 
 // What an assembled source is written as.
@@ -95,12 +97,14 @@ pub(crate) const ASM_FORMS: [Row<AsmForm>; 2] = [
 ];
 
 // What a run is written as.
-pub(crate) const FORMS: [Row<Form>; 5] = [
+pub(crate) const FORMS: [Row<Form>; 7] = [
     (b"report", Form::Report),
     (b"json", Form::Json),
     (b"trace", Form::Trace),
     (b"claim", Form::Claim),
     (b"summary", Form::Summary),
+    (b"log", Form::Log),
+    (b"profile", Form::Profile),
 ];
 
 // The options of `asm`.
@@ -190,10 +194,10 @@ pub(crate) const REPLAY_OPTIONS: [Row<Meaning>; 1] = [(
 // What `replay` chooses where no option does.
 pub(crate) const REPLAY_DEFAULTS: [Value; 1] = [Value::Form(Form::Report)];
 
-// The options of `audit`, and what it chooses: there are none.
-pub(crate) const AUDIT_OPTIONS: [Row<Meaning>; 0] = [];
+// The options of `audit` and `dis`, and what they choose: there are none.
+pub(crate) const NO_OPTIONS: [Row<Meaning>; 0] = [];
 
-pub(crate) const AUDIT_DEFAULTS: [Value; 0] = [];
+pub(crate) const NO_DEFAULTS: [Value; 0] = [];
 
 // The options of `gen`.
 pub(crate) const GEN_OPTIONS: [Row<Meaning>; 4] = [

@@ -23,3 +23,6 @@ returns-in-Resume c = rw c.in-Resume.is c.resume.ensures
 
 pub returns-in-Outcomes : goal.returns-in-Outcomes
 returns-in-Outcomes c = rw c.in-Outcomes.is c.search_bytes.ensures
+
+pub returns-in-Dis : goal.returns-in-Dis
+returns-in-Dis c = rw c.in-Dis.is c.read_back.ensures

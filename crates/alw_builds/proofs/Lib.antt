@@ -1,0 +1,4 @@
+pub mod Listing
+pub mod Refused
+pub mod Words
+pub mod Kept

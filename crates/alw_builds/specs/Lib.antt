@@ -1,0 +1,4 @@
+pub mod Assembling
+pub mod Listing
+pub mod Making
+pub mod ReadingBack

@@ -1,0 +1,98 @@
+ghost use Rattle.std.specs.Prelude.{◌≡◌, ◌<◌, ◌^◌, ◌++◌, IfOk, OnOk};
+ghost use Rattle.alw_audit.specs.Verdicts.{AreWords};
+ghost use Rattle.alw_checks.specs.Auditing.{Audits, IsNoClaim, ending_of_verdict, verdict_text, place_text, print_context, values_text};
+ghost use Rattle.alw_answers.specs.Outputs.{Gives};
+
+use alw_answers::{Ending, Output, Refusal};
+use alw_audit::{Place, Verdict, audit};
+use alw_num::NoMemory;
+use alw_text::{Spell, Text, put_number};
+use alw_trace::read_claim;
+use std::alloc::Global;
+
+/// Audits the claim that bytes spell, to its verdict.
+pub fn audit_bytes(alloc: Global, bytes: &[u8]) -> Result<Output, Refusal>
+    ensures { Gives (Audits bytes.now) (IsNoClaim bytes.now) result }
+{
+    let claim = read_claim(alloc, bytes)?;
+    let verdict = audit(alloc, &claim)?;
+    let text = verdict_text(alloc, verdict)?;
+    Ok(Output::of_text(alloc, text, ending_of_verdict(verdict)))
+}
+
+// How an audit ends by its verdict.
+fn ending_of_verdict(verdict: Verdict) -> Ending
+    ensures { result ≡ ending_of_verdict verdict }
+{
+    match verdict {
+        Verdict::Sound => Ending::Fine,
+        Verdict::Differs {
+            place,
+            claimed,
+            real,
+        } => Ending::Differs(place, claimed, real),
+    }
+}
+
+// The line of a verdict.
+#[tactic(auto, unfolding(crate::specs::Auditing::sound_line))]
+fn verdict_text(alloc: Global, verdict: Verdict) -> Result<Text, NoMemory>
+    requires { AreWords verdict }
+    ensures { IfOk result (λ text. text ≡ verdict_text verdict) }
+{
+    let mut text = Text::empty(alloc);
+    match verdict {
+        Verdict::Sound => text.put(b"sound\n")?,
+        Verdict::Differs {
+            place,
+            claimed,
+            real,
+        } => {
+            text.put(b"differs ")?;
+            put_place(&mut text, place)?;
+            put_values(&mut text, claimed, real)?;
+        }
+    }
+    Ok(text)
+}
+
+// The place at which a claim differs.
+fn put_place(text: &mut Text, place: Place) -> Result<(), NoMemory>
+    ensures { OnOk result (text.new ≡ text.old ++ place_text place) }
+{
+    match place {
+        Place::Turn { k } => put_number(text, b"turn ", u64::from(k)),
+        Place::PrintCount => text.put(b"print-count"),
+        Place::PrintContext { k } => {
+            put_print_context(text)?;
+            text.put_decimal(u64::from(k))
+        }
+        Place::Print { k } => put_number(text, b"print ", u64::from(k)),
+        Place::Memory { addr } => {
+            text.put(b"memory ")?;
+            text.put_hex32(addr)
+        }
+    }
+}
+
+#[tactic(auto, unfolding(crate::specs::Auditing::print_context))]
+fn put_print_context(text: &mut Text) -> Result<(), NoMemory>
+    ensures { OnOk result (text.new ≡ text.old ++ print_context) }
+{
+    text.put(b"print-context ")
+}
+
+// What is claimed there, and what is real.
+#[tactic(auto, unfolding(crate::specs::Auditing::values_text))]
+fn put_values(text: &mut Text, claimed: u64, real: u64) -> Result<(), NoMemory>
+    requires claimed { claimed < 2 ^ 32 }
+    requires real { real < 2 ^ 32 }
+    ensures { OnOk result (text.new ≡ text.old ++ values_text claimed real) }
+{
+    text.put(b" claimed ")?;
+    text.put_hex32(claimed as u32)?;
+    text.put(b" real ")?;
+    text.put_hex32(real as u32)?;
+    text.put(b"\n")?;
+    Ok(())
+}

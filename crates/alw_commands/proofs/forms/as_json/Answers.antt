@@ -1,6 +1,0 @@
-use Rattle.alw_commands.proofs.Formed.{told_json}
-use Rattle.alw_commands.proofs.forms.as_json.Goals as goal
-
-pub returns : goal.returns
-returns c =
-    told_json c.args.machine c.args.ended c.output_with.result c.in_ok-tell.field-0 c.in_ok-text.text c.output_with.ensures c.in_ok-text.ensures c.in_ok-tell.ensures

@@ -1,0 +1,9 @@
+pub mod Refused
+pub mod Told
+pub mod Formed
+pub mod Saved
+pub mod Resumable
+pub mod NoEvict
+pub mod Trapped
+pub mod Begun
+pub mod Kept

@@ -1,0 +1,127 @@
+-- A machine at an end, which a seed has taken there from the start of an image, or which took the entries of a trace.
+use Rattle.std.proofs.Common.{◌≡◌, ℕ, suc, ◌<◌, ◌≤◌, List, length, refl, ap, subst, ◌∙◌, arith}
+use Rattle.std.specs.Prelude.{None, Ok, Err}
+use Rattle.std.proofs.lemmas.List.{take_all}
+use Rattle.alw_msg.specs.declared.events.Entry.{Entry}
+use Rattle.alw_image.specs.declared.parts.Parts.{Parts}
+use Rattle.alw_image.specs.Faults.{image_in, image_fault}
+use Rattle.alw_image.specs.Images.{spelling}
+use Rattle.alw_image.specs.Parameters.{Parameters}
+use Rattle.alw_model.specs.declared.ends.Ended.{Ended}
+use Rattle.alw_model.specs.Machine.{IsLegal, end_of}
+use Rattle.alw_model.specs.Ends.{IsEnd}
+use Rattle.alw_model.specs.Headline.{IsScheduled}
+use Rattle.law_machine.proofs.CoherentRuns.{coherent_run}
+use Rattle.alw_mesh.specs.Histories.{History, IsRun, begun, state_of, stamps_of}
+use Rattle.alw_mesh.specs.Limits.{most_steps}
+use Rattle.alw_sched.specs.Schedules.{IsSeededRun, RunIsFinished}
+use Rattle.alw_sched.proofs.Seeded.{of_start, seeded_run, seeded_scheduled}
+use Rattle.alw_replay.specs.Replays.{IsReplayed}
+use Rattle.alw_trace.specs.declared.values.Trace.{Trace}
+use Rattle.alw_save.specs.Cuts.{whole_of}
+use Rattle.alw_config.specs.declared.commands.Form.{Form}
+use Rattle.alw_answers.specs.declared.answers.InputErr.{InputErr}
+use Rattle.alw_answers.specs.declared.answers.InputErr.TheVariants as reason
+use Rattle.alw_answers.specs.declared.outputs.Output.{Output}
+use Rattle.alw_answers.specs.declared.outputs.Refusal.{Refusal}
+use Rattle.alw_answers.specs.declared.outputs.Refusal.TheVariants as refusal
+use Rattle.alw_answers.specs.Outputs.{Gives}
+use Rattle.alw_runs.specs.Forms.{IsTold, output_of}
+use Rattle.alw_runs.specs.Running.{Runs}
+use Rattle.alw_runs.specs.Replaying.{Spells, IsFit, IsFirstIllegal, IsUnfinished, IsFinishedTrace, IsNotTaken, EndsTrace, Replays, IsNoReplay}
+use Rattle.alw_runs.proofs.NoEvict.{some_end}
+
+pub told_of_run : (h : History) (e : Ended) (form : Form) → IsRun h → IsEnd h.image h.parameters h.journal e → IsTold h.image h.parameters form (output_of h e form)
+told_of_run h e form is end = record {
+  image_is = is.image;
+  parameters_are = is.parameters;
+  fits = is.fits;
+  ended = e;
+  run = coherent_run h.image h.parameters is.parameters.some_pointer h.journal is.legal e end;
+  ending = refl;
+  text = refl;
+}
+
+-- ---- by a seed
+
+-- the bytes were read as an image
+pub record IsReadAs (bytes : List ℕ) (image : Parts) : Type 0 where
+  pub same : image ≡ image_in bytes
+  pub spelled : bytes ≡ spelling image
+  pub accepted : image_fault bytes ≡ None
+
+pub ran : (seed : ℕ) (params : Parameters) (form : Form) (bytes : List ℕ) (image : Parts) → IsReadAs bytes image → (before after : History) (e : Ended) →
+    before ≡ begun image params → RunIsFinished before seed after e → Runs seed params form bytes (output_of after e form)
+ran seed params form bytes image read before after e started finished =
+    let done : RunIsFinished (begun image params) seed after e = subst (λ (h : History). RunIsFinished h seed after e) started finished in
+    let is : after ≡ record { image = image; parameters = params; journal = after.journal; joined = 0 } = of_start image params seed after done.seeded in
+    let by : IsSeededRun image params seed after.journal = seeded_run image params seed after done.seeded in
+    record {
+      accepted = read.accepted;
+      spelled = read.spelled ∙ ap spelling read.same;
+      told = subst (λ (p : Parts). IsTold p params form (output_of after e form)) read.same
+          (subst (λ (h : History). IsTold h.image h.parameters form (output_of after e form)) is (told_of_run after e form done.run done.end));
+      scheduled = subst (λ (p : Parts). IsScheduled p params after.journal) read.same (seeded_scheduled image params seed after.journal by);
+      seeded = subst (λ (p : Parts). IsSeededRun p params seed after.journal) read.same by;
+      merged = refl;
+    }
+
+-- ---- of a trace
+
+module _ (trace : Trace) (after : History) (kept : ℕ) (replayed : IsReplayed trace.image trace.params trace.journal after kept) where
+  fits_so : IsFit trace
+  fits_so = subst (λ (h : History). stamps_of h.image h.parameters ≤ most_steps) replayed.is replayed.run.fits
+
+  -- all its entries are legal
+  pub all_legal : length trace.journal ≤ kept → after ≡ whole_of trace
+  all_legal all =
+      replayed.is ∙ ap (λ (j : List Entry). record { image = trace.image; parameters = trace.params; journal = j; joined = 0 }) (take_all kept trace.journal all)
+
+  pub first_illegal : kept < length trace.journal → IsFit trace × IsFirstIllegal trace kept
+  first_illegal more = (
+    fits_so,
+    record {
+      exists = more;
+      before = subst (λ (h : History). IsLegal h.image h.parameters h.journal) replayed.is replayed.run.legal;
+      here = λ legal. absurd (omega (arith, replayed.longest (suc kept) (omega (arith, more)) legal));
+    },
+  )
+
+  pub unfinished : length trace.journal ≤ kept → end_of after.image after.parameters (state_of after) ≡ None → IsFit trace × IsUnfinished trace
+  unfinished all going = (
+    fits_so,
+    record {
+      legal = subst (λ (h : History). IsLegal h.image h.parameters h.journal) (all_legal all) replayed.run.legal;
+      going = subst (λ (h : History). end_of h.image h.parameters (state_of h) ≡ None) (all_legal all) going;
+    },
+  )
+
+  module _ (e : Ended) (ends : EndsTrace trace after (Ok e)) where
+    pub finished : IsFinishedTrace trace
+    finished = record {
+      fits = fits_so;
+      legal = subst (λ (h : History). IsLegal h.image h.parameters h.journal) ends.0 replayed.run.legal;
+      ended = some_end trace.image trace.params trace.journal e (subst (λ (h : History). IsEnd h.image h.parameters h.journal e) ends.0 ends.1);
+    }
+
+    pub replays : (form : Form) (bytes : List ℕ) → Spells bytes trace → Replays form bytes (output_of after e form)
+    replays form bytes spells = record {
+      trace = trace;
+      spelled = spells;
+      same = ap (λ (h : History). h.journal) ends.0;
+      told = subst (λ (h : History). IsTold h.image h.parameters form (output_of after e form)) replayed.is (told_of_run after e form replayed.run ends.1);
+      merged = refl;
+    }
+
+-- a fault of a trace is one of the bytes that spell it
+pub not_taken : (bytes : List ℕ) (trace : Trace) → Spells bytes trace → (fault : InputErr) → IsNotTaken trace fault → IsNoReplay bytes fault
+not_taken bytes trace spells (reason.LimitDoesNotFit number most) why = record { trace = trace; spelled = spells; holds = why }
+not_taken bytes trace spells (reason.NotLegal k) why = record { trace = trace; spelled = spells; holds = why }
+not_taken bytes trace spells reason.Unfinished why = record { trace = trace; spelled = spells; holds = why }
+not_taken bytes trace spells _ why = absurd why
+
+-- why no end holds
+pub no_end : (Makes : Output → Type 0) (bytes : List ℕ) (trace : Trace) → Spells bytes trace → (after : History) (why : Refusal) → EndsTrace trace after (Err why) →
+    Gives Makes (IsNoReplay bytes) (Err why)
+no_end Makes bytes trace spells after (refusal.Fault fault) ends = not_taken bytes trace spells fault ends
+no_end Makes bytes trace spells after refusal.NoMemory ends = absurd ends

@@ -1,0 +1,27 @@
+ghost use Rattle.alw_answers.specs.Outputs.{Gives};
+ghost use Rattle.alw_runs.specs.Running.{Runs, IsNoRun};
+
+use crate::forms::told;
+use alw_answers::{Output, Refusal};
+use alw_config::Form;
+use alw_image::{Params, read_image};
+use alw_mesh::Machine;
+use alw_sched::finish;
+use std::alloc::Global;
+
+/// Runs the image that bytes spell by the schedule of a seed, up to an end.
+pub fn run_bytes(
+    alloc: Global,
+    seed: u64,
+    params: &Params,
+    form: Form,
+    bytes: &[u8],
+) -> Result<Output, Refusal>
+    ensures { Gives (Runs seed params.now form bytes.now) (IsNoRun params.now bytes.now) result }
+{
+    let image = read_image(alloc, bytes)?;
+    let mut machine = Machine::start(alloc, &image, params)?;
+    let ended = finish(&mut machine, seed)?;
+    let output = told(alloc, machine, ended, form)?;
+    Ok(output)
+}

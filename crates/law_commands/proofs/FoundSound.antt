@@ -1,0 +1,54 @@
+-- What a run claims is a text that `audit` accepts and finds sound.
+use Rattle.std.proofs.Common.{◌≡◌, ℕ, ◌≤◌, List, length, refl, subst, arith}
+use Rattle.std.specs.Prelude.{Result, Ok, Err}
+use Rattle.alw_msg.specs.declared.events.Entry.{Entry}
+use Rattle.alw_image.specs.declared.parts.Parts.{Parts}
+use Rattle.alw_image.specs.Parameters.{Parameters}
+use Rattle.alw_model.specs.declared.ends.Ended.{Ended}
+use Rattle.alw_model.specs.Runs.{turns_of}
+use Rattle.law_machine.proofs.TurnCounts.{always_few_turns}
+use Rattle.alw_trace.specs.Readings.{most_turns}
+use Rattle.alw_audit.specs.declared.verdicts.Verdict.{Verdict}
+use Rattle.alw_audit.specs.declared.verdicts.Verdict.TheVariants.{Sound}
+use Rattle.alw_audit.specs.Claims.{claim_of}
+use Rattle.alw_audit.proofs.ClaimForms.{runs_claim}
+use Rattle.alw_audit.proofs.ClaimTypes.{runs_types}
+use Rattle.alw_audit.proofs.RunClaims.{runs_sound}
+use Rattle.alw_config.specs.declared.commands.Form.TheVariants as forms
+use Rattle.alw_answers.specs.declared.answers.InputErr.TheVariants as reason
+use Rattle.alw_answers.specs.declared.outputs.Output.{Output}
+use Rattle.alw_answers.specs.declared.outputs.Refusal.{Refusal}
+use Rattle.alw_answers.specs.declared.outputs.Refusal.TheVariants as refusal
+use Rattle.alw_answers.specs.Outputs.{Gives, IsText}
+use Rattle.alw_checks.specs.Auditing.{verdict_text, ending_of_verdict, Audits, IsNoClaim, IsSoundText, FindsSound}
+use Rattle.alw_runs.specs.Forms.{run_text}
+use Rattle.alw_runs.specs.Replaying.{IsRunThatFits}
+use Rattle.alw_checks.proofs.Kept.{claim_read, sound_so}
+
+module _ (image : Parts) (p : Parameters) (journal : List Entry) (e : Ended) (is : IsRunThatFits image p journal e) where
+  few_turns : length (turns_of image p journal) ≤ most_turns
+  few_turns = omega (arith, always_few_turns image is.image_is p is.parameters_are journal is.run.legal, is.fits)
+
+  abbrev text : List ℕ
+  text = run_text forms.Claim image p journal e
+
+  pub accepted : IsSoundText text
+  unfolding run_text
+  accepted = record {
+    claim = claim_of image p journal;
+    spelled = record {
+      text = refl;
+      is = runs_claim image p journal e is.image_is is.run few_turns;
+      types = runs_types image p journal e is.image_is is.words is.run few_turns;
+    };
+    sound = runs_sound image p journal e is.run;
+  }
+
+  -- whatever verdict is told says so
+  pub found_sound : (result : Result Output Refusal) → Gives (Audits text) (IsNoClaim text) result → FindsSound result
+  found_sound (Ok output) audits =
+      let sound : audits.verdict ≡ Sound = audits.sound.1 (sound_so text audits.claim accepted audits.spelled) in
+      subst (λ (v : Verdict). IsText output (verdict_text v) (ending_of_verdict v)) sound audits.text
+  found_sound (Err (refusal.Fault (reason.Text fault))) refused = absurd (refused.0 (claim_read text accepted.claim fault accepted.spelled refused.1))
+  found_sound (Err (refusal.Fault _)) refused = absurd refused
+  found_sound (Err refusal.NoMemory) refused = tt

@@ -1,0 +1,4 @@
+pub mod Again
+pub mod FoundSound
+pub mod Searched
+pub mod ReadAgain

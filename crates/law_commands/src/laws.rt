@@ -1,0 +1,84 @@
+ghost use Rattle.std.specs.Prelude.{◌≡◌, ◌≤◌, ℕ, true, length, Result, Err, List};
+ghost use Rattle.alw_msg.specs.declared.events.Entry.{Entry};
+ghost use Rattle.alw_image.specs.declared.parts.Parts.{Parts};
+ghost use Rattle.alw_image.specs.Parameters.{Parameters};
+ghost use Rattle.alw_model.specs.declared.ends.Ended.{Ended};
+ghost use Rattle.alw_trace.specs.Texts.{trace_text};
+ghost use Rattle.alw_config.specs.declared.commands.Form.TheVariants as forms;
+ghost use Rattle.law_order.specs.Orders.{kept_by};
+ghost use Rattle.alw_mesh.specs.Histories.{History};
+ghost use Rattle.alw_trace.specs.declared.values.Trace.{Trace};
+ghost use Rattle.alw_trace.specs.Readings.{IsTrace, HasTraceTypes};
+ghost use Rattle.alw_save.specs.declared.faults.RestoreErr.{RestoreErr};
+ghost use Rattle.alw_save.specs.declared.faults.RestoreErr.TheVariants.{NoMemory};
+ghost use Rattle.alw_save.specs.Cuts.{TraceIsSound};
+ghost use Rattle.alw_save.specs.Checkpoints.{checkpoint_text};
+ghost use Rattle.alw_save.specs.Restoring.{IsCheckpoint, Restores};
+ghost use Rattle.alw_answers.specs.declared.outputs.Output.{Output};
+ghost use Rattle.alw_answers.specs.declared.outputs.Refusal.{Refusal};
+ghost use Rattle.alw_config.specs.declared.commands.AsmForm.TheVariants as asms;
+ghost use Rattle.alw_answers.specs.Limits.{most_input};
+ghost use Rattle.alw_answers.specs.Outputs.{Gives};
+ghost use Rattle.alw_builds.specs.Assembling.{Assembles, asm_task};
+ghost use Rattle.alw_builds.specs.ReadingBack.{ReadsBack};
+ghost use Rattle.alw_checks.specs.Auditing.{Audits, IsNoClaim, FindsSound, IsSoundText};
+ghost use Rattle.alw_runs.specs.Forms.{run_text, IsTold};
+ghost use Rattle.alw_runs.specs.Replaying.{IsFinishedText, IsRunThatFits, Replays, ReportsTheSame, trace_of};
+ghost use Rattle.alw_runs.specs.Resuming.{IsSomeCheckpoint};
+ghost use Rattle.alw_image.specs.Faults.{image_in};
+ghost use Rattle.alw_model.specs.declared.ends.Ended.TheVariants.{Halted};
+ghost use Rattle.alw_report.specs.Reports.{told_of};
+ghost use Rattle.alw_config.specs.declared.commands.Form.{Form};
+ghost use Rattle.alw_answers.specs.declared.outputs.Ending.TheVariants.{Fine};
+ghost use Rattle.alw_endings.specs.Schedules.{TellsEveryRun};
+ghost use Rattle.alw_checks.specs.Searching.{Searches, TellsReport};
+
+/// A replay reports what the run reported. The trace of a run is accepted, and where its replay is
+/// carried out, the journal and the end are the run's, and so is the report that is written: the text
+/// of a trace doesn't say how often evictions are tried, and no legality, state or report depends on it.
+pub fn traces_report_the_same()
+    ensures accepted { (image : Parts) → (parameters : Parameters) → (journal : List Entry) → (ended : Ended) → IsRunThatFits image parameters journal ended →
+        IsFinishedText (trace_text (trace_of image parameters journal)) }
+    ensures same { (image : Parts) → (parameters : Parameters) → (journal : List Entry) → (ended : Ended) → IsRunThatFits image parameters journal ended →
+        (output : Output) → Replays forms.Report (trace_text (trace_of image parameters journal)) output → ReportsTheSame image parameters journal ended output }
+{}
+
+/// What a run claims is found sound. The claim that `run` or `replay` writes of a run of an image that fits
+/// is a claim's one text, with at most 8,388,608 turns, and an audit of it that is carried out answers
+/// `sound`: it names no difference, and refuses nothing but for want of memory.
+pub fn claims_are_found_sound()
+    ensures accepted { (image : Parts) → (parameters : Parameters) → (journal : List Entry) → (ended : Ended) → IsRunThatFits image parameters journal ended →
+        IsSoundText (run_text forms.Claim image parameters journal ended) }
+    ensures sound { (image : Parts) → (parameters : Parameters) → (journal : List Entry) → (ended : Ended) → IsRunThatFits image parameters journal ended →
+        (result : Result Output Refusal) → Gives (Audits (run_text forms.Claim image parameters journal ended)) (IsNoClaim (run_text forms.Claim image parameters journal ended)) result →
+        FindsSound result }
+{}
+
+/// What `save` writes is a checkpoint that `resume` takes, however often evictions are then tried; and a checkpoint
+/// is refused for want of memory alone.
+pub fn checkpoints_are_resumed()
+    ensures accepted { (trace : Trace) → (at : ℕ) → (evict : ℕ) → IsTrace trace → HasTraceTypes trace → TraceIsSound trace → evict ≤ 255 →
+        IsSomeCheckpoint evict (checkpoint_text trace.image trace.params (kept_by at trace.journal)) }
+    ensures unrefused { (bytes : List ℕ) → (evict : ℕ) → (machine : History) → IsCheckpoint bytes evict machine → (fault : RestoreErr) →
+        Restores bytes evict (Err fault) → fault ≡ NoMemory }
+{}
+
+/// What `outcomes` tells of an image has whatever a run of it comes to, where the search is complete. For every seed, all
+/// parameters and any number of workers, after each legal journal: where all contexts have halted, an outcome with the
+/// prints by context and the memory of the run's report is told; and the trap of each context that has trapped. So it is
+/// of each output that tells a run of the image, as those of `run`, `replay` and `resume` do.
+pub fn every_schedule_is_told()
+    ensures runs { (bytes : List ℕ) → (searched : Output) → (searches : Searches bytes searched) → searches.told.is_complete ≡ true →
+        (parameters : Parameters) → (form : Form) → (output : Output) → IsTold (image_in bytes) parameters form output → output.ending ≡ Fine →
+        TellsReport (image_in bytes) searches.told (told_of (image_in bytes) parameters output.journal Halted) }
+    ensures journals { (bytes : List ℕ) → (output : Output) → (searches : Searches bytes output) → searches.told.is_complete ≡ true →
+        TellsEveryRun (image_in bytes) searches.told }
+{}
+
+/// What `dis` writes of an image is a source that `asm` assembles to that image, byte for byte; and no longer than an
+/// input may be.
+pub fn sources_are_assembled()
+    ensures accepted { (bytes : List ℕ) → (output : Output) → ReadsBack bytes output → (asm_task asms.Image).Accepts output.text }
+    ensures same { (bytes : List ℕ) → (output : Output) → ReadsBack bytes output → (again : Output) → Assembles asms.Image output.text again → again.text ≡ bytes }
+    ensures few { (bytes : List ℕ) → (output : Output) → ReadsBack bytes output → length output.text ≤ most_input }
+{}

@@ -1,0 +1,10 @@
+//! What commands say of one another. The functions are laws with empty bodies: each clause is a theorem over
+//! definitions.
+#![tactic(auto)]
+
+mod laws;
+
+pub use laws::{
+    checkpoints_are_resumed, claims_are_found_sound, every_schedule_is_told, sources_are_assembled,
+    traces_report_the_same,
+};
