@@ -15,8 +15,8 @@ from alewife import WORD
 from frames import ViewError
 
 LISTED = re.compile(r'([0-9a-f]{8}) ([0-9a-f]{8}) ([0-9]+)')
-CONTEXT = re.compile(r'context (\d+) (ready|halted|(?:wait|hold|trapped) \S+) (0x\S+) 0x\S+ (0x\S+) (\d{4}) (.*)')
-DISASSEMBLED = re.compile(r'^ *[0-9a-f]+:\t(.*)$', re.M)
+CONTEXT = re.compile(r'context (\d+) (ready|halted|(?:wait|hold|trapped) \S+) (0x\S+) (0x\S+) (0x\S+) (\d{4}) (.*)')
+DISASSEMBLED = re.compile(r'^ *([0-9a-f]+):\t(.*)$', re.M)
 BRANCH, TRAP, ALWAYS = 2, 0x3A, (0, 8)
 WITH_RD = {0x04, 0x05, 0x06, 0x0F}
 WAYS = {'ready': 'is ready', 'wait': 'waits for line', 'hold': 'has just got line', 'trapped': 'has trapped with tt', 'halted': 'has halted'}
@@ -41,8 +41,16 @@ class Code:
         """The statement at an address, and where it is in the source, in a text."""
         return f'word 0x{self.word(address):08x}' if self.word(address) is not None else 'no code'
 
+    def shown(self, _):
+        """The statements at addresses, and their places in the source, by address: no one knows."""
+        return {}
+
     def name(self, _):
         """What lies at an address of shared data: no one knows."""
+        return ''
+
+    def line_name(self, _):
+        """What lies in the line at an address: no one knows."""
         return ''
 
 
@@ -58,22 +66,53 @@ class Linked(Code):
                 raise ViewError(f"can't read {elf}: it is no file")
             if cross.section(elf, '.text', folder) != image.code:
                 raise ViewError(f"{elf} isn't the program of this trace: its code is another")
-        symbols = cross.symbols_of(elf)
-        self.symbols = sorted((value, name) for name, value in symbols.items() if cross.SHARED <= value < symbols.get('data_end', 0))
+        self.symbols, self.end = variables_of(elf)
+        self.stacks_end, self.stack_size = stacks_of(elf)
 
     def statement(self, address):
         if self.word(address) is None:
             return super().statement(address)
         words = ['sparc64-linux-gnu-objdump', '-d', '--no-show-raw-insn', f'--start-address={address}', f'--stop-address={address + WORD}', self.elf]
-        text = ' '.join(DISASSEMBLED.search(cross.called(words))[1].split('!')[0].split())
+        text = ' '.join(DISASSEMBLED.search(cross.called(words))[2].split('!')[0].split())
         return f'{text}  {cross.places_of(self.elf, [f"0x{address:08x}"])[f"0x{address:08x}"]}'
+
+    def shown(self, addresses):
+        placed = cross.places_of(self.elf, [f'0x{address:08x}' for address in addresses])
+        texts = disassembled(self.elf)
+        return {address: (texts.get(address, ''), placed.get(f'0x{address:08x}', '')) for address in addresses}
+
+    def line_name(self, address):
+        if address >= self.end:
+            return f'stack {(self.stacks_end - 1 - address) // self.stack_size}' if self.stack_size else ''
+        names = [name for value, name in self.symbols if address <= value < address + LINE_BYTES]
+        covering = [] if any(value == address for value, _ in self.symbols) else [self.name(address).strip(' ()')]
+        return ', '.join(filter(None, covering + names))
 
     def name(self, address):
         at = bisect.bisect_right(self.symbols, (address, '\x7f')) - 1
-        if at < 0:
+        if at < 0 or address >= self.end:
             return ''
         beyond = address - self.symbols[at][0]
         return f' ({self.symbols[at][1]}{f"+{beyond}" if beyond else ""})'
+
+
+def variables_of(elf):
+    """The variables of a linked program in shared data, each as address and name, and the address behind them."""
+    symbols = cross.symbols_of(elf)
+    end = symbols.get('data_end', 0)
+    return sorted((value, name) for name, value in symbols.items() if cross.SHARED <= value < end), end
+
+
+def stacks_of(elf):
+    """The address behind the stacks of a linked program, of which that of context 0 is the last one, and how many bytes each has."""
+    symbols = cross.symbols_of(elf)
+    return symbols.get('shared_end', 0), symbols.get('stack_size', 0)
+
+
+def disassembled(elf):
+    """The statements of a linked program by address, as objdump has them."""
+    rows = DISASSEMBLED.findall(cross.called(['sparc64-linux-gnu-objdump', '-d', '-j', '.text', '--no-show-raw-insn', elf]))
+    return {int(address, 16): ' '.join(text.split('!')[0].split()) for address, text in rows}
 
 
 class Listed(Code):
@@ -92,8 +131,11 @@ class Listed(Code):
     def statement(self, address):
         if address not in self.numbers:
             return super().statement(address)
-        number = self.numbers[address]
-        return f'{" ".join(self.lines[number - 1].split("!")[0].split())}  {self.source}:{number}'
+        return '  '.join(self.shown([address])[address])
+
+    def shown(self, addresses):
+        found = {address: self.numbers[address] for address in addresses if address in self.numbers}
+        return {address: (' '.join(self.lines[number - 1].split('!')[0].split()), f'{self.source}:{number}') for address, number in found.items()}
 
 
 def read_text(path):
@@ -109,10 +151,11 @@ def read_text(path):
 
 @dataclass(frozen=True)
 class Context:
-    """A context: its number, its status, its PC, Y and condition codes, and its registers from register 0 on."""
+    """A context: its number, its status, its PC and nPC, Y and condition codes, and its registers from register 0 on."""
     number: int
     status: str
     pc: int
+    npc: int
     y: int
     codes: str
     registers: tuple
@@ -123,7 +166,8 @@ def context_of(line):
     match = CONTEXT.fullmatch(line)
     if not match:
         return None
-    return Context(int(match[1]), match[2], int(match[3], 16), int(match[4], 16), match[5], (0, *(int(word, 16) for word in match[6].split())))
+    pc, npc, y = (int(match[at], 16) for at in (3, 4, 5))
+    return Context(int(match[1]), match[2], pc, npc, y, match[6], (0, *(int(word, 16) for word in match[7].split())))
 
 
 def next_of(state, node, contexts):
