@@ -2,6 +2,9 @@
 ! shared data, that of context 0 last, and grow down; the linker script has their size. The lowest word of each is a mark.
         .section .text.start,"ax"
         .global start
+        .cfi_sections .debug_frame
+        .cfi_startproc
+        .cfi_undefined 15               ! nothing calls this, of which a debugger has to know
 start:  mov     %o0,%g7                 ! for own_context
         set     stack_size,%g1
         umul    %o0,%g1,%g2
@@ -17,9 +20,12 @@ start:  mov     %o0,%g7                 ! for own_context
         subcc   %g1,%g2,%g0
         tne     16
         ta      0
+        .cfi_endproc
 
 ! The product of %o0 and %o1, which GCC calls where it isn't told of UMUL: the low word, and the high word in %o1.
         .global .umul
+        .cfi_startproc
 .umul:  umul    %o0,%o1,%o0
         retl
         rd      %y,%o1
+        .cfi_endproc

@@ -1,0 +1,249 @@
+"""A run that comes again: its log, its places, and the state at each. A place is a number of events, which have happened in the order of stamps."""
+import bisect
+import re
+from collections import defaultdict
+from dataclasses import dataclass, field
+from functools import lru_cache
+
+import logs
+import misses
+from alewife import image_of, run_of
+from frames import Program, ViewError
+from statements import context_of
+
+LINE_BYTES = 16
+SHARED = 0x40000000
+KEPT_STATES = 64
+TO_MEMORY, TO_CACHE = ('REPM', 'UPDATE'), ('WDATA',)
+NO_WORDS = ('0x00000000',) * 4
+TURN = re.compile(r'\d+ I (\d+) slot (\d) pc (0x[0-9a-f]{8}) ')
+ACCESS = re.compile(r' (reads|writes) (0x[0-9a-f]{8}) ([124]) ')
+
+
+# ---- a state
+
+
+@dataclass(frozen=True)
+class Message:
+    """A message: where it is ('link', or 'packet' where it waits for the handler of its home), whom it goes to, and its kind, line and sender."""
+    where: str
+    to: int
+    kind: str
+    line: int
+    sender: int
+    stamp: int
+    words: tuple
+
+
+@dataclass(frozen=True)
+class Copy:
+    """A copy in a cache: its node, its line, its mode and its words."""
+    node: int
+    line: int
+    mode: str
+    words: tuple
+
+
+@dataclass
+class State:
+    """A state: the lines of contexts, the copies, the texts of entries and the words in memory by line, what nodes ask for as (node, line, mode),
+    messages, and the bytes of lines that were asked for."""
+    contexts: list = field(default_factory=list)
+    copies: list = field(default_factory=list)
+    entries: dict = field(default_factory=dict)
+    memory: dict = field(default_factory=dict)
+    asked: list = field(default_factory=list)
+    messages: list = field(default_factory=list)
+    known: dict = field(default_factory=dict)
+
+    def context(self, number):
+        """A context."""
+        return context_of(self.contexts[number])
+
+    def value(self, line, bodies):
+        """The current words of a line: those of its one carrier, or else the home's. Bodies are those of the start."""
+        carried = [copy.words for copy in self.copies if copy.line == line and copy.mode == 'write']
+        carried += [message.words for message in self.messages if message.line == line and message.kind in TO_MEMORY + TO_CACHE]
+        return carried[0] if len(carried) == 1 else self.memory.get(line) or bodies.get(line, NO_WORDS)
+
+    def bytes_of(self, line, bodies):
+        """The current bytes of a line."""
+        if line not in self.known:
+            self.known[line] = bytes.fromhex(''.join(word[2:] for word in self.value(line, bodies)))
+        return self.known[line]
+
+
+def message_of(where, to, words):
+    """The message that words of a state spell."""
+    return Message(where, to, words[0], int(words[1]), int(words[2]), int(words[3]), tuple(words[4:]))
+
+
+def state_of(lines):
+    """The state of lines that the program saved."""
+    state, node = State(), 0
+    for line in lines:
+        words = line.split()
+        if words[0] == 'context':
+            state.contexts.append(line)
+        elif words[0] == 'node':
+            node = int(words[1])
+        elif words[0] == 'cache':
+            state.copies.append(Copy(node, int(words[2]), words[3], tuple(words[4:])))
+        elif words[0] == 'home':
+            state.entries[int(words[1])], state.memory[int(words[1])] = ' '.join(words[2:-4]), tuple(words[-4:])
+        elif words[0] == 'pending':
+            state.asked.append((node, int(words[1]), words[2]))
+        elif words[0] == 'packet':
+            state.messages.append(message_of('packet', node, words[1:]))
+        else:
+            state.messages.append(message_of('link', int(words[2]), words[3:]))
+    return state
+
+
+# ---- what happens where
+
+
+@dataclass
+class Index:
+    """Where things happen, each a list of the places before the events, in order: turns by context, by PC and by the PC that they lead to, accesses
+    by line as (place, address, bytes, kind), prints, and traps."""
+    turns: dict = field(default_factory=lambda: defaultdict(list))
+    at_pc: dict = field(default_factory=lambda: defaultdict(list))
+    to_pc: dict = field(default_factory=lambda: defaultdict(list))
+    accesses: dict = field(default_factory=lambda: defaultdict(list))
+    prints: list = field(default_factory=list)
+    traps: list = field(default_factory=list)
+
+    def add(self, place, context, pc, line):
+        """Adds a turn of a context, of the line of a log."""
+        self.turns[context].append(place)
+        self.at_pc[pc].append(place)
+        for kind, address, count in ACCESS.findall(line):
+            self.accesses[(int(address, 16) - SHARED) // LINE_BYTES].append((place, int(address, 16), int(count), kind))
+        if ' prints ' in line:
+            self.prints.append(place)
+        if ' traps ' in line:
+            self.traps.append(place)
+
+
+class Again:
+    """A run, its places from 0 to `end`, and its states, which are saved where they are asked for and kept for a while."""
+
+    def __init__(self, binary, trace):
+        self.program = Program(binary, trace)
+        self.head, lines, self.standing, self.ended = read_log(self.program)
+        self.order = sorted(range(len(lines)), key=lambda at: stamp_of(lines[at]))
+        self.lines = [lines[at] for at in self.order]
+        self.stamps = [stamp_of(line) for line in self.lines]
+        self.end = len(self.lines)
+        self.image = image_of(run_of(trace.decode().split('\n')[1:-2]).image)
+        self.bodies = {line: tuple(f'0x{body[at:at + 4].hex()}' for at in range(0, LINE_BYTES, 4)) for line, body in self.image.data.items()}
+        self.front = trace[:trace.index(b'\nentries ') + 1].decode()
+        self.state = lru_cache(KEPT_STATES)(self.saved)
+        self.index, self.owners = Index(), {}
+        self.story, self.reasons = misses.Story(self.head), []
+        self.fill()
+
+    def fill(self):
+        """Fills the index: a turn leads to the PC of the next instruction of its context, or to that at which the context stands at the end."""
+        last = {}
+        for place, line in enumerate(self.lines):
+            match = TURN.match(line)
+            if not match:
+                continue
+            context, pc = int(match[1]) * self.head.contexts + int(match[2]), int(match[3], 16)
+            self.owners[place] = context
+            if context in last:
+                self.index.to_pc[pc].append(last.pop(context))
+            if ' misses ' not in line:
+                self.index.add(place, context, pc, line)
+                last[context] = place
+            if ' halts' in line or ' traps ' in line:
+                del last[context]
+        for context, place in last.items():
+            self.index.to_pc[self.standing[context]].append(place)
+        for places in self.index.to_pc.values():
+            places.sort()
+
+    def event(self, place):
+        """The event that is next at a place."""
+        return logs.event_of(self.lines[place])
+
+    def stamp(self, place):
+        """The stamp of the last event before a place."""
+        return self.stamps[place - 1] if place else 0
+
+    def place_of(self, stamp):
+        """The place behind all events of stamps up to one."""
+        return bisect.bisect_right(self.stamps, stamp)
+
+    def told_place(self, place):
+        """A place in words: a stamp, and where only some of its events have happened, how many."""
+        stamp = self.stamp(place)
+        first, behind = bisect.bisect_left(self.stamps, stamp), self.place_of(stamp)
+        return f'stamp {stamp}' + (f', {place - first} of its {behind - first} events' if place < behind else '')
+
+    def saved(self, place):
+        """The state at a place."""
+        entries = [entry_of(self.lines[at]) for _, at in sorted(zip(self.order[:place], range(place)))]
+        text = '\n'.join([f'{self.front}entries {place}', *entries, 'end', ''])
+        return state_of(Program(self.program.binary, text.encode()).save()[1])
+
+    def reason(self, place):
+        """Why the miss at a place missed, which the events up to there say: they are taken once."""
+        for at in range(len(self.reasons), place + 1):
+            self.reasons.append(self.story.take(self.event(at)))
+        return self.reasons[place]
+
+    def line_of(self, address):
+        """The number of the line at an address of shared data, or None."""
+        sizes = self.image.sizes
+        line = (address - SHARED) // LINE_BYTES
+        return line if 0 <= line < sizes.width * sizes.height * sizes.lines else None
+
+    def home_of(self, line):
+        """The home of a line."""
+        return line // self.image.sizes.lines
+
+    def byte(self, place, address):
+        """The byte at an address, of code or of shared data, or None."""
+        if address < len(self.image.code):
+            return self.image.code[address]
+        line = self.line_of(address)
+        if line is None:
+            return None
+        return self.state(place).bytes_of(line, self.bodies)[address % LINE_BYTES]
+
+
+def stamp_of(line):
+    """The stamp of a line of a log."""
+    return int(line.partition(' ')[0])
+
+
+def entry_of(line):
+    """The entry of a trace that a line of a log is of."""
+    words = line.split(' ', 4)
+    return ' '.join(words[:4 if words[1] in 'DE' else 3])
+
+
+def read_log(program):
+    """The log of a trace: its head, the lines of its events, where each context stands at the end, and how the run ended, or nothing: a run
+    without an end is gone on with, and what it does then is left out."""
+    called, count = program.call('replay', '--write', 'log'), None
+    if called[2].endswith('not finished'):
+        trace, state = program.save()
+        text = '\n'.join(['ALEWIFE SAVE 1', *trace, f'state {len(state)}', *state, 'end', ''])
+        called = Program(program.binary, text.encode()).call('resume', '--write', 'log')
+        count = sum(map(len, run_of(trace).events.values()))
+        standing = [context.pc for context in map(context_of, state) if context]
+    status, text, why = called
+    if status == 2:
+        raise ViewError(f'{program.binary} writes no logs ({why}): name another program')
+    if why:
+        raise ViewError(f'refused: {why}')
+    lines = text.splitlines()
+    head = logs.head_of(lines[:logs.HEAD_LINES])
+    events = lines[logs.HEAD_LINES:logs.HEAD_LINES + head.events]
+    if count is not None:
+        return head, events[:count], standing, ''
+    return head, events, [logs.context_of(line).pc for line in lines[logs.HEAD_LINES + head.events + 1:-2]], lines[-2].removeprefix('ended ')
