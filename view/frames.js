@@ -1,44 +1,83 @@
-// The frames: each state's lines, rebuilt from the steps between them, and what the lines say.
+// The frames: each state's lines by key, which steps lead to from the state before, and what the lines say.
 
 const RUN = JSON.parse(document.getElementById('data').textContent);
 const [WIDTH, HEIGHT] = RUN.mesh;
 const NODES = WIDTH * HEIGHT;
 const WORDS = /(?:hold|wait|trapped) \S+|\S+/g;
+const STEP = /^([^-=~+<]+)([-=~+<])(.*)$/;
 const LINE_AT = { pending: 1, cache: 2, home: 1, packet: 2, link: 4 };
+const RANKS = 'ncpahq';
+const MOST_KEPT = 64;
+const LAST = RUN.frames.length - 1;
+const EVERY = Math.ceil(RUN.frames.length / MOST_KEPT);
 
-/** A line of a state after a step that changes it. */
-function changedLine(line, step) {
-  if (step[0] === '=') return step.slice(1);
+// ---- steps
+
+/** A word of a step as a checkpoint has it. */
+function lengthened(word) {
+  return word[0] === 'x' ? '0x' + word.slice(1).padStart(8, '0') : word;
+}
+
+/** A line of a step as a checkpoint has it. Of a message on a link the step has kind, line and stamp, and bytes that aren't zero. */
+function lineOf(key, text) {
+  const words = text.split(' ').map(lengthened);
+  if (key[0] !== 'l') return words.join(' ');
+  const [from, to] = key.slice(1).split('.'), body = words.length > 3 ? words.slice(3) : Array(4).fill('0x00000000');
+  return ['link', from, to, words[0], words[1], from, words[2], ...body].join(' ');
+}
+
+/** A word some bytes beyond another one. */
+function beyond(word, bytes) {
+  return '0x' + ((Number(word) + bytes) % 2 ** 32).toString(16).padStart(8, '0');
+}
+
+/** A line after a step that changes words of it. */
+function changedLine(line, changes) {
   const words = line.match(WORDS);
-  for (const change of step.slice(1).split(';')) {
+  for (const change of changes.split(';')) {
+    if (change === '>') {
+      [words[3], words[4]] = [words[4], beyond(words[4], 4)];
+      continue;
+    }
     const gap = change.indexOf(' ');
-    const word = change.slice(gap + 1);
-    words[Number(change.slice(0, gap))] = word[0] === 'x' ? '0x' + word.slice(1).padStart(8, '0') : word;
+    words[Number(change.slice(0, gap))] = lengthened(change.slice(gap + 1));
   }
   return words.join(' ');
 }
 
-/** The state that steps lead to from the lines before: its lines, the places of those that weren't there, and those that are gone. */
-function follow(before, steps) {
-  const lines = [], gone = [], fresh = new Set();
-  let at = 0;
-  for (const step of steps) {
-    if (typeof step === 'number') {
-      const part = before.slice(at, at + Math.abs(step));
-      (step > 0 ? lines : gone).push(...part);
-      at += Math.abs(step);
-      continue;
-    }
-    const line = step[0] === '+' ? step.slice(1) : changedLine(before[at], step);
-    if (step[0] !== '+') gone.push(before[at++]);
-    fresh.add(lines.push(line) - 1);
+/** Does a step: its key and its sign, and the lines that are there no more, and those that are new. */
+function doStep(lines, step) {
+  const [, key, sign, text] = step.match(STEP);
+  const old = lines.get(key);
+  if (sign === '+') {
+    const added = lineOf(key, text);
+    lines.set(key, [...(old ?? []), added]);
+    return { key, sign, gone: undefined, added };
   }
-  return { lines, gone, fresh };
+  if (sign === '<') {
+    if (old.length > 1) lines.set(key, old.slice(1));
+    else lines.delete(key);
+    return { key, sign, gone: old[0], added: undefined };
+  }
+  if (sign === '-') lines.delete(key);
+  else lines.set(key, sign === '~' ? changedLine(old, text) : lineOf(key, text));
+  return { key, sign, gone: old, added: lines.get(key) };
+}
+
+/** Gives the nodes of events their stamp as clock, and the slots of instructions. */
+function tick(lines, stamp, events) {
+  for (const event of events) {
+    const [letter, first, second] = event.split(' ', 3), key = `n${letter === 'D' ? second : first}`, words = lines.get(key).split(' ');
+    words[3] = stamp;
+    if (letter === 'I') words[5] = second;
+    lines.set(key, words.join(' '));
+  }
 }
 
 /** The line of shared data that a line of a state is about, or none. */
 function aboutLine(text) {
-  const words = text.split(' ');
+  if (text === undefined) return null;
+  const words = text.split(' ', 5);
   if (words[0] === 'context') return words[2] === 'hold' || words[2] === 'wait' ? Number(words[3]) : null;
   return words[0] in LINE_AT ? Number(words[LINE_AT[words[0]]]) : null;
 }
@@ -56,24 +95,133 @@ function route(from, to) {
   return wires;
 }
 
-/** All frames: the stamp, the events, the lines, the places of new ones, the lines of shared data that changed, and the loads so far. */
-function allFrames() {
-  const frames = [], loads = new Map();
-  let before = [];
-  for (const [stamp, events, steps] of RUN.frames) {
-    const { lines, gone, fresh } = follow(before, steps);
-    const touched = [...fresh].map((at) => lines[at]);
-    for (const text of touched) {
-      const [kind, from, to, , , , sent] = text.split(' ');
-      if (kind !== 'link' || Number(sent) !== stamp) continue;
-      for (const wire of route(Number(from), Number(to))) loads.set(wire, (loads.get(wire) ?? 0) + 1);
-    }
-    const changed = new Set([...gone, ...touched].map(aboutLine).filter((line) => line !== null));
-    const first = frames.length === 0;
-    frames.push({ stamp, events, lines, fresh: first ? new Set() : fresh, changed: first ? new Set() : changed, loads: new Map(loads) });
-    before = lines;
+/** Adds a message that was sent to the loads of its wires. */
+function addLoad(loads, text) {
+  const [, from, to] = text.split(' ', 3);
+  for (const wire of route(Number(from), Number(to))) loads.set(wire, (loads.get(wire) ?? 0) + 1);
+}
+
+// ---- what all frames have
+
+/** The node that a key is of. */
+function nodeOf(key) {
+  const first = Number(key.slice(1).split('.')[0]);
+  return Math.floor(first / ({ c: RUN.contexts, h: RUN.lines }[key[0]] ?? 1));
+}
+
+/** Adds a number of a list's frame, once. */
+function addPlace(places, name, at) {
+  const list = places.get(name) ?? places.set(name, []).get(name);
+  if (list.at(-1) !== at) list.push(at);
+}
+
+/** Counts how many lines of a kind a node has, and keeps the most. */
+function countLines(index, key, more) {
+  const name = key[0] + nodeOf(key);
+  index.numbers.set(name, (index.numbers.get(name) ?? 0) + more);
+  index.most[key[0]] = Math.max(index.most[key[0]] ?? 0, index.numbers.get(name));
+}
+
+/** Takes a step into what all frames have. */
+function indexStep(index, at, { key, sign, gone, added }) {
+  if (gone === undefined) countLines(index, key, 1);
+  if (added === undefined) countLines(index, key, -1);
+  if (key[0] === 'l') index.links.add(key);
+  for (const text of [gone, added]) {
+    const line = aboutLine(text);
+    if (line !== null && at > 0) addPlace(index.changes, line, at);
+    if (line !== null) index.lines.add(line);
   }
-  return frames;
+  if (sign === '+' && key[0] === 'l' && at > 0) addLoad(index.loads, added);
+}
+
+/** What is known of all frames: some states, where each line changes, the most lines of each kind that a node has, the links, and the counts. */
+function indexed() {
+  const index = { kept: [], changes: new Map(), lines: new Set(), most: {}, numbers: new Map(), links: new Set(), loads: new Map(), counts: new Map() };
+  const lines = new Map();
+  RUN.frames.forEach(([stamp, events, steps], at) => {
+    for (const step of steps) indexStep(index, at, doStep(lines, step));
+    tick(lines, stamp, events);
+    if (at > 0) for (const event of events) for (const [name, line] of counted(eventOf(event))) { addPlaces(index.counts, name, line, at); }
+    if (at % EVERY === 0) index.kept.push({ lines: new Map(lines), loads: new Map(index.loads) });
+  });
+  return index;
+}
+
+/** Adds a count of a line at a frame, for the line and for all. */
+function addPlaces(counts, name, line, at) {
+  for (const key of [name, `${name} ${line}`]) {
+    if (!counts.has(key)) counts.set(key, []);
+    counts.get(key).push(at);
+  }
+}
+
+// ---- one frame
+
+/** The state that is at hand: the place of its frame, its lines and its loads. */
+const HAND = { at: -1, lines: new Map(), loads: new Map() };
+
+/** Brings the state of a frame to hand, from the one at hand or from a kept one before it. */
+function bring(at) {
+  const kept = Math.floor(at / EVERY);
+  if (HAND.at > at || HAND.at < kept * EVERY) {
+    HAND.at = kept * EVERY;
+    HAND.lines = new Map(INDEX.kept[kept].lines);
+    HAND.loads = new Map(INDEX.kept[kept].loads);
+  }
+  while (HAND.at < at) {
+    const [stamp, events, steps] = RUN.frames[++HAND.at];
+    for (const step of steps) {
+      const { key, sign, added } = doStep(HAND.lines, step);
+      if (sign === '+' && key[0] === 'l') addLoad(HAND.loads, added);
+    }
+    tick(HAND.lines, stamp, events);
+  }
+}
+
+/** Where a key's lines stand in a state. */
+function placesOf(key) {
+  const numbers = key.slice(1).split('.').map(Number);
+  return key[0] === 'l' ? [NODES, ...numbers] : [nodeOf(key), RANKS.indexOf(key[0]), ...numbers];
+}
+
+/** How two lists of numbers are ordered. */
+function ordered(a, b) {
+  const at = a.findIndex((number, place) => number !== b[place]);
+  return at < 0 ? 0 : a[at] - b[at];
+}
+
+/** The keys that the steps of a frame touch, each with how many lines are new behind it. */
+function touchedAt(at) {
+  const touched = new Map();
+  if (at === 0) return touched;
+  for (const step of RUN.frames[at][2]) {
+    const [, key, sign] = step.match(STEP);
+    if (sign !== '<' && sign !== '-') touched.set(key, (touched.get(key) ?? 0) + 1);
+  }
+  return touched;
+}
+
+/** The lines of a state by key in a checkpoint's order, each with whether it is new. */
+function inOrder(lines, touched) {
+  const keys = [...lines.keys()].map((key) => [placesOf(key), key]).sort(([a], [b]) => ordered(a, b));
+  return keys.flatMap(([, key]) => {
+    const value = lines.get(key), fresh = touched.get(key) ?? 0;
+    return Array.isArray(value) ? value.map((text, at) => ({ text, fresh: at >= value.length - fresh })) : [{ text: value, fresh: fresh > 0 }];
+  });
+}
+
+/** The loads of a frame. */
+function loadsAt(at) {
+  bring(at);
+  return new Map(HAND.loads);
+}
+
+/** A frame: its stamp, its events, its lines, and the loads so far. */
+function frameAt(at) {
+  bring(at);
+  const [stamp, events] = RUN.frames[at];
+  return { stamp, events: events.map(eventOf), lines: inOrder(HAND.lines, touchedAt(at)), loads: new Map(HAND.loads) };
 }
 
 /** What a line of a state says, as an object with its kind. */
@@ -91,12 +239,12 @@ function said(text) {
   }
 }
 
-/** A state: its nodes, each with what it has, the messages on each link, and the nodes with a copy of each line. Members know whether they are new. */
-function stateOf(frame) {
+/** A state of lines: its nodes, each with what it has, the messages on each link, and the nodes with a copy of each line. Members know whether they are new. */
+function stateOf(lines) {
   const nodes = [], links = new Map(), copies = new Map();
-  for (const [at, text] of frame.lines.entries()) {
+  for (const { text, fresh } of lines) {
     const kind = text.slice(0, text.indexOf(' '));
-    const each = { ...said(text), fresh: frame.fresh.has(at) };
+    const each = { ...said(text), fresh };
     if (kind === 'node') {
       nodes.push({ ...each, context: [], pending: [], cache: [], home: [], packet: [] });
     } else if (kind === 'link') {
@@ -119,47 +267,4 @@ function startOfHome(line) {
 /** The home line of a number in a state. */
 function homeOf(state, line) {
   return state.nodes[Math.floor(line / RUN.lines)].home.find((home) => home.line === line) ?? startOfHome(line);
-}
-
-/** The lines of shared data that any frame speaks of, and those that the image lists, ascending. */
-function allLines() {
-  const found = new Set([...Object.keys(RUN.bodies).map(Number), ...RUN.always]);
-  for (const text of FRAMES[0].lines) found.add(aboutLine(text));
-  for (const frame of FRAMES) frame.changed.forEach((line) => found.add(line));
-  found.delete(null);
-  return [...found].sort((a, b) => a - b);
-}
-
-const FRAMES = allFrames();
-const LINES = allLines();
-
-/** The message that an event at a frame takes from its link: the one that was at its head before. */
-function taken(at, from, to) {
-  if (at === 0) return null;
-  const text = FRAMES[at - 1].lines.find((line) => line.startsWith(`link ${from} ${to} `));
-  return text ? said(text) : null;
-}
-
-/** What became of an instruction event of a node, by the status of the context that ran. */
-function ranText(at, node) {
-  const state = FRAMES[at].lines.find((line) => line.startsWith(`node ${node} `));
-  const context = FRAMES[at].lines.find((line) => line.startsWith(`context ${node * RUN.contexts + said(state).slot} `));
-  const [status, about] = said(context).status.split(' ');
-  return { wait: `misses line ${about}`, halted: 'halts', trapped: `traps ${about}` }[status] ?? 'runs an instruction';
-}
-
-/** The events of a frame: each node's, as a text. */
-function eventsOf(at) {
-  const found = new Map();
-  for (const event of FRAMES[at].events) {
-    const [kind, first, second] = event.split(' ');
-    if (kind === 'I') found.set(Number(first), ranText(at, Number(first)));
-    if (kind === 'H') found.set(Number(first), 'handles a packet');
-    if (kind === 'E') found.set(Number(first), `evicts set ${second}`);
-    if (kind === 'D') {
-      const message = taken(at, first, second);
-      found.set(Number(second), `takes ${message ? `${message.kind} ${message.line}` : 'a message'} from ${first}`);
-    }
-  }
-  return found;
 }

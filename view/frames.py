@@ -1,18 +1,16 @@
-"""The frames of a run: the states that the program writes at the stamps of a trace, each as what differs from the one before."""
-import itertools
+"""The frames of a run, from its log in one pass: the state at each stamp, as the steps that lead there from the one before."""
 import re
 import sys
-from concurrent.futures import ThreadPoolExecutor
 from dataclasses import dataclass
 from pathlib import Path
 
-from alewife import WORD, ProgramError, called, checkpoint_of, image_of
+import logs
+import machine
+from alewife import RAN, WORD, ProgramError, called, checkpoint_of, image_of
 
-MOST_FRAMES = 4000
-AT_ONCE = 2
+COMPARED = 8
 LINE_AT = {'pending': 1, 'cache': 2, 'home': 1, 'packet': 2}
-NAMING = {'node': 2, 'context': 2, 'pending': 2, 'cache': 2, 'home': 2, 'packet': 5, 'link': 7}
-WORDS = re.compile(r'(?:hold|wait|trapped) \S+|\S+')
+WORDS = machine.WORDS
 
 
 class ViewError(Exception):
@@ -55,6 +53,18 @@ class Program:
             raise ViewError(f'refused: route: {why or f"status {status}"}')
         return [[int(word) for word in line.split()] for line in text.split('\n')[5:-2]]
 
+    def log(self):
+        """The lines of the log of the run. Of a trace that has no end they are those of a run that goes on from it."""
+        status, text, why = self.call('replay', '--write', 'log')
+        if status == 3 and why.endswith('not finished'):
+            status, saved, why = self.call('save')
+            status, text, why = Program(self.binary, saved.encode()).call('resume', '--write', 'log')
+        if status == 2:
+            raise ViewError(f'{self.binary} writes no log ({why}): name another program')
+        if status not in RAN:
+            raise ViewError(f'refused: {why or f"status {status}"}')
+        return text.split('\n')[:-1]
+
 
 def read_trace(path):
     """The bytes of a trace, in a file or, where the path is -, on standard input."""
@@ -80,95 +90,104 @@ def stamps_of(run, first, last):
     stamps = [stamp for stamp in (0, *run.events) if first <= stamp and (last is None or stamp <= last)]
     if not stamps:
         raise ViewError(f'no entry has a stamp from {first} to {last}' if last is not None else f'no entry has a stamp from {first} on')
-    if len(stamps) > MOST_FRAMES:
-        raise ViewError(f'{len(stamps)} frames, and a page has at most {MOST_FRAMES}: choose with --from {stamps[0]} --to {stamps[MOST_FRAMES - 1]}, say')
     return stamps
 
 
-# ---- differences
+def shown(line, event, why):
+    """What a page has of an event: its line in the log but for the stamp and the statement, with words without leading zeros, and the reason of a miss or
+    an INV."""
+    words = line.partition(' ')[2]
+    if event.letter == 'I':
+        behind = len(f'I {event.said["node"]} slot {event.said["slot"]} pc {event.said["pc"]} {event.said["statement"]}')
+        words = f'I {event.said["node"]} {event.said["slot"]} {event.said["pc"]}{words[behind:]}'
+    return machine.DIGITS.sub(r'x\1', words) + (f'|{why}' if why else '')
 
 
-def keyed(lines):
-    """The lines of a state, each by what it is about: these words tell it from all others, and stand in one order in all states."""
-    found, node = {}, None
-    for line in lines:
-        words = line.split(' ')
-        node = words[1] if words[0] == 'node' else node
-        found[(None if words[0] == 'link' else node, *words[:NAMING[words[0]]])] = line
-    return found
+@dataclass(frozen=True)
+class Log:
+    """The log of a run: its head, the lines of its events, and where contexts stand at the end."""
+    head: logs.Head
+    lines: list
+    ends: list
+
+    def events(self):
+        """The events, one by one in order."""
+        return map(event_of, self.lines)
+
+    def at(self):
+        """The lines of the events of each stamp."""
+        found = {}
+        for line in self.lines:
+            found.setdefault(int(line.partition(' ')[0]), []).append(line)
+        return found
 
 
-def shortened(word):
-    """A word as a difference has it: a hexadecimal one as x and its digits behind leading zeros."""
-    return f'x{int(word, 16):x}' if re.fullmatch('0x[0-9a-f]{8}', word) else word
+def event_of(line):
+    """The event of a line of a log."""
+    try:
+        return logs.event_of(line)
+    except logs.LogError as fault:
+        raise ViewError(f'the log is wrong: {fault}') from fault
 
 
-def changes(old, new):
-    """What differs between two lines about the same: the place and the word of each, or the whole line where that is as good."""
-    before, after = WORDS.findall(old), WORDS.findall(new)
-    if len(before) != len(after):
-        return f'={new}'
-    return '~' + ';'.join(f'{at} {shortened(word)}' for at, word in enumerate(after) if word != before[at])
+def log_of(program, run):
+    """The log of a trace."""
+    lines = program.log()
+    try:
+        head = logs.head_of(lines[:logs.HEAD_LINES])
+        ends = list(map(logs.context_of, lines[logs.HEAD_LINES + head.events + 1:-2]))
+    except logs.LogError as fault:
+        raise ViewError(f'the log is wrong: {fault}') from fault
+    return Log(head, lines[logs.HEAD_LINES:logs.HEAD_LINES + sum(map(len, run.events.values()))], ends)
 
 
-def steps(old, new):
-    """The steps from one state to the next: 1 for a kept line, -1 for a dropped one, and a text for a changed or a new one."""
-    keys = iter(old)
-    for key, line in new.items():
-        if key not in old:
-            yield f'+{line}'
-            continue
-        while next(keys) != key:
-            yield -1
-        yield 1 if old[key] == line else changes(old[key], line)
-    yield from (-1 for _ in keys)
+# ---- frames
 
 
-def patch(old, new):
-    """The steps from one state to the next, those of kept lines and those of dropped lines added up."""
-    added = []
-    for sign, group in itertools.groupby(steps(old, new), lambda step: step if isinstance(step, int) else 0):
-        added += [sign * len(list(group))] if sign else group
-    return added
+def chosen(stamps):
+    """The stamps of the frames that are compared with what the program saves: the last one, and some between."""
+    return {stamps[(len(stamps) - 1) * part // COMPARED] for part in range(1, COMPARED + 1)}
 
 
-def rebuilt(lines, steps_of_frame):
-    """The state that steps lead to, as the page makes it."""
-    rest, made = iter(lines), []
-    for step in steps_of_frame:
-        if isinstance(step, int):
-            kept = list(itertools.islice(rest, abs(step)))
-            made += kept if step > 0 else []
-        elif step[0] == '+':
-            made.append(step[1:])
+def compare(program, stamp, state):
+    """Refuses a state that the program saves in another way."""
+    saved = program.save('--at', str(stamp))[1]
+    if state.text() != saved:
+        different = next((pair for pair in zip(state.text(), saved) if pair[0] != pair[1]), ('more lines', 'fewer lines'))
+        raise ViewError(f'the state at stamp {stamp} differs from what the program saves: {different[0]} in place of {different[1]}')
+
+
+def frames(program, run, log, reasons, stamps, report):
+    """The frames, each [stamp, events, steps from the state before], the first from no lines. Calls report with the count of those made."""
+    state = machine.Machine(image_of(run.image), log.head.sets, program.save('--at', str(stamps[0]))[1])
+    compared, lines = chosen(stamps), log.at()
+    for place, stamp in enumerate(stamps):
+        events = sorted(((event_of(line), line) for line in lines.get(stamp, ())), key=lambda pair: pair[0].number('node'))
+        steps = list(state.begun()) if place == 0 else [step for event, _ in events for step in state.step(event)]
+        if stamp in compared and place:
+            compare(program, stamp, state)
+        yield [stamp, [shown(line, event, reasons.get((stamp, event.said['node']))) for event, line in events], steps]
+        report(place + 1)
+
+
+def rebuilt(lines, frame):
+    """The lines by key after a frame, as the page makes them: their words, or lists of words."""
+    stamp, events, steps = frame
+    for step in steps:
+        key, sign, text = re.fullmatch('([^-=~+<]+)([-=~+<])(.*)', step).groups()
+        if sign == '~':
+            for change in text.split(';'):
+                place, _, word = change.partition(' ')
+                changed = machine.onward(lines[key]) if place == '>' else {int(place): machine.lengthened(word)}
+                lines[key] = [changed.get(at, old) for at, old in enumerate(lines[key])]
+        elif sign == '<':
+            lines[key] = lines[key][1:]
+        elif sign == '-':
+            del lines[key]
         else:
-            made.append(changed(next(rest), step))
-    return made
-
-
-def changed(line, step):
-    """A line after a step that changes it."""
-    if step[0] == '=':
-        return step[1:]
-    words = WORDS.findall(line)
-    for change in step[1:].split(';'):
-        place, _, word = change.partition(' ')
-        words[int(place)] = f'0x{word[1:]:0>8}' if word[0] == 'x' else word
-    return ' '.join(words)
-
-
-def frames(program, run, stamps, told):
-    """The frames, each [stamp, events, steps from the state before], the first from no lines. Calls told with the count of those made."""
-    before, made = {}, []
-    with ThreadPoolExecutor(AT_ONCE) as pool:
-        states = pool.map(lambda stamp: program.save('--at', str(stamp))[1], stamps)
-        try:
-            for stamp, lines in zip(stamps, states):
-                state = keyed(lines)
-                made.append([stamp, run.events.get(stamp, []), patch(before, state)])
-                before = state
-                told(len(made))
-        except BaseException:
-            pool.shutdown(wait=False, cancel_futures=True)
-            raise
-    return made
+            words = machine.words_of(key, text)
+            lines[key] = lines.get(key, []) + [words] if sign == '+' else WORDS.findall(' '.join(words))
+    for event in events:
+        letter, node, other, *_ = event.split(' ')
+        machine.tick(lines[f'n{other if letter == "D" else node}'], stamp, other if letter == 'I' else None)
+    return lines

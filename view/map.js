@@ -1,34 +1,46 @@
 // The map: the mesh with a box for each node, wires with their loads, and arrows for the messages on their way.
 
-const BOX = { width: 276, row: 16, across: 176, down: 140, margin: 96 };
-const MOST_ROWS = { cache: 4, pending: 4, home: 4, packet: 3 };
+const BOX = { row: 16 };
+const SIZES = { wide: { width: 276, across: 150, down: 132, letters: 35 }, narrow: { width: 216, across: 84, down: 116, letters: 27 } };
+const NARROW = 700, LETTER = 7.6;
+const MOST_ROWS = { a: 4, p: 4, h: 4, q: 3 };
 const DASHES = { RREQ: '1 3', WREQ: '3 2', RDATA: '', WDATA: '', INV: '', ACKC: '8 3', UPDATE: '8 3', REPM: '8 3', BUSY: '8 2 1 2' };
-const LETTERS = 35;
 const MOST_LABELLED = 16;
+const EVENT_ROWS = 3, CONTEXT_ROWS = 2;
 
 /** How many rows of each part a box has: the most that any frame needs, up to a limit. */
-function rowsOfBoxes() {
-  const most = { cache: 1, pending: 1, home: 1, packet: 0 };
-  for (const frame of FRAMES) {
-    let counts = {};
-    for (const text of frame.lines) {
-      const kind = text.slice(0, text.indexOf(' '));
-      if (kind === 'node') counts = {};
-      if (!(kind in most)) continue;
-      counts[kind] = (counts[kind] ?? 0) + 1;
-      most[kind] = Math.min(Math.max(most[kind], counts[kind]), MOST_ROWS[kind]);
-    }
-  }
-  return most;
+const ROWS = Object.fromEntries(Object.entries({ cache: 'a', pending: 'p', home: 'h', packet: 'q' }).map(([kind, letter]) => {
+  return [kind, Math.min(Math.max(INDEX.most[letter] ?? 0, kind === 'packet' ? 0 : 1), MOST_ROWS[letter])];
+}));
+BOX.height = BOX.row * (1 + EVENT_ROWS + CONTEXT_ROWS * RUN.contexts + ROWS.cache + ROWS.pending + ROWS.home + ROWS.packet) + 10;
+
+/** Widens edges to a place with so much room on each side. */
+function widen(edges, x, y, across, down) {
+  Object.assign(edges, { left: Math.min(edges.left, x - across), right: Math.max(edges.right, x + across) });
+  Object.assign(edges, { top: Math.min(edges.top, y - down), bottom: Math.max(edges.bottom, y + down) });
 }
 
-const ROWS = rowsOfBoxes();
-BOX.height = BOX.row * (2 + RUN.contexts + ROWS.cache + ROWS.pending + ROWS.home + ROWS.packet) + 10;
+/** Takes the sizes that suit the window, and the part of the plane that boxes, arrows and names of any frame need. */
+function measure() {
+  Object.assign(BOX, SIZES[document.documentElement.clientWidth < NARROW ? 'narrow' : 'wide']);
+  const last = placeOf(NODES - 1), letters = `▶UPDATE ${NODES * RUN.lines - 1}`.length;
+  const edges = { left: -4, top: -4, right: last.right + 4, bottom: last.bottom + 4 };
+  for (const key of INDEX.links) {
+    const [from, to] = key.slice(1).split('.').map(Number), points = curveOf(from, to);
+    for (let part = 0; part <= 1; part += 0.125) widen(edges, curveAt(points, part, 0), curveAt(points, part, 1), 4, 4);
+    for (const part of namesAlong(from, to)) widen(edges, curveAt(points, part, 0), curveAt(points, part, 1), LETTER * letters / 2 + 4, 24);
+  }
+  BOX.edges = edges;
+}
+
+/** Where on a link's curve its names may stand, as parts of it: nearer to the sender first. */
+function namesAlong(from, to) {
+  return from === to ? [0.5] : [0.27, 0.38, 0.5, 0.18, 0.62, 0.75];
+}
 
 /** The place of a node's box. */
 function placeOf(node) {
-  const left = BOX.margin + (node % WIDTH) * (BOX.width + BOX.across);
-  const top = BOX.margin + Math.floor(node / WIDTH) * (BOX.height + BOX.down);
+  const left = (node % WIDTH) * (BOX.width + BOX.across), top = Math.floor(node / WIDTH) * (BOX.height + BOX.down);
   return { left, top, right: left + BOX.width, bottom: top + BOX.height, x: left + BOX.width / 2, y: top + BOX.height / 2 };
 }
 
@@ -42,54 +54,62 @@ function svgText(x, y, text, kind = '', extra = '') {
   return `<text x="${x}" y="${y}" class="${kind}" ${extra}>${escaped(text)}</text>`;
 }
 
-/** A hexadecimal word without leading zeros. */
-function short(word) {
-  return '0x' + Number(word).toString(16);
+/** How much a row is wanted: the followed line's first, then what changed, then lines that are asked for or on their way. */
+function wanted(row, moving) {
+  return 4 * (row.line !== undefined && row.line === VIEW.line) + 2 * row.fresh + moving.has(row.line);
 }
 
-/** The rows of one part of a box, at most so many, the followed line's first where not all fit. */
-function partOf(node, kind, text) {
-  const all = node[kind].map((each) => ({ text: text(each), line: each.line, fresh: each.fresh }));
+/** The rows of one part of a box, at most so many, the most wanted first. */
+function partOf(node, kind, moving, text) {
   const most = ROWS[kind];
+  const all = node[kind].map((each) => ({ text: text(each), line: each.line, fresh: each.fresh }));
+  if (kind !== 'packet') all.sort((a, b) => wanted(b, moving) - wanted(a, moving));
   if (all.length <= most) return [...all, ...Array(most - all.length).fill({ text: '' })];
-  all.sort((a, b) => (b.line === VIEW.line) - (a.line === VIEW.line));
   return [...all.slice(0, most - 1), { text: `and ${all.length - most + 1} more (${kind})` }];
 }
 
+/** The rows of a context: what it does, and its statement. */
+function rowsOfContext(each, slot, current) {
+  const [status, line] = each.status.split(' ');
+  const about = status === 'hold' || status === 'wait' ? Number(line) : undefined;
+  const does = about === undefined ? each.status : `${status} ${lineName(about)}`;
+  return [{ text: `${current ? '*' : ' '}${slot} ${does}`, line: about, fresh: each.fresh }, { text: `  ${statementText(each.pc)}`, line: about, below: true }];
+}
+
 /** The rows of a node's box below its event. */
-function rowsOf(node) {
-  const contexts = node.context.map((each, slot) => {
-    const [status, line] = each.status.split(' ');
-    const about = status === 'hold' || status === 'wait' ? Number(line) : undefined;
-    return { text: `${slot === node.slot ? '*' : ' '}${slot} ${each.status} pc ${short(each.pc)}`, line: about, fresh: each.fresh };
-  });
+function rowsOf(node, moving) {
   return [
-    ...contexts,
-    ...partOf(node, 'cache', (each) => `cache ${each.line} ${each.mode} ${short(each.body[0])}`),
-    ...partOf(node, 'pending', (each) => `asks  ${each.line} ${each.mode}`),
-    ...partOf(node, 'home', (each) => `home  ${each.line} ${each.state} ${each.meta} H ${each.hw} S ${each.sw}` + (each.acks ? ` n ${each.acks}` : '')),
-    ...partOf(node, 'packet', (each) => `queue ${each.kind} ${each.line} from ${each.from}`),
+    ...node.context.flatMap((each, slot) => rowsOfContext(each, slot, slot === node.slot)),
+    ...partOf(node, 'pending', moving, (each) => `asks  ${lineName(each.line)} ${each.mode}`),
+    ...partOf(node, 'cache', moving, (each) => `cache ${lineName(each.line)} ${each.mode} ${short(each.body[0])}`),
+    ...partOf(node, 'home', moving, (each) => `home  ${lineName(each.line)} ${shortEntry(each)}`),
+    ...partOf(node, 'packet', moving, (each) => `queue ${each.kind} ${lineName(each.line)} from ${each.from}`),
   ];
 }
 
+/** A text of a box, which is pressed together where it is too long. */
+function boxText(left, top, text, kind, extra) {
+  const room = BOX.width - 10, long = text.length > BOX.letters ? `textLength="${room}" lengthAdjust="spacingAndGlyphs"` : '';
+  return svgText(left + 5, top, text, kind, `xml:space="preserve" ${long} ${extra}`);
+}
+
 /** A node's box. */
-function drawBox(node, number, event) {
+function drawBox(node, number, event, moving) {
   const { left, top } = placeOf(number);
-  const rows = rowsOf(node);
+  const rows = rowsOf(node, moving);
   const thick = rows.some((row) => row.line === VIEW.line && row.line !== undefined) ? 4 : 1.5;
   const parts = [`<rect class="box" x="${left}" y="${top}" width="${BOX.width}" height="${BOX.height}" stroke-width="${thick}"/>`];
-  parts.push(svgText(left + 8, top + 15, `node ${number}`, 'bold'), svgText(left + BOX.width - 8, top + 15, `clock ${node.clock}`, '', 'text-anchor="end"'));
+  parts.push(svgText(left + 8, top + 14, `node ${number}`, 'bold'), svgText(left + BOX.width - 8, top + 14, `clock ${node.clock}`, '', 'text-anchor="end"'));
   if (event) {
-    parts.push(`<rect class="event" x="${left}" y="${top + BOX.row + 4}" width="${BOX.width}" height="${BOX.row}"/>`);
-    parts.push(svgText(left + 8, top + 2 * BOX.row, event, 'inverse'));
+    parts.push(`<rect class="event" x="${left}" y="${top + BOX.row + 2}" width="${BOX.width}" height="${EVENT_ROWS * BOX.row + 2}"/>`);
+    parts.push(...rowsOfEvent(event).map((text, at) => boxText(left, top + (2 + at) * BOX.row, ` ${text}`, 'inverse', '')));
   }
   rows.forEach((row, at) => {
-    const mark = row.line === VIEW.line && row.line !== undefined ? '▶' : row.fresh ? '•' : ' ';
-    const text = `${mark}${row.text}`;
-    const kind = (mark === '▶' ? 'bold ' : '') + (row.line === undefined ? '' : 'pick');
-    const cut = text.length > LETTERS ? text.slice(0, LETTERS - 1) + '…' : text;
+    const followed = row.line === VIEW.line && row.line !== undefined;
+    const mark = row.below ? ' ' : followed ? '▶' : row.fresh ? '•' : ' ';
+    const kind = (followed ? 'bold ' : '') + (row.line === undefined ? '' : 'pick');
     const pick = row.line === undefined ? '' : `data-line="${row.line}"`;
-    parts.push(svgText(left + 5, top + (3 + at) * BOX.row + 2, cut, kind, `xml:space="preserve" ${pick}`));
+    parts.push(boxText(left, top + (2 + EVENT_ROWS + at) * BOX.row, `${mark}${row.text}`, kind, pick));
   });
   return parts.join('');
 }
@@ -127,8 +147,8 @@ function curveOf(from, to) {
   const right = Math.sign(b.x - a.x), down = Math.sign(b.y - a.y);
   const far = Math.min(4, Math.abs(right ? to - from : (to - from) / WIDTH));
   if (!down) {
-    const edge = right > 0 ? a.top : a.bottom, bend = edge - right * (28 + 24 * far), out = 110 - 26 * far;
-    return [a.x + right * out, edge, a.x + right * (out + 30), bend, b.x - right * 96, bend, b.x - right * 66, edge];
+    const edge = right > 0 ? a.top : a.bottom, bend = edge - right * (28 + 24 * far), out = BOX.width / 2 - 28 - 26 * far, into = BOX.width / 4;
+    return [a.x + right * out, edge, a.x + right * (out + 30), bend, b.x - right * (into + 30), bend, b.x - right * into, edge];
   }
   if (!right) {
     const edge = down > 0 ? a.right : a.left, bend = edge + down * (34 + 24 * far), out = 52 - 14 * far;
@@ -158,8 +178,8 @@ function labelPlace(points, parts, width, height, placed) {
 function drawNames(messages, points, placed) {
   const names = messages.slice(0, 3).map((each) => ({ text: `${each.line === VIEW.line ? '▶' : ''}${each.kind} ${each.line}`, line: each.line }));
   if (messages.length > 3) names.push({ text: `and ${messages.length - 3} more` });
-  const width = 7.6 * Math.max(...names.map(({ text }) => text.length)) + 4, height = 15 * names.length;
-  const { x, y } = labelPlace(points, messages[0].from === messages[0].to ? [0.5] : [0.27, 0.38, 0.5, 0.18, 0.62, 0.75], width, height, placed);
+  const width = LETTER * Math.max(...names.map(({ text }) => text.length)) + 4, height = 15 * names.length;
+  const { x, y } = labelPlace(points, namesAlong(messages[0].from, messages[0].to), width, height, placed);
   const paper = `<rect class="paper" x="${x - width / 2}" y="${y - height / 2}" width="${width}" height="${height}"/>`;
   return paper + names.map(({ text, line }, at) => {
     const pick = line === undefined ? '' : `data-line="${line}"`;
@@ -181,22 +201,27 @@ function drawLink(messages, placed) {
 }
 
 const MARKER = 'viewBox="0 0 10 10" refX="9" refY="5" markerUnits="userSpaceOnUse" orient="auto"';
-const HEADS = `<defs>
+const HEADS_OF_ARROWS = `<defs>
 <marker id="head" ${MARKER} markerWidth="11" markerHeight="11"><path d="M0 0L10 5L0 10z" fill="context-stroke"/></marker>
 <marker id="wire" ${MARKER} markerWidth="9" markerHeight="9"><path d="M0 1L10 5L0 9" fill="none" stroke="#777" stroke-width="1.5"/></marker>
 </defs>`;
 const TOTALS = new Map((RUN.loads ?? []).map(([from, to, count]) => [`${from} ${to}`, count]));
 
+/** The lines that are asked for, on their way or in a queue. */
+function movingIn(state) {
+  const found = [...state.links.values(), ...state.nodes.flatMap((node) => [node.pending, node.packet])].flat();
+  return new Set(found.map((each) => each.line));
+}
+
 /** The map of a state. */
-function drawMap(state, frame, events, size) {
-  const whole = placeOf(NODES - 1);
-  const width = whole.right + BOX.margin, height = whole.bottom + BOX.margin;
+function drawMap(state, frame, size) {
+  const { left, top, right, bottom } = BOX.edges, width = right - left, height = bottom - top;
   const scaled = size === 'fit' ? 'width="100%"' : `width="${width * size}" height="${height * size}"`;
   const most = Math.max(1, ...TOTALS.values(), ...frame.loads.values());
   const wires = neighbours().map(([from, to]) => drawWire(from, to, frame.loads, most));
-  const placed = [];
+  const placed = [], moving = movingIn(state), events = new Map(frame.events.map((event) => [Number(event.node), event]));
   const links = [...state.links.values()].map((each) => drawLink(each, placed));
-  const boxes = state.nodes.map((node, number) => drawBox(node, number, events.get(number)));
-  const parts = [HEADS, ...wires, ...boxes, ...links.map((link) => link.arrow), ...links.map((link) => link.names)];
-  return `<svg xmlns="http://www.w3.org/2000/svg" ${scaled} viewBox="0 0 ${width} ${height}" aria-hidden="true">${parts.join('\n')}</svg>`;
+  const boxes = state.nodes.map((node, number) => drawBox(node, number, events.get(number), moving));
+  const parts = [HEADS_OF_ARROWS, ...wires, ...boxes, ...links.map((link) => link.arrow), ...links.map((link) => link.names)];
+  return `<svg xmlns="http://www.w3.org/2000/svg" ${scaled} viewBox="${left} ${top} ${width} ${height}" aria-hidden="true">${parts.join('\n')}</svg>`;
 }

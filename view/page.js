@@ -1,7 +1,7 @@
 // The page: what is shown, and the controls and keys that change it.
 
 /** What is shown: the place of the frame, the followed line, and which rows and what size. */
-const VIEW = { at: 0, line: null, rows: NODES > MOST_LABELLED ? 'changed' : 'all', size: '1' };
+const VIEW = { at: 0, line: null, rows: NODES > MOST_LABELLED ? 'changed' : 'all', size: 'fit' };
 const SHOWN = { history: null, address: 0 };
 const part = (name) => document.getElementById(name);
 
@@ -13,7 +13,7 @@ function fail(text) {
 
 /** The place of the last frame whose stamp isn't above a number. */
 function placeOfStamp(stamp) {
-  return Math.max(0, FRAMES.findLastIndex((frame) => frame.stamp <= stamp));
+  return Math.max(0, RUN.frames.findLastIndex(([each]) => each <= stamp));
 }
 
 /** Takes what the address asks for, as #stamp=12&line=0. */
@@ -34,18 +34,24 @@ function writeAddress() {
 
 /** Puts what is shown into the address. */
 function putAddress() {
-  const words = [`stamp=${FRAMES[VIEW.at].stamp}`];
+  const words = [`stamp=${RUN.frames[VIEW.at][0]}`];
   if (VIEW.line !== null) words.push(`line=${VIEW.line}`);
   words.push(`rows=${VIEW.rows}`, `size=${VIEW.size}`);
   history.replaceState(null, '', `#${words.join('&')}`);
 }
 
-/** Says the stamp and its events. */
-function showNow(frame, events) {
-  const told = [...events].sort(([a], [b]) => a - b).map(([node, text]) => `node ${node} ${text}`);
-  const few = told.length > 12 ? [...told.slice(0, 12), `and ${told.length - 12} more`] : told;
-  const text = escaped(few.join('; ') || 'the start, before any event');
-  part('now').innerHTML = `<b>Stamp ${frame.stamp}</b> (frame ${VIEW.at + 1} of ${FRAMES.length}): ${text}.`;
+/** Stamps in a sentence, as buttons that lead there. */
+function withStamps(text) {
+  return escaped(text).replace(/\bat (\d+)\b/g, 'at <button type="button" data-stamp="$1" aria-label="stamp $1">$1</button>');
+}
+
+/** Says the stamp and its events, those of the followed line first. */
+function showNow(frame) {
+  const line = String(VIEW.line), first = (event) => [event.line, event.misses?.[0]].includes(line);
+  const events = [...frame.events].sort((a, b) => first(b) - first(a) || Number(a.node) - Number(b.node));
+  part('now').innerHTML = `<b>Stamp ${frame.stamp}</b> of ${RUN.last} (frame ${VIEW.at + 1} of ${LAST + 1})`;
+  const rows = events.map((event) => `<li${first(event) ? ' class="followed"' : ''}>${withStamps(sentence(event))}</li>`);
+  part('events').innerHTML = rows.join('') || '<li>the start, before any event</li>';
 }
 
 /** Sets the controls to what is shown. */
@@ -56,7 +62,7 @@ function showControls(frame) {
   part('rows').value = VIEW.rows;
   part('size').value = VIEW.size;
   const changes = VIEW.line === null ? [] : changesOf(VIEW.line);
-  const disabled = { first: VIEW.at === 0, back: VIEW.at === 0, next: VIEW.at === FRAMES.length - 1, last: VIEW.at === FRAMES.length - 1 };
+  const disabled = { first: VIEW.at === 0, back: VIEW.at === 0, next: VIEW.at === LAST, last: VIEW.at === LAST };
   disabled.before = !changes.some((at) => at < VIEW.at);
   disabled.after = !changes.some((at) => at > VIEW.at);
   for (const [name, value] of Object.entries(disabled)) part(name).setAttribute('aria-disabled', value);
@@ -74,36 +80,49 @@ function showHistory() {
     if (each === current) each.setAttribute('aria-current', 'true');
     else each.removeAttribute('aria-current');
   }
-  if (current) part('history').scrollTop = current.offsetTop - part('history').clientHeight / 2;
 }
 
 /** A button in a part that is drawn anew, as what finds its like there: its part, and what it is about. */
 function focusedButton() {
-  const button = document.activeElement?.closest('button[data-line], button[data-at]'), within = button?.closest('#tables > section, #history');
+  const button = document.activeElement?.closest('button[data-line], button[data-at], button[data-stamp]');
+  const within = button?.closest('#tables > section, #history, #prints');
   if (!within) return null;
   const [name, value] = Object.entries(button.dataset)[0];
   const place = [...part('tables').children].indexOf(within);
-  return () => (place < 0 ? part('history') : part('tables').children[place]).querySelector(`button[data-${name}="${value}"]`);
+  return () => (place < 0 ? part(within.id) : part('tables').children[place]).querySelector(`button[data-${name}="${value}"]`);
 }
 
 /** Shows the frame. The focus stays where it was, also on a button that is drawn anew. */
 function show() {
   const focused = focusedButton();
-  const frame = FRAMES[VIEW.at], state = stateOf(frame), events = eventsOf(VIEW.at);
-  showNow(frame, events);
+  const before = loadsAt(Math.max(0, VIEW.at - 1)), frame = frameAt(VIEW.at), state = stateOf(frame.lines);
+  showNow(frame);
   showControls(frame);
   part('map').classList.toggle('fit', VIEW.size === 'fit');
-  part('map').innerHTML = drawMap(state, frame, events, VIEW.size);
-  part('tables').innerHTML = drawTables(state, frame, FRAMES[VIEW.at - 1]);
-  part('text').textContent = frame.lines.join('\n') + '\n';
+  part('map').style.flexBasis = VIEW.size === 'fit' ? `${BOX.edges.right - BOX.edges.left}px` : 'auto';
+  part('map').innerHTML = drawMap(state, frame, VIEW.size);
+  part('counts').innerHTML = drawCounts(VIEW.at, VIEW.line);
+  part('tables').innerHTML = drawTables(state, frame, before);
+  part('text').textContent = frame.lines.map(({ text }) => text).join('\n') + '\n';
+  part('prints').innerHTML = drawPrints(frame.stamp);
   showHistory();
+  scrollParts();
   if (focused && !document.activeElement?.closest('button')) focused()?.focus({ preventScroll: true });
   writeAddress();
 }
 
+/** Scrolls the events to their begin, and the lists of words and of changes to their rows of the frame, when all is drawn. */
+function scrollParts() {
+  part('events').scrollTop = 0;
+  for (const name of ['prints', 'history']) {
+    const scrolled = part(name).lastElementChild, row = part(name).querySelector('tr[aria-current]');
+    if (row) scrolled.scrollTop = row.offsetTop - scrolled.clientHeight / 2;
+  }
+}
+
 /** Goes to a frame, or to the end that is nearer. */
 function go(at) {
-  VIEW.at = Math.min(Math.max(at, 0), FRAMES.length - 1);
+  VIEW.at = Math.min(Math.max(at, 0), LAST);
   show();
 }
 
@@ -116,7 +135,7 @@ function goToChange(forward) {
 
 /** Scrolls the map to a node, where it doesn't show the whole of it. */
 function bringToView(node) {
-  const map = part('map'), scale = map.scrollWidth / (placeOf(NODES - 1).right + BOX.margin), { left, right, top, bottom } = placeOf(node);
+  const map = part('map'), scale = map.scrollWidth / (BOX.edges.right - BOX.edges.left), { left, right, top, bottom } = placeOf(node);
   if (left * scale < map.scrollLeft || right * scale > map.scrollLeft + map.clientWidth) map.scrollLeft = left * scale - map.clientWidth / 3;
   if (top * scale < map.scrollTop || bottom * scale > map.scrollTop + map.clientHeight) map.scrollTop = top * scale - map.clientHeight / 3;
 }
@@ -136,7 +155,7 @@ const KEYS = {
 /** Does what a key says. Lists, the slider and parts that scroll keep the keys that move in them. */
 function press(event) {
   const letter = event.key.length === 1;
-  const keeps = event.target.matches('select') || (!letter && event.target.matches('#slider, #map, #history, #text'));
+  const keeps = event.target.matches('select') || (!letter && event.target.matches('#slider, #map, .scroll, #text'));
   if (event.ctrlKey || event.metaKey || event.altKey || keeps || !(event.key in KEYS)) return;
   event.preventDefault();
   KEYS[event.key]();
@@ -144,28 +163,30 @@ function press(event) {
 
 /** Follows the line, or goes to the frame, of what was clicked on. */
 function click(event) {
-  const picked = event.target.closest('[data-line]'), frame = event.target.closest('button[data-at]');
+  const picked = event.target.closest('[data-line]'), frame = event.target.closest('button[data-at]'), stamp = event.target.closest('button[data-stamp]');
   if (picked) followLine(Number(picked.dataset.line));
+  if (stamp) go(placeOfStamp(Number(stamp.dataset.stamp)));
   if (frame) go(Number(frame.dataset.at));
 }
 
 /** Ties the controls. */
 function tie() {
-  part('slider').max = FRAMES.length - 1;
+  part('slider').max = LAST;
   part('slider').addEventListener('input', () => go(Number(part('slider').value)));
-  const places = { first: () => go(0), back: () => go(VIEW.at - 1), next: () => go(VIEW.at + 1), last: () => go(FRAMES.length - 1) };
+  const places = { first: () => go(0), back: () => go(VIEW.at - 1), next: () => go(VIEW.at + 1), last: () => go(LAST) };
   const buttons = { ...places, before: () => goToChange(false), after: () => goToChange(true) };
   for (const [name, action] of Object.entries(buttons)) part(name).addEventListener('click', action);
-  part('follow').innerHTML = '<option value="">none</option>' + LINES.map((line) => `<option>${line}</option>`).join('');
+  part('follow').innerHTML = '<option value="">none</option>' + LINES.map((line) => `<option value="${line}">${escaped(lineName(line))}</option>`).join('');
   part('follow').addEventListener('change', () => followLine(part('follow').value === '' ? null : Number(part('follow').value)));
   for (const name of ['rows', 'size']) part(name).addEventListener('change', () => { VIEW[name] = part(name).value; show(); });
   document.addEventListener('keydown', press);
   document.addEventListener('click', click);
   window.addEventListener('hashchange', () => { readAddress(); show(); });
+  window.addEventListener('resize', () => { measure(); show(); });
 }
 
 /** A number of things, in words. */
-function counted(number, name) {
+function numbered(number, name) {
   return `${number} ${name}${number === 1 ? '' : 's'}`;
 }
 
@@ -174,11 +195,13 @@ function begin() {
   const { pointers, sets, limit } = RUN.params;
   document.title = `${RUN.name}: a run of alewife`;
   part('name').textContent = RUN.name;
-  const node = `${counted(RUN.contexts, 'context')} and ${counted(RUN.lines, 'home line')} a node`;
-  const begin = FRAMES[0].stamp ? `, from stamp ${FRAMES[0].stamp} on, where loads so far count from 0` : '';
+  const node = `${numbered(RUN.contexts, 'context')} and ${numbered(RUN.lines, 'home line')} a node`;
+  const [first, last] = [RUN.frames[0][0], RUN.frames[LAST][0]];
+  const begin = (first ? `, from stamp ${first} on, where loads so far count from 0` : '') + (last < RUN.last ? `, up to stamp ${last} of ${RUN.last}` : '');
   const end = RUN.loads ? '' : '; the trace has no end, so that no wire’s load in all is told';
-  part('about').textContent = `Mesh ${WIDTH} by ${HEIGHT}, ${node}, ${counted(pointers, 'hardware pointer')}, ${sets} sets, limit ${limit}; `
-    + `${counted(RUN.entries, 'event')}, ${counted(FRAMES.length, 'frame')}${begin}${end}.`;
+  part('about').textContent = `Mesh ${WIDTH} by ${HEIGHT}, ${node}, ${numbered(pointers, 'hardware pointer')}, ${sets} sets, limit ${limit}; `
+    + `${numbered(RUN.entries, 'event')}, ${numbered(LAST + 1, 'frame')}${begin}${end}.`;
+  measure();
   readAddress();
   tie();
   show();

@@ -12,7 +12,7 @@ function drawRow({ cells, line, fresh }) {
   const mark = `${followed ? '▶' : ''}${fresh ? '•' : ''}`;
   const name = [followed ? 'followed' : '', fresh ? 'changed' : ''].filter(Boolean).join(', ');
   const sign = mark && `<span role="img" aria-label="${name}">${mark}</span>`;
-  const button = line === undefined ? '' : `<button type="button" data-line="${line}" aria-label="follow line ${line}">${line}</button>`;
+  const button = line === undefined ? '' : `<button type="button" data-line="${line}" aria-label="follow line ${line}">${escaped(lineName(line))}</button>`;
   const drawn = cells.map((cell) => (cell === LINE ? `<td>${button}</td>` : `<td${String(cell).length > 60 ? ' class="wide"' : ''}>${escaped(cell)}</td>`));
   return `<tr class="${kind}"><td>${sign}</td>${drawn.join('')}</tr>`;
 }
@@ -81,10 +81,11 @@ function contexts(state) {
   const rows = state.nodes.flatMap((node, number) => node.context.map((each, slot) => {
     const [status, line] = each.status.split(' ');
     const about = status === 'hold' || status === 'wait' ? Number(line) : undefined;
-    const cells = [number, slot + (slot === node.slot ? ' *' : ''), each.status, short(each.pc), short(each.npc), registersText(each)];
+    const [statement, place] = statementAt(each.pc);
+    const cells = [number, slot + (slot === node.slot ? ' *' : ''), each.status, short(each.pc), statement, place, short(each.npc), registersText(each)];
     return row(cells, about, each.fresh);
   }));
-  return drawTable('Contexts', ['node', 'slot (* current)', 'status', 'PC', 'nPC', 'registers that aren’t 0'], rows);
+  return drawTable('Contexts', ['node', 'slot (* current)', 'status', 'PC', 'statement', 'source', 'nPC', 'registers that aren’t 0'], rows);
 }
 
 /** The table of caches. */
@@ -112,7 +113,7 @@ function messages(state) {
 function wires(frame, before) {
   const rows = neighbours().map(([from, to]) => {
     const name = `${from} ${to}`, sent = frame.loads.get(name) ?? 0;
-    const crossing = sent !== (before?.loads.get(name) ?? 0);
+    const crossing = sent !== (before.get(name) ?? 0);
     return row([`${from} to ${to}`, sent, RUN.loads ? TOTALS.get(name) ?? 0 : 'not told'], undefined, crossing);
   });
   return drawTable('Wires', ['from, to', 'sent so far', 'in all'], rows);
@@ -127,13 +128,33 @@ function drawTables(state, frame, before) {
 
 /** The places of the frames in which a line changes. */
 function changesOf(line) {
-  return FRAMES.flatMap((frame, at) => (frame.changed.has(line) ? [at] : []));
+  return INDEX.changes.get(line) ?? [];
 }
 
-/** What a frame says of a line, as the cells of a row. */
+/** The lines of a frame that are about a line, and those of nodes. */
+function linesAbout(line) {
+  const found = new Map();
+  for (const [key, value] of HAND.lines) {
+    const kept = Array.isArray(value) ? value.filter((text) => aboutLine(text) === line) : value;
+    if (key[0] === 'n' || (Array.isArray(kept) ? kept.length : aboutLine(kept) === line)) found.set(key, kept);
+  }
+  return inOrder(found, new Map());
+}
+
+/** The cells of the followed line that are known, by frame. */
+const CELLS = { line: null, rows: new Map() };
+
+/** What a frame says of a line, as the cells of a row, found once as long as the line is followed. */
 function lineCells(at, line) {
-  const about = { fresh: new Set(), lines: FRAMES[at].lines.filter((text) => text.startsWith('node ') || aboutLine(text) === line) };
-  const state = stateOf(about);
+  if (CELLS.line !== line) Object.assign(CELLS, { line, rows: new Map() });
+  if (!CELLS.rows.has(at)) CELLS.rows.set(at, foundCells(at, line));
+  return CELLS.rows.get(at);
+}
+
+/** The same, found in the frame. */
+function foundCells(at, line) {
+  bring(at);
+  const state = stateOf(linesAbout(line));
   const home = homeOf(state, line);
   const asking = state.nodes.flatMap((node, number) => node.pending.map((each) => `${number} ${each.mode}`)).join(', ') || '-';
   const way = [...state.links.values()].flat().map((each) => `${each.kind} ${each.from} to ${each.to}`);
@@ -141,7 +162,13 @@ function lineCells(at, line) {
   return [home.state, home.meta, home.hw, home.sw, home.acks, wordsText(home.body), copiesText(state, line), asking, [...way, ...queue].join(', ') || '-'];
 }
 
-const MOST_CHANGES = 300;
+const MOST_CHANGES = 200;
+
+/** A table that scrolls below its name. */
+function scrolled(name, heads, rows) {
+  const table = `<table><thead><tr>${heads}</tr></thead><tbody>${rows}</tbody></table>`;
+  return `<h2>${escaped(name)}</h2><div class="scroll" tabindex="0" role="region" aria-label="${escaped(name)}">${table}</div>`;
+}
 
 /** The table of a followed line: a row for each frame in which it changes, those around the one that is shown where there are too many. */
 function drawHistory(line, at) {
@@ -150,11 +177,10 @@ function drawHistory(line, at) {
   const shown = all.slice(first, first + MOST_CHANGES);
   const rows = shown.map((each) => {
     const cells = lineCells(each, line).map((cell) => `<td${String(cell).length > 60 ? ' class="wide"' : ''}>${escaped(cell)}</td>`).join('');
-    return `<tr data-at="${each}"><td></td><td><button type="button" data-at="${each}">${FRAMES[each].stamp}</button></td>${cells}</tr>`;
+    return `<tr data-at="${each}"><td></td><td><button type="button" data-at="${each}">${RUN.frames[each][0]}</button></td>${cells}</tr>`;
   });
   const names = ['', 'stamp', 'state', 'meta state', 'H', 'S', 'counter', 'words', 'copies', 'asked for by', 'on the way'];
   const heads = names.map((name) => `<th scope="col">${name}</th>`).join('');
   const note = shown.length < all.length ? `${shown.length} of ${all.length} changes` : `${all.length} changes`;
-  const caption = `<caption>Line ${line}, home ${Math.floor(line / RUN.lines)}: ${note}</caption>`;
-  return `<table>${caption}<thead><tr>${heads}</tr></thead><tbody>${rows.join('')}</tbody></table>`;
+  return scrolled(`Line ${lineName(line)}, home ${Math.floor(line / RUN.lines)}: ${note}`, heads, rows.join(''));
 }

@@ -1,0 +1,294 @@
+"""A machine's state as a checkpoint has it, line by line, and what each event of a log changes of it.
+
+A line has a key that says what it is about: n3 is node 3, c5 context 5, p3.7 what node 3 asks for line 7, a3.1 the copy in set 1 of node 3,
+h7 the entry of line 7, q3 the packets of node 3, and l0.3 the messages from node 0 to node 3. Behind q and l stand several lines, in order.
+A step is a text: key~place word;.. changes words of a line, key=line is a new line or another one, key- is a line that is gone, key+line one
+more line behind the others, and key< is the first one that is gone. Words of eight hexadecimal digits stand there as x without leading zeros.
+In place of a change > says that a context goes on to its nPC. Of a message on a link there are its kind, its line and its stamp, and its bytes
+where they aren't zero. Clocks and current slots have no steps: an event's stamp is its node's clock, and an instruction's slot the current one.
+"""
+import re
+
+import codes
+
+WORDS = re.compile(r'(?:hold|wait|trapped) \S+|\S+')
+LONG = re.compile('0x[0-9a-f]{8}')
+DIGITS = re.compile('0x0*([0-9a-f]+)')
+SHARED, LINE, WORD = 0x40000000, 16, 4
+ZERO = ['0x00000000'] * 4
+KEYS = {'node': 'n{1}', 'context': 'c{1}', 'pending': 'p{node}.{1}', 'cache': 'a{node}.{1}', 'home': 'h{1}', 'packet': 'q{node}', 'link': 'l{1}.{2}'}
+RANKS = 'ncpahql'
+STATUS, PC, NEXT_PC, Y, CODES, REGISTERS = 2, 3, 4, 5, 6, 6
+CLOCK, SLOT = 3, 5
+STATE, BODY = 2, 10
+COPY_BODY = 4
+ANSWERS = {'RDATA', 'WDATA', 'BUSY'}
+TO_CACHE = {'RDATA', 'WDATA'}
+FROM_CACHE = {'REPM', 'UPDATE'}
+QUEUES = 'ql'
+
+
+def spelled(number):
+    """A word of eight digits."""
+    return f'0x{number % (1 << 32):08x}'
+
+
+def shortened(word):
+    """A word as a step has it."""
+    return f'x{int(word, 16):x}' if LONG.fullmatch(word) else word
+
+
+def line_of(words):
+    """A line as a step has it."""
+    if words[0] == 'link':
+        words = [*words[3:5], words[6], *(words[7:] if words[7:] != ZERO else [])]
+    return ' '.join(map(shortened, words))
+
+
+def lengthened(word):
+    """A word of a step as a checkpoint has it."""
+    return f'0x{word[1:]:0>8}' if word[0] == 'x' else word
+
+
+def words_of(key, text):
+    """The words of a line that a step has."""
+    words = list(map(lengthened, text.split(' ')))
+    if key[0] != 'l':
+        return words
+    from_node, to = key[1:].split('.')
+    return ['link', from_node, to, *words[:2], from_node, words[2], *(words[3:] or ZERO)]
+
+
+def onward(context):
+    """PC and nPC where a context goes on."""
+    return {PC: context[NEXT_PC], NEXT_PC: spelled(int(context[NEXT_PC], 16) + 4)}
+
+
+def tick(node, stamp, slot):
+    """Gives a node's line the clock of an event, and its slot where it has one."""
+    node[CLOCK] = str(stamp)
+    node[SLOT] = node[SLOT] if slot is None else str(slot)
+
+
+def register_at(name):
+    """The place of a register in a context's line, by its name."""
+    return REGISTERS + 8 * 'goli'.index(name[1]) + int(name[2])
+
+
+def in_order(keys, contexts, per_node):
+    """Keys in a checkpoint's order, of a machine with so many contexts and home lines a node."""
+    def place(key):
+        """Where a key's lines stand."""
+        numbers = tuple(map(int, key[1:].split('.')))
+        if key[0] == 'l':
+            return 1, *numbers
+        return 0, numbers[0] // {'c': contexts, 'h': per_node}.get(key[0], 1), RANKS.index(key[0]), *numbers
+    return sorted(keys, key=place)
+
+
+class Machine:
+    """A state, from a checkpoint's lines on."""
+
+    def __init__(self, image, sets, lines):
+        width, height, self.contexts, self.per_node = image.sizes
+        self.code = [int.from_bytes(image.code[at:at + WORD], 'big') for at in range(0, len(image.code), WORD)]
+        self.sets, self.bodies, self.always = sets, image.data, set(image.always)
+        self.lines, self.steps = {}, []
+        node = None
+        for words in map(WORDS.findall, lines):
+            node = words[1] if words[0] == 'node' else node
+            key = KEYS[words[0]].format(*words, node=node)
+            if key[0] in QUEUES:
+                self.lines.setdefault(key, []).append(words)
+            else:
+                self.lines[key] = words
+
+    # ---- the text
+
+    def keys(self):
+        """The keys in a checkpoint's order."""
+        return in_order(self.lines, self.contexts, self.per_node)
+
+    def text(self):
+        """The lines as a checkpoint has them."""
+        return [' '.join(words) for key in self.keys() for words in (self.lines[key] if key[0] in QUEUES else [self.lines[key]])]
+
+    def begun(self):
+        """The steps that lead here from no lines."""
+        for key in self.keys():
+            if key[0] in QUEUES:
+                yield from (f'{key}+{line_of(words)}' for words in self.lines[key])
+            else:
+                yield f'{key}={line_of(self.lines[key])}'
+
+    # ---- steps
+
+    def change(self, key, new):
+        """Changes words of a line, given by their places."""
+        words = self.lines[key]
+        changed = {at: word for at, word in new.items() if words[at] != word}
+        if changed:
+            told = ['>'] if key[0] == 'c' and onward(words).items() <= changed.items() else []
+            told += [f'{at} {shortened(word)}' for at, word in changed.items() if not told or at not in (PC, NEXT_PC)]
+            for at, word in changed.items():
+                words[at] = word
+            self.steps.append(f'{key}~' + ';'.join(told))
+
+    def put(self, key, words):
+        """Puts a line there."""
+        self.lines[key] = words
+        self.steps.append(f'{key}={line_of(words)}')
+
+    def drop(self, key):
+        """Drops a line, where there is one. Its words."""
+        if key in self.lines:
+            self.steps.append(f'{key}-')
+        return self.lines.pop(key, None)
+
+    def push(self, key, words):
+        """Puts a line behind others."""
+        self.lines.setdefault(key, []).append(words)
+        self.steps.append(f'{key}+{line_of(words)}')
+
+    def take(self, key):
+        """Takes the first line. Its words."""
+        self.steps.append(f'{key}<')
+        words = self.lines[key].pop(0)
+        if not self.lines[key]:
+            del self.lines[key]
+        return words
+
+    def step(self, event):
+        """Does an event. The steps that it is."""
+        self.steps = []
+        node = event.number('node')
+        left = {'I': self.turn, 'D': self.delivery, 'H': self.handling, 'E': self.eviction}[event.letter](event, node)
+        tick(self.lines[f'n{node}'], event.stamp, event.said.get('slot'))
+        for kind, line, to in event.sends:
+            self.send(node, to, kind, line, event.stamp, left)
+        return self.steps
+
+    def send(self, node, to, kind, line, stamp, left):
+        """Sends a message. What it carries is the home's line, or the copy that has left the cache."""
+        body = self.home(line)[BODY:] if kind in TO_CACHE else left if kind in FROM_CACHE else ZERO
+        self.push(f'l{node}.{to}', ['link', str(node), str(to), kind, str(line), str(node), str(stamp), *body])
+
+    # ---- an instruction
+
+    def turn(self, event, node):
+        """An instruction or a miss."""
+        slot = event.number('slot')
+        key = f'c{node * self.contexts + slot}'
+        if event.said['misses'] is not None:
+            return self.miss(event, node, key)
+        if event.said['halts'] or event.said['traps'] is not None:
+            return self.change(key, {STATUS: 'halted' if event.said['halts'] else f'trapped {event.said["traps"]}'})
+        changed = {STATUS: 'ready', **self.on(event, self.lines[key]), **self.beside(event, self.lines[key])}
+        if event.said['register']:
+            changed[register_at(event.said['register'])] = event.said['set']
+        if event.said['written'] is not None:
+            self.write(event, node)
+        return self.change(key, changed)
+
+    def miss(self, event, node, key):
+        """A context waits for a line, which it may ask for."""
+        line = event.said['misses']
+        if event.said['how'] == 'opens':
+            self.put(f'p{node}.{line}', ['pending', line, event.said['mode'], event.said['slot']])
+        self.change(key, {STATUS: f'wait {line}'})
+
+    def word(self, context):
+        """The word of code that a context is at."""
+        return self.code[int(context[PC], 16) // WORD]
+
+    def on(self, event, context):
+        """PC and nPC after an instruction."""
+        beyond = int(context[NEXT_PC], 16)
+        if event.said['annuls']:
+            return {PC: spelled(beyond + 4), NEXT_PC: spelled(beyond + 8)}
+        if event.said['taken'] is None:
+            return onward(context)
+        if codes.goes_at_once(self.word(context)):
+            return {PC: event.said['taken'], NEXT_PC: spelled(event.number('taken') + 4)}
+        return {PC: context[NEXT_PC], NEXT_PC: event.said['taken']}
+
+    def beside(self, event, context):
+        """The condition codes and Y, where an instruction changes them."""
+        def register(number):
+            """A register's word."""
+            return int(context[REGISTERS + number], 16) if number else 0
+        word = self.word(context)
+        flags, y = codes.codes_of(word, register, int(context[CODES][3])), codes.y_of(word, register)
+        return ({CODES: flags} if flags else {}) | ({Y: spelled(y)} if y is not None else {})
+
+    def write(self, event, node):
+        """Bytes are written in a copy."""
+        address, count = event.number('written_at'), int(event.said['written_bytes'])
+        key, at = f'a{node}.{(address - SHARED) // LINE % self.sets}', address % LINE
+        digits = self.lines[key][COPY_BODY + at // WORD][2:]
+        begin = at % WORD * 2
+        word = '0x' + digits[:begin] + event.said['written'][10 - 2 * count:] + digits[begin + 2 * count:]
+        self.change(key, {COPY_BODY + at // WORD: word})
+
+    # ---- a message
+
+    def delivery(self, event, node):
+        """A message that a node takes from a link. The bytes of the copy that leaves its cache, if one does."""
+        words = self.take(f'l{event.said["sender"]}.{node}')
+        if event.said['copy'] is not None:
+            return self.at_cache(event, node, words)
+        if event.said['traps'] is None:
+            return self.at_home(event, words[-4:])
+        line = event.said['line']
+        self.enter(line, self.home(line)[:3] + ['progress'] + self.home(line)[4:])
+        return self.push(f'q{node}', ['packet', *words[3:]])
+
+    def handling(self, event, node):
+        """A packet that the trap handler takes."""
+        return self.at_home(event, self.take(f'q{node}')[-4:])
+
+    def home(self, line):
+        """The entry of a line."""
+        return self.lines.get(f'h{line}') or self.first(int(line))
+
+    def first(self, line):
+        """The entry of a line at the start."""
+        body = self.bodies.get(line, bytes(LINE)).hex()
+        meta = 'trap-always' if line in self.always else 'normal'
+        return ['home', str(line), 'RO', meta, 'hw', '-', 'sw', '-', 'acks', '0', *(f'0x{body[at:at + 8]}' for at in range(0, 2 * LINE, 8))]
+
+    def enter(self, line, words):
+        """Gives a line another entry, which has no line where it is as at the start."""
+        key = f'h{line}'
+        if words == self.first(int(line)):
+            self.drop(key)
+        elif key in self.lines:
+            self.change(key, dict(enumerate(words)))
+        else:
+            self.put(key, words)
+
+    def at_home(self, event, body):
+        """A message to memory: the entry, and the line's bytes where it brings them."""
+        line, kind, before, after = event.said['line'], event.said['kind'], event.said['before'][:2], event.said['after']
+        brings = kind in FROM_CACHE and (before in ('RT', 'WT') or kind == 'REPM' and before == 'RW' and after[:2] == 'RO')
+        self.enter(line, ['home', line, *after.split(' '), *(body if brings else self.home(line)[BODY:])])
+
+    def at_cache(self, event, node, words):
+        """A message to a cache. The bytes of the copy that leaves it."""
+        line, kind, first = event.said['line'], event.said['kind'], node * self.contexts
+        for slot in map(int, re.findall('[0-9]+', event.said['wakes'])):
+            held = event.said['holds'] == str(slot)
+            self.change(f'c{first + slot}', {STATUS: f'hold {line}' if held else 'ready'})
+        if kind in ANSWERS:
+            self.drop(f'p{node}.{line}')
+        place = int(line) % self.sets
+        key = f'a{node}.{place}'
+        if kind in TO_CACHE:
+            left = self.lines.get(key)
+            self.put(key, ['cache', str(place), line, event.said['copy_after'], *words[-4:]])
+            return left and left[COPY_BODY:]
+        return self.drop(key)[COPY_BODY:] if event.said['copy'] != event.said['copy_after'] else None
+
+    def eviction(self, event, node):
+        """A copy leaves its cache. Its bytes."""
+        return self.drop(f'a{node}.{event.said["set"]}')[COPY_BODY:]
