@@ -11,11 +11,11 @@ What is tested:
 - what tools/words.py writes of the command words is current: the launcher's help, the manual's options, the completions. README.md's table has each
   command with its options, and README.md and the manual say the times that the launcher says.
 - each edit still fits: its old text stands once in its file.
-- each block of README.md, docs/EXAMPLES.md, docs/LANGUAGE.md and docs/FORMATS.md that shows commands, C or assembly is a file of examples/, of
+- each block of README.md, docs/EXAMPLES.md, docs/DEBUGGING.md, docs/LANGUAGE.md and docs/FORMATS.md that shows commands, C or assembly is a file of examples/, of
   which the checks there run each, and each file *.shell of examples/ stands in one of the pages.
 - docs/LANGUAGE.md has each mnemonic and directive in its tables, and no other. Each example of a statement is a line of a case of the group sources
   that is assembled, as is a statement of each name; and each source with a fault is a case with that fault, of which each has one.
-- docs/FORMATS.md: its rules have the words that the definitions of texts spell, and no other. What each case writes is of its rule, and what is refused
+- docs/FORMATS.md: its rules have the words that the definitions of texts spell, and no other, and each a name of its own. What each case writes is of its rule, and what is refused
   for its form isn't. Its tables have each event, message, state, status, trap type, key, field and fault of the definitions, and no other; each line of a
   refusal is that of a case.
 - docs/ARCHITECTURE.md has each crate of crates.txt, in that order, and no other.
@@ -47,11 +47,12 @@ CRATE_TABLE = ['promise', 'function, clause', 'edit that is refused']
 COMMAND_TABLE = ['command', 'reads', 'writes', 'options']
 REFUSAL_TABLE = ['call', 'refuses', 'clause', 'what stands', 'succeeds in']
 
-# Words in `code` that the repository doesn't declare: of Rust and its library, of the toolchain, and of the shell.
+# Words in `code` that the repository doesn't declare: of Rust and its library, of the toolchain, of the shell, and of GDB.
 OUTSIDE = set('''
     Model Option Some None Result Ok Err Vec String extend_from_slice from_be_bytes strip_prefix split_at where pub mod
     serde serde_json compact_text Appends Consumes IsAtEnd Keeps IsPermutation FinMap take filter eqb-true arith nat_tests yes no
-    auto using unfolding unfoldable abbrev refl sym subst ap rw simp cc elim search omega grind rt plant renice asm gen
+    auto using unfolding unfoldable abbrev refl sym subst ap rw simp cc elim search omega grind rt plant renice asm gen dis
+    watch reverse-continue rc why
 '''.split())
 
 
@@ -571,7 +572,7 @@ def check_all_refuse(findings, file, named, repository):
             findings.say(file, 0, f'has no row of {", ".join(sorted(missing))} of {name}')
 
 
-WITH_EXAMPLES = ROOT / 'README.md', ROOT / 'docs' / 'EXAMPLES.md', LANGUAGE, FORMATS
+WITH_EXAMPLES = ROOT / 'README.md', ROOT / 'docs' / 'EXAMPLES.md', ROOT / 'docs' / 'DEBUGGING.md', LANGUAGE, FORMATS
 KINDS = {'c': 'c', 'asm': 's'}
 
 
@@ -638,21 +639,22 @@ def check_language(findings):
 
 # What the tables of docs/FORMATS.md list: below which head what these files of crates/ have, as an expression finds it.
 LISTED = {
-    'kind': (['alw_save/specs/*.antt'], r'^kind_text .*codes "(\w+)"'),
+    'kind': (['alw_report/specs/*.antt'], r'^kind_text .*codes "(\w+)"'),
     'state': (['alw_report/specs/*.antt'], r'^state_text .*codes "(\w+)"'),
     'meta state': (['alw_report/specs/*.antt'], r'^meta_text .*codes "([\w-]+)"'),
-    'key': (['alw_report/specs/*.antt'], r'\(codes "(\w+)",'),
+    'key': (['alw_report/specs/*.antt', 'alw_profile/specs/*.antt'], r'\(codes "(\w+)",'),
     'letter': (['alw_trace/specs/*.antt'], r'^event_text .*? = codes " (\w) "'),
-    'does': (['alw_save/specs/*.antt'], r'^status_text .*codes "(\w+)'),
+    'does': (['alw_report/specs/*.antt'], r'^status_text .*codes "(\w+)'),
     'tt': (['sparc_table/specs/*.antt'], r'\b(?:Err|Trap) \(?(0x[0-9a-fA-F]{2})\b'),
     'status': (['alw_answers/specs/*.antt', 'alw_cli/src/main.rt'], r'^(?:status_of .* =|const NO_WORDS: u8 =) (\d+)'),
     'offset': (['alw_image/specs/Faults.antt'], r'\((?:Magic |Version )?(\d+)(?:, is_within|\))'),
     'fault of an image': (['alw_answers/specs/*.antt'], r'^image_text .*codes "(\w+)"'),
 }
 # The definitions of what is written.
-WRITTEN = ['alw_text/specs/Numbers', 'alw_report/specs/Reports', 'alw_trace/specs/Texts', 'alw_save/specs/Lines', 'alw_save/specs/Checkpoints',
-           'alw_save/specs/States', 'alw_route/specs/Texts', 'alw_endings/specs/Texts', 'alw_commands/specs/Auditing', 'alw_answers/specs/ErrLines']
-ALONE = {'save': 'checkpoint', 'route': 'route', 'audit': 'verdict', 'outcomes': 'outcomes'}
+WRITTEN = ['alw_text/specs/Numbers', 'alw_report/specs/Names', 'alw_report/specs/Reports', 'alw_trace/specs/Texts', 'alw_save/specs/Lines',
+           'alw_save/specs/Checkpoints', 'alw_save/specs/States', 'alw_route/specs/Texts', 'alw_endings/specs/Texts', 'alw_checks/specs/Auditing',
+           'sparc_text/specs/Statements', 'alw_source/specs/Sources', 'alw_turns/specs/*', 'alw_log/specs/*', 'alw_answers/specs/ErrLines']
+ALONE = {'save': 'checkpoint', 'route': 'route', 'audit': 'verdict', 'outcomes': 'outcomes', 'dis': 'source'}
 READ = {'replay': 'trace', 'route': 'trace', 'save': 'trace', 'audit': 'claim', 'resume': 'checkpoint'}
 
 
@@ -673,7 +675,7 @@ def rule_of(called):
     if command in ALONE:
         return ALONE[command]
     form = dict(zip(options[::2], options[1::2])).get('--write', 'image' if command == 'asm' else 'report')
-    return form if form in ('listing', 'report', 'summary', 'trace', 'claim') else None
+    return form if form in ('listing', 'report', 'summary', 'trace', 'claim', 'log') else None
 
 
 def texts_of(row):
@@ -706,6 +708,8 @@ def check_formats(findings):
     spelled = spelled_by(f'{name}.antt' for name in WRITTEN)
     for word in sorted(said ^ spelled):
         findings.say(FORMATS, 0, f'its rules say {word}, which no definition spells' if word in said else f'its rules lack {word}, which a definition spells')
+    for name in sorted(grammars.twice_named(FORMATS.read_text())):
+        findings.say(FORMATS, 0, f'two rules are named {name}')
     for name in sorted(grammars.unnamed(rules)):
         findings.say(FORMATS, 0, f'a rule names {name}, which none has')
     for head, (files, form) in LISTED.items():

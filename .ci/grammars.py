@@ -3,14 +3,20 @@ import re
 
 BLOCK = re.compile(r'^```ebnf\n(.*?)^```$', re.M | re.S)
 RULE = re.compile(r'(\w+) = ((?:"[^"]*"|[^";])*) ;')
-PART = re.compile(r'"[^"]*"|\w+|[{}()|]')
-SIGNS = {'{': '(?:', '}': ')*', '(': '(?:', ')': ')', '|': '|'}
-GIVEN = {'LF': r'\n', 'digit': '[0-9]', 'hex': '[0-9a-f]'}
+PART = re.compile(r'"[^"]*"|\w+|[{}()|\[\]]')
+SIGNS = {'{': '(?:', '}': ')*', '[': '(?:', ']': ')?', '(': '(?:', ')': ')', '|': '|'}
+GIVEN = {'LF': r'\n', 'digit': '[0-9]', 'hex': '[0-9a-f]', 'register': '%[goli][0-7]'}
 
 
 def rules_of(page):
     """The rules in the blocks of a page: each name with its form."""
     return dict(RULE.findall('\n'.join(BLOCK.findall(page))))
+
+
+def twice_named(page):
+    """The names that two rules of a page have."""
+    names = [name for name, _ in RULE.findall('\n'.join(BLOCK.findall(page)))]
+    return {name for name in names if names.count(name) > 1}
 
 
 def spelled_in(rules):
@@ -31,8 +37,8 @@ def unnamed(rules):
     return {part for form in rules.values() for part in PART.findall(form) if part[0].isalpha()} - set(rules) - set(GIVEN)
 
 
-HEADING = re.compile(r'^(image|entries|runs|prints|memory|directory|state|links) (\d+)\n', re.M)
-BEHIND = re.compile(r'^(?:params .*|end)\n', re.M)
+HEADING = re.compile(r'^(image|entries|runs|prints|memory|directory|events|contexts|state|links) (\d+)\n', re.M)
+BEHIND = re.compile(r'^(?:params .*|ended .*|end)\n', re.M)
 
 
 def count_of(name, lines):

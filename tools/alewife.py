@@ -80,6 +80,18 @@ def takes_workers(binary):
     return called(binary, ['run', '--workers', '1'], made.out).status == 0
 
 
+GDB, GDB_VERSION = 'gdb-multiarch', 13
+
+
+def no_debugger():
+    """Why there is no GDB of the version that wrote the transcripts, in a line, or nothing where there is one."""
+    try:
+        said = subprocess.run([GDB, '--version'], stdout=subprocess.PIPE, text=True).stdout.partition('\n')[0]
+    except OSError:
+        return f'there is no {GDB}'
+    return '' if f' {GDB_VERSION}.' in said else f'the transcripts are of GDB {GDB_VERSION}, and not of {said}'
+
+
 # ---- images
 
 

@@ -101,7 +101,7 @@ def of_value(word, option, rule):
 
 
 TITLES = {b'ALEWIFE TRACE': 'trace', b'ALEWIFE CLAIM': 'claim', b'ALEWIFE SAVE': 'checkpoint', b'ALEWIFE REPORT': 'report', b'ALEWIFE ROUTE': 'load of wires', b'ALEWIFE OUTCOMES': 'list of outcomes',
-          b'{"contexts"': 'report in JSON', b'\x7fELF': 'ELF file', b'ALEW': 'image'}
+          b'ALEWIFE LOG': 'log', b'{"contexts"': 'report in JSON', b'{"code"': 'profile', b'\x7fELF': 'ELF file', b'ALEW': 'image'}
 AT_THE_START = ('image byte 0: magic', 'image byte 0: short', 'text line 1: syntax')
 LISTING = re.compile(rb'[0-9a-f]{8} [0-9a-f]{8} [0-9]+$', re.M)
 LABEL = re.compile(r'\s*(?:[A-Za-z_]\w*\s*:)?\s*')

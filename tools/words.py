@@ -4,8 +4,8 @@
     tools/words.py           writes what isn't current
     tools/words.py --check   names what isn't current, and ends with 1 where something isn't
 
-The options of each command, their ranges and defaults are read from crates/alw_config/src/rows.rt, and the names of instructions and directives from
-crates/sparc_asm/src/mnemonics.rt. What is written: the launcher's help, the options of docs/alewife.1, docs/completions, and tools/words.json, by which
+The options of each command, their ranges and defaults are read from rows.rt and options.rt of crates/alw_config/src, and the names of instructions and
+directives from crates/sparc_asm/src/mnemonics.rt. What is written: the launcher's help, the options of docs/alewife.1, docs/completions, and tools/words.json, by which
 tools/explain.py explains refusals. What an option is for stands below, in a phrase.
 """
 import json
@@ -17,6 +17,7 @@ from pathlib import Path
 
 ROOT = Path(__file__).resolve().parent.parent
 ROWS = ROOT / 'crates' / 'alw_config' / 'src' / 'rows.rt'
+CHOOSING = ROOT / 'crates' / 'alw_config' / 'src' / 'options.rt'
 LOOKUPS = ROOT / 'crates' / 'alw_config' / 'src' / 'lookups.rt'
 DECLARING = ('alw_num', 'alw_image', 'alw_config')
 MNEMONICS = ROOT / 'crates' / 'sparc_asm' / 'src' / 'mnemonics.rt'
@@ -41,6 +42,7 @@ COMMANDS = {
     'save': ('trace', 'cuts a trace at a stamp: a checkpoint'),
     'resume': ('checkpoint', 'goes on from a checkpoint: the whole run'),
     'outcomes': ('image', 'takes turns in every order on one memory: what an image can come to'),
+    'dis': ('image', 'writes an image back: its source'),
 }
 ORDER, FORM, EVICT = 'the number that the order of events is drawn from', 'what is written', 'how often of 256 an eviction is tried'
 PHRASES = {
@@ -55,6 +57,7 @@ PHRASES = {
     'save': {'--at': 'the greatest stamp that is kept'},
     'resume': {'--seed': ORDER, '--evict': EVICT, '--write': FORM},
     'outcomes': {'--most': 'the places that are kept at most'},
+    'dis': {},
 }
 OWN = {
     '--unproved': ('WORDS..', 'the same by a build that nothing is proved of'),
@@ -166,11 +169,16 @@ def default_of(text):
     return inner.lower() if inner.isalpha() else str(constant(inner))
 
 
+def table_of(rows, command, kind):
+    """The rows of a command's table of options or of defaults. Commands without any share one."""
+    name = re.search(rf'Name::{command.capitalize()} => &(\w+_{kind}),', CHOOSING.read_text())[1]
+    return re.search(rf'const {name}: [^=]*= \[(.*?)\];', rows, re.S)[1]
+
+
 def options_of(rows, command):
     """The options of a command. A default is that of the first option that makes its choice."""
-    name = command.upper()
-    body = re.search(rf'const {name}_OPTIONS: [^=]*= \[(.*?)\];', rows, re.S)[1]
-    defaults = re.findall(r'Value::\w+\((?:[^()]|\([^()]*\))*\)', re.search(rf'const {name}_DEFAULTS: [^=]*= \[(.*?)\];', rows, re.S)[1])
+    body = table_of(rows, command, 'OPTIONS')
+    defaults = re.findall(r'Value::\w+\((?:[^()]|\([^()]*\))*\)', table_of(rows, command, 'DEFAULTS'))
     made, seen = [], set()
     for option, choice, kind in re.findall(r'b"(--\w+)",\s*Meaning \{\s*choice: (\d+),\s*kind: Kind::(\w+(?:\([^)]*\))?),', body):
         default = None if choice in seen else default_of(defaults[int(choice)])

@@ -6,7 +6,7 @@ _alewife() {
     case $COMP_CWORD:$before in
     *:[\<\>]*) ;;
     "$at":*)
-        words='asm run replay audit gen route save resume outcomes'
+        words='asm run replay audit gen route save resume outcomes dis'
         [ "$at" = 1 ] && words="$words help --unproved --build --install --help --version"
         ;;
     *)
@@ -17,11 +17,11 @@ _alewife() {
         run:run) words='--seed --workers --pointers --sets --limit --evict --write --help' ;;
         run:--pointers) words='1 2 3 4 5 6 7 8' ;;
         run:--sets) words='4 8 16 32 64 128 256 512 1024 2048 4096' ;;
-        run:--write) words='report json trace claim summary' ;;
+        run:--write) words='report json trace claim summary log profile' ;;
         run:--seed | run:--workers | run:--limit | run:--evict) compopt +o default ;;
         run:*) words='--seed --workers --pointers --sets --limit --evict --write' ;;
         replay:replay) words='--write --help' ;;
-        replay:--write) words='report json trace claim summary' ;;
+        replay:--write) words='report json trace claim summary log profile' ;;
         replay:*) words='--write' ;;
         audit:audit) words='--help' ;;
         gen:gen) words='--seed --width --height --size --help' ;;
@@ -36,12 +36,13 @@ _alewife() {
         save:--at) compopt +o default ;;
         save:*) words='--at' ;;
         resume:resume) words='--seed --evict --write --help' ;;
-        resume:--write) words='report json trace claim summary' ;;
+        resume:--write) words='report json trace claim summary log profile' ;;
         resume:--seed | resume:--evict) compopt +o default ;;
         resume:*) words='--seed --evict --write' ;;
         outcomes:outcomes) words='--most --help' ;;
         outcomes:--most) compopt +o default ;;
         outcomes:*) words='--most' ;;
+        dis:dis) words='--help' ;;
         esac
         ;;
     esac
