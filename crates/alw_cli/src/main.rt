@@ -1,5 +1,5 @@
-//! The simulator's program: it assembles the source, runs the image, replays the trace or audits the claim that
-//! it reads on standard input, or makes a workload, and writes the image or text on standard output.
+//! The simulator's program: it carries out one command on what it reads on standard input, a source, an image, a
+//! trace, a claim or a checkpoint, or makes a workload, and writes the image or text on standard output.
 #![tactic(auto)]
 
 mod commands;

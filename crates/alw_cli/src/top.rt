@@ -20,14 +20,14 @@ use std::sync::Wait;
 use std::thread::Threads;
 
 /// Does what the command words ask for: reads `input` to its end, assembles the source, runs the image,
-/// replays, routes or saves the trace, resumes the checkpoint, audits the claim or searches what the image that it
-/// is can come to, or else makes a workload and reads nothing, and writes what comes of it to `out`. A refusal, a fault of the outside and
-/// want of memory have a line on `err`.
+/// replays, routes or saves the trace, resumes the checkpoint, audits the claim, searches what the image that it
+/// is can come to or writes its source, or else makes a workload and reads nothing, and writes what comes of it to
+/// `out`. A refusal, a fault of the outside and want of memory have a line on `err`.
 ///
 /// Workers run on threads that `rt` gives, and each passes `gate` once a visit of up to 64 steps, before it locks
 /// the node. With them the call may wait; what it promises holds where it returns.
 ///
-/// The status follows from the cause: 0 is a source that was assembled, a workload that was made, a run that
+/// The status follows from the cause: 0 is a source that was assembled or written, a workload that was made, a run that
 /// halted, messages that arrived, a checkpoint that was written, a claim that is sound or an image all of whose
 /// orders of turns halt, 2 refused words, 3 a refused input, 4 a trapped run or an order of turns that traps, 5 a run
 /// at its limit or a search that isn't known to reach an end from each place, 6 a read fault, 7 a write fault, 8 want
