@@ -3,11 +3,14 @@ use Rattle.std.specs.Prelude.{◌≡◌, ◌<◌, ◌≤◌, ℕ, zero, suc, fal
 use Rattle.alw_num.specs.Weights.{digit, times}
 use Rattle.dir_soft.specs.declared.places.Place.{Place}
 use Rattle.dir_soft.specs.declared.places.Spot.{Spot}
-use Rattle.dir_soft.specs.declared.places.TheConstants.{END}
+
+-- the index that ends a chain, which no place has
+abbrev pub no_index : ℕ
+no_index = 4294967295
 
 -- what place k names as the next one
 abbrev pub next_at : List Place → ℕ → ℕ
-next_at [] k = END
+next_at [] k = no_index
 next_at (place ∷ rest) zero = place.next
 next_at (place ∷ rest) (suc k) = next_at rest k
 
@@ -19,13 +22,13 @@ line_at (place ∷ rest) (suc k) = line_at rest k
 
 -- the first place of a chain
 abbrev pub head_at : List ℕ → ℕ → ℕ
-head_at [] chain = END
+head_at [] chain = no_index
 head_at (head ∷ rest) zero = head
 head_at (head ∷ rest) (suc chain) = head_at rest chain
 
 -- from place k on, the chain has these places and ends
 abbrev pub IsPath : List Place → ℕ → List ℕ → Type 0
-IsPath places k [] = k ≡ END
+IsPath places k [] = k ≡ no_index
 IsPath places k (j ∷ js) = (k ≡ j) × (j < length places) × IsPath places (next_at places j) js
 
 -- From place k on there is a chain, with no more places than the pool, whose indices are all below the one that ends a chain.
@@ -33,7 +36,7 @@ pub record IsChain (places : List Place) (k : ℕ) : Type 0 where
   pub chain : List ℕ
   pub path : IsPath places k chain
   pub few : length chain ≤ length places
-  pub ends : length places ≤ END
+  pub ends : length places ≤ no_index
 
 -- The places are on chains, and each is on the one that `tag` gives it, once, and on no other.
 pub record PlacesAreLinked (tag : ℕ → ℕ) (heads : List ℕ) (places : List Place) : Type 0 where

@@ -3,8 +3,7 @@ use Rattle.std.specs.Prelude.{◌≡◌, ◌≤◌, ℕ, zero, suc, ◌+◌, ◌
 use Rattle.alw_num.specs.NodeSets.{Nodes, nodes_of, count_nodes}
 use Rattle.alw_num.specs.Maps.{Map, empty_map, with_value}
 use Rattle.dir_soft.specs.declared.places.Place.{Place}
-use Rattle.dir_soft.specs.declared.places.TheConstants.{END}
-use Rattle.dir_soft.specs.Chains.{PlacesAreLinked}
+use Rattle.dir_soft.specs.Chains.{no_index, PlacesAreLinked}
 
 -- what stands at a place: a line and its set
 pub record Entry : Type 0 where
@@ -59,5 +58,5 @@ pub record IsTable (lines buckets used : ℕ) (heads : List ℕ) (places : List 
   pub linked : PlacesAreLinked (chain_at buckets (contents places)) heads places
   pub heads_are : length heads ≡ buckets + 1
   pub places_are : length places ≡ lines
-  pub few : lines ≤ END
+  pub few : lines ≤ no_index
   pub some : 1 ≤ buckets
