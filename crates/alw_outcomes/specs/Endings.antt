@@ -6,7 +6,7 @@ use Rattle.std.specs.declared.cmp.Ordering.{Ordering}
 use Rattle.std.specs.declared.cmp.Ordering.TheVariants.{Less, Greater}
 use Rattle.std.specs.Ordering.{nat_cmp, ordering_then}
 use Rattle.std.specs.Cmp.Lexicographic.{slice_cmp}
-use Rattle.alw_num.specs.declared.addresses.TheConstants.{SHARED_BASE}
+use Rattle.alw_num.specs.Limits.{shared_base}
 use Rattle.alw_num.specs.declared.addresses.Line.{Line}
 use Rattle.alw_outcomes.specs.Outcomes.{Ending, Halts, Traps}
 use Rattle.alw_outcomes.specs.declared.endings.Endings.{Endings}
@@ -31,7 +31,7 @@ words_from address (line ∷ rest) = line_words address line ++ words_from (addr
 
 -- the words of a memory that aren't 0, each with its address, ascending
 abbrev pub memory_words : List Line → List (ℕ × ℕ)
-memory_words = words_from SHARED_BASE
+memory_words = words_from shared_base
 
 -- by address, and then by the word there
 abbrev pub word_cmp : ℕ × ℕ → ℕ × ℕ → Ordering
