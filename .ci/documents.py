@@ -642,7 +642,7 @@ LISTED = {
     'kind': (['alw_report/specs/*.antt'], r'^kind_text .*codes "(\w+)"'),
     'state': (['alw_report/specs/*.antt'], r'^state_text .*codes "(\w+)"'),
     'meta state': (['alw_report/specs/*.antt'], r'^meta_text .*codes "([\w-]+)"'),
-    'key': (['alw_report/specs/*.antt', 'alw_profile/specs/*.antt'], r'\(codes "(\w+)",'),
+    'key': (['alw_json/specs/*.antt', 'alw_report/specs/*.antt', 'alw_profile/specs/*.antt'], r'\(codes "(\w+)",'),
     'letter': (['alw_trace/specs/*.antt'], r'^event_text .*? = codes " (\w) "'),
     'does': (['alw_report/specs/*.antt'], r'^status_text .*codes "(\w+)'),
     'tt': (['sparc_table/specs/*.antt'], r'\b(?:Err|Trap) \(?(0x[0-9a-fA-F]{2})\b'),

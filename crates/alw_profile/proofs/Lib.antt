@@ -7,5 +7,5 @@ mod Tells
 mod Again
 mod Ascii
 mod Listed
-mod Sent
+mod Plain
 mod Apart

@@ -1,13 +1,10 @@
-ghost use Rattle.std.specs.Prelude.{◌≡◌, IfOk, OnOk, IsUtf8};
-ghost use Rattle.alw_num.specs.NodeSets.{nodes_of, members};
+ghost use Rattle.std.specs.Prelude.{◌≡◌, IfOk};
 ghost use Rattle.serde_json.specs.Events.{SendsValue};
-ghost use Rattle.alw_report.specs.Json.{natural, listed, params_data};
-ghost use Rattle.alw_report.specs.Sends.{Named};
 ghost use Rattle.alw_profile.specs.Json.{node_data, line_data, word_data, profile_data, object_text, profile_text};
 
 use crate::rows::{LineRow, NodeRow, Profile, WordRow};
-use alw_image::Params;
-use alw_num::{NoMemory, NodeSet};
+use alw_json::{Nodes, ParamsObject, put, str_of};
+use alw_num::NoMemory;
 use alw_text::Text;
 use serde::{Described, Serialize, Serializer};
 use std::alloc::Global;
@@ -32,25 +29,6 @@ fn spelled(alloc: Global, told: &Profile) -> Result<Text, NoMemory>
     }
 }
 
-// The bytes of UTF-8 as a `str`.
-fn str_of(text: &Text) -> &str
-    requires { IsUtf8 text.now }
-    ensures { result.now ≡ text.now }
-{
-    match std::str::from_utf8(text.bytes()) {
-        Ok(words) => words,
-        Err(_) => unreachable!(),
-    }
-}
-
-// A member of an object: a key and its value.
-fn put<S: Serializer, T: Serialize>(out: &mut S, key: &str, value: &T) -> Result<(), S::Error>
-    ensures { OnOk result (Named key.now (T.writes value.now) (S.written out.old) (S.written out.new)) }
-{
-    out.key(key)?;
-    value.serialize(out)
-}
-
 // A profile.
 #[derive(Clone, Copy)]
 struct ProfileObject<'a>(&'a Profile);
@@ -68,25 +46,6 @@ impl Serialize for ProfileObject<'_> {
         put(out, "mesh", &(told.width, told.height))?;
         put(out, "nodes", &told.nodes.members())?;
         put(out, "params", &ParamsObject(&told.params))?;
-        out.end_map()
-    }
-}
-
-// The parameters that a profile tells.
-#[derive(Clone, Copy)]
-struct ParamsObject<'a>(&'a Params);
-
-impl Described for ParamsObject<'_> {
-    ghost writes = { λ o. SendsValue (params_data o.0.now) };
-}
-
-impl Serialize for ParamsObject<'_> {
-    fn serialize<S: Serializer>(&self, out: &mut S) -> Result<(), S::Error> {
-        let params = self.0;
-        out.begin_map(Some(3))?;
-        put(out, "limit", &params.limit())?;
-        put(out, "pointers", &params.pointers())?;
-        put(out, "sets", &params.sets())?;
         out.end_map()
     }
 }
@@ -154,25 +113,5 @@ impl Serialize for WordRow {
         put(out, "statement", &statement)?;
         put(out, "turns", &self.turns)?;
         out.end_map()
-    }
-}
-
-// A set of nodes, as the list of its members.
-#[derive(Clone, Copy)]
-struct Nodes(NodeSet);
-
-impl Described for Nodes {
-    ghost writes = { λ s. SendsValue (listed natural (members (nodes_of s.0))) };
-}
-
-impl Serialize for Nodes {
-    fn serialize<S: Serializer>(&self, out: &mut S) -> Result<(), S::Error> {
-        let mut rest = self.0;
-        out.begin_seq(Some(rest.count() as usize))?;
-        while let Some(node) = rest.lowest() {
-            out.u64(u64::from(node.0))?;
-            rest = rest.without(node);
-        }
-        out.end_seq()
     }
 }

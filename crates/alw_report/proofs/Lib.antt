@@ -1,2 +1,2 @@
-mod Sent
+mod Plain
 mod Utf8

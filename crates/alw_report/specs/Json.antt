@@ -1,8 +1,7 @@
 -- The report as JSON (RFC 8259): one object without blanks, the keys of each object in the order of their bytes, and LF. What a value is, and the text
 -- that it has, are serde_json's words.
-use Rattle.std.specs.Prelude.{ℕ, List, [], ◌∷◌, ◌++◌, map, codes}
-use Rattle.serde_json.specs.Data.{Data, number, unsigned, string, array, object, Members, no_members, member}
-use Rattle.serde_json.specs.View.{items_of}
+use Rattle.std.specs.Prelude.{ℕ, List, [], ◌∷◌, ◌++◌, codes}
+use Rattle.serde_json.specs.Data.{Data, string}
 use Rattle.serde_json.specs.Written.{compact_text}
 use Rattle.alw_msg.specs.declared.events.Entry.{Entry}
 use Rattle.alw_image.specs.declared.parts.Parts.{Parts}
@@ -10,27 +9,9 @@ use Rattle.alw_image.specs.Parameters.{Parameters}
 use Rattle.alw_model.specs.declared.steps.Counts.{Counts}
 use Rattle.alw_model.specs.declared.ends.Ended.{Ended}
 use Rattle.alw_model.specs.Counts.{DirectoryLine}
+use Rattle.alw_json.specs.Data.{natural, listed, pair, keyed, params_data}
 use Rattle.alw_report.specs.Reports.{ended_text, state_text, meta_text, told_of}
 use Rattle.alw_report.specs.declared.values.Report.{Report}
-
-abbrev pub natural : ℕ → Data
-natural n = number (unsigned n)
-
--- a list of values
-abbrev pub listed : {A : Type 0} → (A → Data) → List A → Data
-listed of xs = array (items_of (map of xs))
-
--- a list of two numbers
-abbrev pub pair : ℕ × ℕ → Data
-pair p = listed natural (p.0 ∷ p.1 ∷ [])
-
--- an object of these keys with their values
-abbrev pub members : List (List ℕ × Data) → Members
-members [] = no_members
-members (m ∷ ms) = member m.0 m.1 (members ms)
-
-abbrev pub keyed : List (List ℕ × Data) → Data
-keyed ms = object (members ms)
 
 -- messages sent by kind, and the other counts
 abbrev pub counts_data : Counts → Data
@@ -51,12 +32,6 @@ counts_data c = keyed (
     (codes "misses", natural c.misses) ∷
     (codes "spills", natural c.spills) ∷
     (codes "turns", natural c.turns) ∷ [])
-
-abbrev pub params_data : Parameters → Data
-params_data p = keyed (
-    (codes "limit", natural p.limit) ∷
-    (codes "pointers", natural p.pointers) ∷
-    (codes "sets", natural p.sets) ∷ [])
 
 -- an entry of the directory
 abbrev pub entry_data : DirectoryLine → Data

@@ -1,7 +1,6 @@
 pub mod Names
 pub mod Json
 pub mod Reports
-pub mod Sends
 pub mod Words
 pub mod Worked
 pub mod WorkedJson

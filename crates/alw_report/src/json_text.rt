@@ -1,15 +1,13 @@
-ghost use Rattle.std.specs.Prelude.{◌≡◌, IfOk, OnOk, IsUtf8};
-ghost use Rattle.alw_num.specs.NodeSets.{nodes_of, members};
+ghost use Rattle.std.specs.Prelude.{◌≡◌, IfOk};
 ghost use Rattle.serde_json.specs.Events.{SendsValue};
-ghost use Rattle.alw_report.specs.Json.{natural, listed, counts_data, params_data, entry_data, ended_data, object_text, json_text};
-ghost use Rattle.alw_report.specs.Sends.{Named};
+ghost use Rattle.alw_report.specs.Json.{counts_data, entry_data, ended_data, object_text, json_text};
 
 use crate::entries::{meta_name, state_name};
 use crate::head::put_ended;
 use crate::values::{DirectoryLine, Report};
-use alw_image::Params;
+use alw_json::{Nodes, ParamsObject, put, str_of};
 use alw_model::Counts;
-use alw_num::{NoMemory, NodeSet};
+use alw_num::NoMemory;
 use alw_text::Text;
 use serde::{Described, Serialize, Serializer};
 use std::alloc::Global;
@@ -27,17 +25,6 @@ pub fn json(alloc: Global, told: &Report) -> Result<Text, NoMemory>
     Ok(text)
 }
 
-// The bytes of UTF-8 as a `str`.
-fn str_of(text: &Text) -> &str
-    requires { IsUtf8 text.now }
-    ensures { result.now ≡ text.now }
-{
-    match std::str::from_utf8(text.bytes()) {
-        Ok(words) => words,
-        Err(_) => unreachable!(),
-    }
-}
-
 // The object of a report, whose end has these words.
 fn spelled(alloc: Global, told: &Report, ended: &str) -> Result<Text, NoMemory>
     ensures { IfOk result (λ text. text ≡ object_text told.now ended.now) }
@@ -46,14 +33,6 @@ fn spelled(alloc: Global, told: &Report, ended: &str) -> Result<Text, NoMemory>
         Ok(bytes) => Ok(Text::from(bytes)),
         Err(_) => Err(NoMemory),
     }
-}
-
-// A member of an object: a key and its value.
-fn put<S: Serializer, T: Serialize>(out: &mut S, key: &str, value: &T) -> Result<(), S::Error>
-    ensures { OnOk result (Named key.now (T.writes value.now) (S.written out.old) (S.written out.new)) }
-{
-    out.key(key)?;
-    value.serialize(out)
 }
 
 // A report, with the words of its end.
@@ -117,25 +96,6 @@ impl Serialize for CountsObject<'_> {
     }
 }
 
-// The parameters that a report tells.
-#[derive(Clone, Copy)]
-struct ParamsObject<'a>(&'a Params);
-
-impl Described for ParamsObject<'_> {
-    ghost writes = { λ o. SendsValue (params_data o.0.now) };
-}
-
-impl Serialize for ParamsObject<'_> {
-    fn serialize<S: Serializer>(&self, out: &mut S) -> Result<(), S::Error> {
-        let params = self.0;
-        out.begin_map(Some(3))?;
-        put(out, "limit", &params.limit())?;
-        put(out, "pointers", &params.pointers())?;
-        put(out, "sets", &params.sets())?;
-        out.end_map()
-    }
-}
-
 impl Described for DirectoryLine {
     ghost writes = { λ d. SendsValue (entry_data d) };
 }
@@ -150,25 +110,5 @@ impl Serialize for DirectoryLine {
         put(out, "state", &state_name(self.state))?;
         put(out, "sw", &Nodes(self.software))?;
         out.end_map()
-    }
-}
-
-// A set of nodes, as the list of its members.
-#[derive(Clone, Copy)]
-struct Nodes(NodeSet);
-
-impl Described for Nodes {
-    ghost writes = { λ s. SendsValue (listed natural (members (nodes_of s.0))) };
-}
-
-impl Serialize for Nodes {
-    fn serialize<S: Serializer>(&self, out: &mut S) -> Result<(), S::Error> {
-        let mut rest = self.0;
-        out.begin_seq(Some(rest.count() as usize))?;
-        while let Some(node) = rest.lowest() {
-            out.u64(u64::from(node.0))?;
-            rest = rest.without(node);
-        }
-        out.end_seq()
     }
 }

@@ -2,7 +2,7 @@
 use Rattle.std.proofs.Common.{◌∙◌}
 use Rattle.serde_json.proofs.FreeTexts.{text_of_value}
 use Rattle.alw_profile.specs.Json.{profile_data, object_text}
-use Rattle.alw_profile.proofs.Sent.{profile_plain}
+use Rattle.alw_profile.proofs.Plain.{profile_plain}
 use Rattle.alw_profile.proofs.json_text.spelled.Goals as goal
 
 pub returns-in-Ok : goal.returns-in-Ok

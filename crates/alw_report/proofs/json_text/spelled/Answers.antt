@@ -2,7 +2,7 @@
 use Rattle.std.proofs.Common.{◌∙◌}
 use Rattle.serde_json.proofs.FreeTexts.{text_of_value}
 use Rattle.alw_report.specs.Json.{ended_data, object_text}
-use Rattle.alw_report.proofs.Sent.{report_plain}
+use Rattle.alw_report.proofs.Plain.{report_plain}
 use Rattle.alw_report.proofs.json_text.spelled.Goals as goal
 
 pub returns-in-Ok : goal.returns-in-Ok

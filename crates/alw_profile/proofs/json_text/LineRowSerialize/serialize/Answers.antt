@@ -4,7 +4,7 @@ use Rattle.std.proofs.lemmas.Result.{on_ok_weaker}
 use Rattle.serde_json.specs.Events.{SendsValue}
 use Rattle.alw_profile.specs.Counted.{LineCounts}
 use Rattle.alw_profile.specs.Json.{line_data}
-use Rattle.alw_profile.proofs.Sent.{then_sent}
+use Rattle.alw_json.proofs.Sent.{then_sent}
 use Rattle.alw_profile.proofs.json_text.LineRowSerialize.serialize.Goals as goal
 
 pub returns : goal.returns

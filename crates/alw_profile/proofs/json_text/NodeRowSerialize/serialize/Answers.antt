@@ -1,6 +1,6 @@
 -- Each count is sent, and then the rest.
 use Rattle.std.proofs.lemmas.Result.{on_ok_weaker}
-use Rattle.alw_profile.proofs.Sent.{then_sent}
+use Rattle.alw_json.proofs.Sent.{then_sent}
 use Rattle.alw_profile.proofs.json_text.NodeRowSerialize.serialize.Goals as goal
 
 pub returns : goal.returns

@@ -1,7 +1,7 @@
 -- Each member is sent, and then the rest.
 use Rattle.std.proofs.lemmas.Result.{on_ok_weaker}
 use Rattle.alw_profile.specs.Json.{node_data, line_data, word_data}
-use Rattle.alw_profile.proofs.Sent.{then_sent, list_sent, pair_member}
+use Rattle.alw_json.proofs.Sent.{then_sent, list_sent, pair_member}
 use Rattle.alw_profile.proofs.json_text.ProfileObjectSerialize.serialize.Goals as goal
 
 pub returns : goal.returns

@@ -4,7 +4,7 @@ use Rattle.std.proofs.lemmas.Result.{on_ok_weaker}
 use Rattle.serde_json.specs.Events.{SendsValue}
 use Rattle.alw_profile.specs.Counted.{WordCounts}
 use Rattle.alw_profile.specs.Json.{word_data}
-use Rattle.alw_profile.proofs.Sent.{then_sent, text_sent}
+use Rattle.alw_json.proofs.Sent.{then_sent, text_sent}
 use Rattle.alw_profile.proofs.json_text.WordRowSerialize.serialize.Goals as goal
 
 pub returns : goal.returns

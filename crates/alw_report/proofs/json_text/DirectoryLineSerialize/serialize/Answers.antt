@@ -4,7 +4,7 @@ use Rattle.std.proofs.lemmas.Result.{on_ok_weaker}
 use Rattle.serde_json.specs.Events.{SendsValue}
 use Rattle.alw_model.specs.Counts.{DirectoryLine}
 use Rattle.alw_report.specs.Json.{entry_data}
-use Rattle.alw_report.proofs.Sent.{then_sent, text_sent}
+use Rattle.alw_json.proofs.Sent.{then_sent, text_sent}
 use Rattle.alw_report.proofs.json_text.DirectoryLineSerialize.serialize.Goals as goal
 
 pub returns : goal.returns

@@ -1,7 +1,8 @@
 -- Each member is sent, and then the rest.
 use Rattle.std.proofs.lemmas.Result.{on_ok_weaker}
-use Rattle.alw_report.specs.Json.{entry_data, pair}
-use Rattle.alw_report.proofs.Sent.{then_sent, list_sent, pair_sent, pair_member}
+use Rattle.alw_json.specs.Data.{pair}
+use Rattle.alw_report.specs.Json.{entry_data}
+use Rattle.alw_json.proofs.Sent.{then_sent, list_sent, pair_sent, pair_member}
 use Rattle.alw_report.proofs.json_text.ReportObjectSerialize.serialize.Goals as goal
 
 pub returns : goal.returns

@@ -1,4 +1,4 @@
--- What is sent for each part of a profile's object is what its value asks, and no part is a float.
+-- What is sent for the parts of an object is what their values ask, and lists of what is no float have none.
 use Rattle.std.proofs.Common.{◌≡◌, ℕ, suc, List, [], ◌∷◌, map, length, Bool, false, ◌||◌, Some, refl, sym, ap, ◌∙◌, subst}
 use Rattle.std.proofs.lemmas.List.{length-map}
 use Rattle.serde.specs.Event.{Log, Logs, unsigned, text, seq_begins, seq_ends, field_key, WritesEach, WritesSeq, InSeq, Then}
@@ -7,18 +7,15 @@ use Rattle.serde_json.specs.Data.{Data}
 use Rattle.serde_json.specs.View.{items_of}
 use Rattle.serde_json.specs.Events.{items_len, SendsValue, SendsItems}
 use Rattle.serde_json.specs.Written.{has_float, items_have_float}
-use Rattle.alw_profile.specs.declared.rows.Profile.{Profile}
-use Rattle.alw_profile.specs.Counted.{LineCounts}
-use Rattle.alw_profile.specs.Json.{node_data, line_data, word_data, profile_data}
-use Rattle.alw_report.specs.Json.{natural, listed, pair}
-use Rattle.alw_report.specs.Sends.{Named}
+use Rattle.alw_json.specs.Data.{listed, pair}
+use Rattle.alw_json.specs.Sends.{Named}
 
 -- what writes a member sends its value
-abbrev SendsEach : {A : Type 0} → (A → Log → Log → Type 0) → (A → Data) → Type 0
+abbrev pub SendsEach : {A : Type 0} → (A → Log → Log → Type 0) → (A → Data) → Type 0
 SendsEach {A} writes of = (x : A) (old new : Log) → writes x old new → SendsValue (of x) old new
 
 -- how two numbers are written
-abbrev WritesPair : ℕ × ℕ → Log → Log → Type 0
+abbrev pub WritesPair : ℕ × ℕ → Log → Log → Type 0
 WritesPair p = InSeq 2 (Then (λ old new. Logs old new (unsigned p.0)) (λ old new. Logs old new (unsigned p.1)))
 
 -- ---- lists
@@ -64,12 +61,6 @@ pair_member key p old mid h = (h.0, h.1, pair_sent p h.0 mid h.2)
 
 -- ---- no floats
 
-listed_plain : {A : Type 0} (of : A → Data) (one : (x : A) → has_float (of x) ≡ false) (xs : List A) → items_have_float (items_of (map of xs)) ≡ false
+pub listed_plain : {A : Type 0} (of : A → Data) (one : (x : A) → has_float (of x) ≡ false) (xs : List A) → items_have_float (items_of (map of xs)) ≡ false
 listed_plain of one [] = refl
 listed_plain of one (x ∷ xs) = ap (λ (b : Bool). b || items_have_float (items_of (map of xs))) (one x) ∙ listed_plain of one xs
-
-line_plain : (r : LineCounts) → has_float (line_data r) ≡ false
-line_plain r = rw (listed_plain natural (λ n. refl) r.readers, listed_plain natural (λ n. refl) r.writers) refl
-
-pub profile_plain : (p : Profile) → has_float (profile_data p) ≡ false
-profile_plain p = rw (listed_plain word_data (λ r. refl) p.code, listed_plain line_data line_plain p.lines, listed_plain node_data (λ r. refl) p.nodes) refl

@@ -4,8 +4,8 @@ use Rattle.alw_num.specs.NodeSets.{nodes_of, members, count_nodes}
 use Rattle.serde.specs.Event.{Log}
 use Rattle.serde_json.specs.View.{items_of}
 use Rattle.serde_json.specs.Events.{SendsItems}
-use Rattle.alw_report.specs.Json.{natural}
-use Rattle.alw_report.proofs.json_text.NodesSerialize.serialize.Given as goal
+use Rattle.alw_json.specs.Data.{natural}
+use Rattle.alw_json.proofs.parts.NodesSerialize.serialize.Given as goal
 
 abbrev pub invariant-loop-node : goal.invariant-loop-node
 invariant-loop-node g l =

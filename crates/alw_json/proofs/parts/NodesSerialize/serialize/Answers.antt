@@ -6,9 +6,9 @@ use Rattle.alw_num.specs.NodeSets.{nodes_of, members}
 use Rattle.serde.specs.Event.{Logs, seq_begins}
 use Rattle.serde_json.specs.View.{items_of}
 use Rattle.serde_json.specs.Events.{SendsItems}
-use Rattle.alw_report.specs.Json.{natural}
-use Rattle.alw_profile.proofs.Sent.{length-items_of}
-use Rattle.alw_profile.proofs.json_text.NodesSerialize.serialize.Goals as goal
+use Rattle.alw_json.specs.Data.{natural}
+use Rattle.alw_json.proofs.Sent.{length-items_of}
+use Rattle.alw_json.proofs.parts.NodesSerialize.serialize.Goals as goal
 
 pub returns : goal.returns
 returns g c =
