@@ -17,10 +17,10 @@ What is tested:
   that is assembled, as is a statement of each name; and each source with a fault is a case with that fault, of which each has one.
 - docs/FORMATS.md: its rules have the words that the definitions of texts spell, and no other, and each a name of its own. What each case writes is of its rule, and what is refused
   for its form isn't. Its tables have each event, message, state, status, trap type, key, field and fault of the definitions, and no other; each line of a
-  refusal is that of a case.
+  refusal is that of a case. Each text that tools/words.py names has a rule, which begins as it says, and the table of formats says what reads it.
 - docs/ARCHITECTURE.md has each crate of crates.txt, in that order, and no other.
 - a crate of crates.txt stands on crates of its own floor and of those that the floor's line names; what it lists else is of the toolchain.
-- cases/README.md names each group of cases.
+- cases/README.md names each group of cases, but for those that have the name of a command. Each command is called by a case.
 - docs/REFUSALS.md: each row has calls of its crate, a clause of one of them or a word of it, and tests or cases, these as `group: name`; and each call of these crates that
   answers a Result or an Option has a row.
 
@@ -41,6 +41,7 @@ from alewife import Findings, ROOT
 
 LANGUAGE = ROOT / 'docs' / 'LANGUAGE.md'
 FORMATS = ROOT / 'docs' / 'FORMATS.md'
+COMMANDS = words.read_table()
 SPELLING = {LANGUAGE, FORMATS}
 HEADINGS = ['What it does', 'What a contract sees', 'What is proved', 'What is only tested', 'Left open', 'A caller']
 CRATE_TABLE = ['promise', 'function, clause', 'edit that is refused']
@@ -438,7 +439,7 @@ def check_words(findings):
     for file, text in words.pages().items():
         if file.read_text() != text:
             findings.say(file, 0, "isn't what the table of command words says today: run tools/words.py")
-    file, commands = ROOT / 'README.md', words.read_table()
+    file, commands = ROOT / 'README.md', COMMANDS
     rows = {row.cells[0].strip('`'): row for head, rows in tables_of(file.read_text()) if head == COMMAND_TABLE for row in rows}
     if list(rows) != list(commands):
         findings.say(file, 0, f'its table of commands has {", ".join(rows)}, and the program {", ".join(commands)}')
@@ -511,12 +512,21 @@ def cases_of(group):
     return {json.loads(line)['name'] for line in file.read_text().splitlines()} if file.is_file() else set()
 
 
+def case_rows():
+    """All cases, each with its group."""
+    for group in sorted((ROOT / 'cases').glob('*.jsonl')):
+        yield from ((group.stem, json.loads(line)) for line in group.read_text().splitlines())
+
+
 def check_cases(findings):
-    """cases/README.md has each group of cases in its table, and no other."""
+    """cases/README.md has each group of cases in its table, but for those that have the name of a command, and no other; a case calls each command."""
     file = ROOT / 'cases' / 'README.md'
     shown = {name for head, rows in tables_of(file.read_text()) if head[0] == 'group' for row in rows for name in SPAN.findall(row.cells[0])}
-    for name in sorted(shown ^ {group.stem for group in file.parent.glob('*.jsonl')}):
+    groups = {group.stem for group in file.parent.glob('*.jsonl')}
+    for name in sorted((shown - groups) | (groups - shown - set(COMMANDS))):
         findings.say(file, 0, f'{name} is a group or stands in its table, and not both')
+    for name in sorted(set(COMMANDS) - {called.split()[0] for _, row in case_rows() for called in row['words'].split(' | ') if called}):
+        findings.say(file, 0, f'no case calls {name}')
 
 
 def check_successes(findings, file, row, crate, repository):
@@ -650,32 +660,34 @@ LISTED = {
     'offset': (['alw_image/specs/Faults.antt'], r'\((?:Magic |Version )?(\d+)(?:, is_within|\))'),
     'fault of an image': (['alw_answers/specs/*.antt'], r'^image_text .*codes "(\w+)"'),
 }
-# The definitions of what is written.
-WRITTEN = ['alw_text/specs/Numbers', 'alw_report/specs/Names', 'alw_report/specs/Reports', 'alw_trace/specs/Texts', 'alw_save/specs/Lines',
-           'alw_save/specs/Checkpoints', 'alw_save/specs/States', 'alw_route/specs/Texts', 'alw_endings/specs/Texts', 'alw_checks/specs/Auditing',
-           'sparc_text/specs/Statements', 'alw_source/specs/Sources', 'alw_turns/specs/*', 'alw_log/specs/*', 'alw_answers/specs/ErrLines']
-ALONE = {'save': 'checkpoint', 'route': 'route', 'audit': 'verdict', 'outcomes': 'outcomes', 'dis': 'source'}
-READ = {'replay': 'trace', 'route': 'trace', 'save': 'trace', 'audit': 'claim', 'resume': 'checkpoint'}
+# The definitions that spell what no rule has: words of commands, sources that are read, bytes, objects in JSON, and worked texts.
+UNRULED = ['alw_config/specs/*', 'alw_image/specs/*', 'sparc_asm/specs/*', 'sparc_lex/specs/*', '*/specs/*Json', 'alw_report/specs/Worked']
+# The texts that no rule has.
+WITHOUT_RULE = {'image', 'json', 'profile'}
 
 
-def texts_in(patterns):
-    """The text of the files of crates/ that patterns name."""
-    return ''.join(file.read_text() for pattern in patterns for file in sorted((ROOT / 'crates').glob(pattern)))
+def files_in(patterns):
+    """The files of crates/ that patterns name."""
+    return {file for pattern in patterns for file in (ROOT / 'crates').glob(pattern)}
 
 
-def spelled_by(patterns):
+def texts_in(files):
+    """The text of files."""
+    return ''.join(file.read_text() for file in sorted(files))
+
+
+def spelled_by(files):
     """The words of the texts that definitions spell."""
-    spelled = re.findall(r'codes "([^"]*)"', texts_in(patterns).replace('\\n', ' '))
+    spelled = re.findall(r'codes "([^"]*)"', texts_in(files).replace('\\n', ' '))
     return {word for text in spelled for word in WORD.findall(text)}
 
 
 def rule_of(called):
     """The rule of what a call of the program writes, from its words; None where that has none."""
     command, *options = called.split() or ['']
-    if command in ALONE:
-        return ALONE[command]
-    form = dict(zip(options[::2], options[1::2])).get('--write', 'image' if command == 'asm' else 'report')
-    return form if form in ('listing', 'report', 'summary', 'trace', 'claim', 'log') else None
+    writes = COMMANDS[command].writes if command in COMMANDS else None
+    form = dict(zip(options[::2], options[1::2])).get('--write', writes)
+    return None if form in WITHOUT_RULE else form
 
 
 def texts_of(row):
@@ -684,14 +696,13 @@ def texts_of(row):
     yield 'refusal', error and error + '\n', True
     yield rule_of(row['words'].rpartition(' | ')[2]), output, True
     if ' text line ' in error and error.endswith('syntax'):
-        yield READ.get(row['words'].split()[0]), row.get('input'), False
+        yield COMMANDS[row['words'].split()[0]].reads, row.get('input'), False
 
 
 def check_texts(findings, rules):
     """What each case writes is of its rule, what is refused for its form is not, and each line of a refusal in a table is that of a case."""
     forms, refused = {name: re.compile(grammars.expression(rules, name)) for name in rules}, set()
-    rows = [(group.stem, json.loads(line)) for group in sorted((ROOT / 'cases').glob('*.jsonl')) for line in group.read_text().splitlines()]
-    for group, row in rows:
+    for group, row in case_rows():
         refused.add(row.get('error', '').partition(': ')[2])
         for rule, text, wanted in texts_of(row):
             if rule and text and isinstance(text, str) and wanted != bool(forms[rule].fullmatch(text) and grammars.is_counted(text)):
@@ -701,11 +712,28 @@ def check_texts(findings, rules):
             findings.say(FORMATS, number, f'no case is refused with {cell}')
 
 
+def check_kinds(findings, rules):
+    """Each text has a rule, which begins as tools/words.py says, but for those without one; and the table of formats says which commands read it."""
+    for name, (title, _, _) in words.KINDS.items():
+        if name in WITHOUT_RULE:
+            continue
+        if name not in rules:
+            findings.say(FORMATS, 0, f'has no rule {name}, which tools/words.py names')
+        elif not re.sub(r'^(\(\?:)+', '', grammars.expression(rules, name)).startswith(re.escape(title)):
+            findings.say(FORMATS, 0, f"its rule {name} doesn't begin with {title}, as tools/words.py says")
+    for (line, formats), (_, writers), (_, readers) in zip(*(cells_below(FORMATS, name) for name in ('format', 'written by', 'read by'))):
+        kinds = {name.lower() for link in re.findall(r'\[(.*?)\]', formats) for name in link.split(', ')}
+        reading = {name for name, command in COMMANDS.items() if command.reads in kinds}
+        writing = {name for name, command in COMMANDS.items() if len(command.written()) == 1 and command.writes in kinds}
+        if set(SPAN.findall(readers)) != reading or not writing <= set(SPAN.findall(writers)):
+            findings.say(FORMATS, line, f'tools/words.py has {", ".join(sorted(writing)) or "nobody"} as writers and {", ".join(sorted(reading)) or "nobody"} as readers')
+
+
 def check_formats(findings):
     """docs/FORMATS.md: the words and the names of all that is written, and rules that cases are of."""
     rules = grammars.rules_of(FORMATS.read_text())
     said = {word for text in grammars.spelled_in(rules) for word in WORD.findall(text)}
-    spelled = spelled_by(f'{name}.antt' for name in WRITTEN)
+    spelled = spelled_by(files_in(['*/specs/**/*.antt']) - files_in(f'{name}.antt' for name in UNRULED))
     for word in sorted(said ^ spelled):
         findings.say(FORMATS, 0, f'its rules say {word}, which no definition spells' if word in said else f'its rules lack {word}, which a definition spells')
     for name in sorted(grammars.twice_named(FORMATS.read_text())):
@@ -713,14 +741,15 @@ def check_formats(findings):
     for name in sorted(grammars.unnamed(rules)):
         findings.say(FORMATS, 0, f'a rule names {name}, which none has')
     for head, (files, form) in LISTED.items():
-        check_listed(findings, FORMATS, (head,), set(re.findall(form, texts_in(files), re.M)))
+        check_listed(findings, FORMATS, (head,), set(re.findall(form, texts_in(files_in(files)), re.M)))
     if not grammars.unnamed(rules):
+        check_kinds(findings, rules)
         check_texts(findings, rules)
 
 
 def spelled_words():
     """The words that the program reads or writes, which definitions spell; what rules are given; and letters, which stand for operands."""
-    return spelled_by(['*/specs/**/*.antt']) | {*grammars.GIVEN, *'abcdefghijklmnopqrstuvwxyz'}
+    return spelled_by(files_in(['*/specs/**/*.antt'])) | {*grammars.GIVEN, *'abcdefghijklmnopqrstuvwxyz'}
 
 
 def documents(repository):

@@ -13,20 +13,11 @@ import sys
 from pathlib import Path
 
 TABLE = json.loads((Path(__file__).resolve().parent / 'words.json').read_text())
-COMMANDS = TABLE['commands']
+KINDS, COMMANDS = TABLE['kinds'], TABLE['commands']
 STATEMENTS = {*TABLE['mnemonics'], *(f'.{name}' for name in TABLE['directives'])}
 MOST_READ = 16 << 20
 MOST_SHOWN = 100
 MOST_LINE = 1000
-
-# What each input is called, and how one comes by it.
-MAKERS = {
-    'source': 'a text of instructions',
-    'image': 'asm, gen and examples/c/build make one',
-    'trace': 'run --write trace writes one',
-    'claim': 'run --write claim writes one',
-    'checkpoint': 'save writes one',
-}
 
 
 def shown(word):
@@ -100,8 +91,7 @@ def of_value(word, option, rule):
 # ---- refused inputs
 
 
-TITLES = {b'ALEWIFE TRACE': 'trace', b'ALEWIFE CLAIM': 'claim', b'ALEWIFE SAVE': 'checkpoint', b'ALEWIFE REPORT': 'report', b'ALEWIFE ROUTE': 'load of wires', b'ALEWIFE OUTCOMES': 'list of outcomes',
-          b'ALEWIFE LOG': 'log', b'{"contexts"': 'report in JSON', b'{"code"': 'profile', b'\x7fELF': 'ELF file', b'ALEW': 'image'}
+TITLES = {kind['title'].encode(): name for name, kind in KINDS.items() if kind['title']} | {b'\x7fELF': 'ELF file'}
 AT_THE_START = ('image byte 0: magic', 'image byte 0: short', 'text line 1: syntax')
 LISTING = re.compile(rb'[0-9a-f]{8} [0-9a-f]{8} [0-9]+$', re.M)
 LABEL = re.compile(r'\s*(?:[A-Za-z_]\w*\s*:)?\s*')
@@ -121,9 +111,9 @@ def kind_of(data, command):
     """What an input looks like, or None. What asm refuses may be a source of which no line is known."""
     if not data:
         return 'empty'
-    for title, kind in TITLES.items():
+    for title in sorted(TITLES, key=len, reverse=True):
         if data.startswith(title):
-            return kind
+            return TITLES[title]
     if LISTING.match(data):
         return 'listing'
     is_text = command == 'asm' and b'\0' not in data
@@ -132,8 +122,8 @@ def kind_of(data, command):
 
 def taken(command):
     """What a command takes, and how one comes by it."""
-    wanted = COMMANDS[command]['reads']
-    return f'{command} takes {a(wanted)}: {MAKERS[wanted]}'
+    wanted = KINDS[COMMANDS[command]['reads']]
+    return f'{command} takes {a(wanted["called"])}: {wanted["made"]}'
 
 
 def of_kind(kind, command):
@@ -141,10 +131,10 @@ def of_kind(kind, command):
     takes = taken(command)
     if kind == 'empty':
         return f'the input is empty; {takes}'
-    others = takers(kind)
+    called, others = KINDS[kind]['called'] if kind in KINDS else kind, takers(kind)
     if others:
-        return f'this is {a(kind)}, for {listed(others)}; {takes}'
-    return f'this is {a(kind)}; {takes}' if kind else f'this is none of the inputs that alewife has; {takes}'
+        return f'this is {a(called)}, for {listed(others)}; {takes}'
+    return f'this is {a(called)}; {takes}' if kind else f'this is none of the inputs that alewife has; {takes}'
 
 
 def of_limit(number, most, words, data):

@@ -5,8 +5,9 @@
     tools/words.py --check   names what isn't current, and ends with 1 where something isn't
 
 The options of each command, their ranges and defaults are read from rows.rt and options.rt of crates/alw_config/src, and the names of instructions and
-directives from crates/sparc_asm/src/mnemonics.rt. What is written: the launcher's help, the options of docs/alewife.1, docs/completions, and tools/words.json, by which
-tools/explain.py explains refusals. What an option is for stands below, in a phrase.
+directives from crates/sparc_asm/src/mnemonics.rt. What is written: the launcher's help, the commands and options of docs/alewife.1, docs/completions, and
+tools/words.json, by which tools/explain.py explains refusals. What the sources don't tell stands below: what a command reads, writes and does, how a text
+begins, and what an option is for. The scripts of tools, .ci and bench ask here.
 """
 import json
 import math
@@ -31,18 +32,35 @@ MOST_LISTED = 16
 GREATEST = {'u64::MAX': 2**64 - 1, 'u32::MAX': 2**32 - 1}
 FORMS = {'AsmForm': 'ASM_FORMS', 'Form': 'FORMS'}
 
-# Of each command what it reads, and what it does.
+# Of each text that is read or written how it begins, where that tells it from others, what it is called, and how one comes by it where it is read.
+KINDS = {
+    'source': ('', 'source', 'a text of instructions'),
+    'image': ('ALEW', 'image', 'asm, gen and examples/c/build make one'),
+    'listing': ('', 'listing', ''),
+    'report': ('ALEWIFE REPORT', 'report', ''),
+    'json': ('{"contexts"', 'report in JSON', ''),
+    'trace': ('ALEWIFE TRACE', 'trace', 'run --write trace writes one'),
+    'claim': ('ALEWIFE CLAIM', 'claim', 'run --write claim writes one'),
+    'summary': ('', 'summary', ''),
+    'log': ('ALEWIFE LOG', 'log', ''),
+    'profile': ('{"code"', 'profile', ''),
+    'verdict': ('', 'verdict', ''),
+    'checkpoint': ('ALEWIFE SAVE', 'checkpoint', 'save writes one'),
+    'route': ('ALEWIFE ROUTE', 'load of wires', ''),
+    'outcomes': ('ALEWIFE OUTCOMES', 'list of outcomes', ''),
+}
+# Of each command what it reads, what it writes where no form is chosen, and what it does.
 COMMANDS = {
-    'asm': ('source', 'assembles a source: its image, or a listing'),
-    'run': ('image', 'runs an image: its run'),
-    'replay': ('trace', 'takes the events of a trace again: its run'),
-    'audit': ('claim', 'checks a claim on one flat memory: a verdict'),
-    'gen': ('', 'makes a workload: its image'),
-    'route': ('trace', 'carries the messages of a trace hop by hop: the load of each wire'),
-    'save': ('trace', 'cuts a trace at a stamp: a checkpoint'),
-    'resume': ('checkpoint', 'goes on from a checkpoint: the whole run'),
-    'outcomes': ('image', 'takes turns in every order on one memory: what an image can come to'),
-    'dis': ('image', 'writes an image back: its source'),
+    'asm': ('source', 'image', 'assembles a source: its image, or a listing'),
+    'run': ('image', 'report', 'runs an image: its run'),
+    'replay': ('trace', 'report', 'takes the events of a trace again: its run'),
+    'audit': ('claim', 'verdict', 'checks a claim on one flat memory: a verdict'),
+    'gen': ('', 'image', 'makes a workload: its image'),
+    'route': ('trace', 'route', 'carries the messages of a trace hop by hop: the load of each wire'),
+    'save': ('trace', 'checkpoint', 'cuts a trace at a stamp: a checkpoint'),
+    'resume': ('checkpoint', 'report', 'goes on from a checkpoint: the whole run'),
+    'outcomes': ('image', 'outcomes', 'takes turns in every order on one memory: what an image can come to'),
+    'dis': ('image', 'source', 'writes an image back: its source'),
 }
 ORDER, FORM, EVICT = 'the number that the order of events is drawn from', 'what is written', 'how often of 256 an eviction is tried'
 PHRASES = {
@@ -105,11 +123,17 @@ class Option:
 
 @dataclass(frozen=True)
 class Command:
-    """A command: what it reads, what it does, its options, and its rule over three numbers."""
+    """A command: what it reads, what it writes, what it does, its options, and its rule over three numbers."""
     reads: str
+    writes: str
     does: str
     options: tuple = ()
     rule: dict = field(default_factory=dict)
+
+    def written(self):
+        """Each text that it can write, with the options that choose it."""
+        forms = next((option.names for option in self.options if option.name == '--write'), ())
+        return {form: ['--write', form] for form in forms} or {self.writes: []}
 
     def rule_told(self):
         """The rule, in words."""
@@ -193,10 +217,20 @@ def rule_of(rows, command):
     return {name: int(number) for name, number in re.findall(r'(\w+): (\d+)', body[1])} if body else {}
 
 
+def command_of(rows, name):
+    """A command, of which each text has a row, and which writes its default form."""
+    command = Command(*said_of(COMMANDS, name), options_of(rows, name), rule_of(rows, name))
+    for kind in filter(None, (command.reads, *command.written())):
+        said_of(KINDS, kind)
+    if command.writes != next((option.default for option in command.options if option.name == '--write'), command.writes):
+        sys.exit(f'words: {name} writes another form than {command.writes}, which tools/words.py says')
+    return command
+
+
 def read_table():
     """The commands, in their order."""
     rows = ROWS.read_text()
-    return {name: Command(*said_of(COMMANDS, name), options_of(rows, name), rule_of(rows, name)) for name in names_in(rows, 'COMMANDS')}
+    return {name: command_of(rows, name) for name in names_in(rows, 'COMMANDS')}
 
 
 def read_names():
@@ -211,7 +245,8 @@ def read_names():
 def table_page(commands):
     """tools/words.json: the table for what reads it as data."""
     mnemonics, directives = read_names()
-    data = {'mnemonics': mnemonics, 'directives': directives, 'commands': {}}
+    kinds = {name: dict(zip(('title', 'called', 'made'), row)) for name, row in KINDS.items()}
+    data = {'mnemonics': mnemonics, 'directives': directives, 'kinds': kinds, 'commands': {}}
     for name, command in commands.items():
         options = [{**asdict(option), 'values': option.values()} for option in command.options]
         data['commands'][name] = {'reads': command.reads, 'options': options, 'rule': command.rule_told() if command.rule else ''}
@@ -353,6 +388,12 @@ def zsh_page(commands):
     return ZSH_PAGE % {'cases': cases, 'commands': described, 'own': own}
 
 
+def paragraphs(commands, before):
+    """The manual's paragraph of each command: as it was before, and where there was none what the command does."""
+    kept = dict(re.findall(r'^\.TP\n\.B (\w+)\n(.*?)(?=^\.TP$|\Z)', before, re.M | re.S))
+    return ''.join(f'.TP\n.B {name}\n' + kept.get(name, f'{command.does[0].upper()}{command.does[1:]}.\n') for name, command in commands.items())
+
+
 def between(text, first, last, middle):
     """A text with another middle between two marks, of which the first stays before it and the last behind it."""
     before, mark, rest = text.partition(first)
@@ -361,9 +402,11 @@ def between(text, first, last, middle):
 
 
 def manual(commands):
-    """The manual, with how the commands are called and with their options."""
+    """The manual, with how the commands are called, what they do, and their options."""
     called = between(MANUAL.read_text(), '.SH SYNOPSIS\n', '.SH DESCRIPTION', synopsis(commands))
-    return between(called, '.\\" tools/words.py writes the synopsis and the options.\n', '.SH WORDS OF THE LAUNCHER', manual_page(commands))
+    first, last = '.SH COMMANDS\n', '.PP\nOptions come'
+    described = between(called, first, last, paragraphs(commands, called.partition(first)[2].partition(last)[0]))
+    return between(described, '.\\" tools/words.py writes the synopsis, the first words of a command, and the options.\n', '.SH WORDS OF THE LAUNCHER', manual_page(commands))
 
 
 def pages():
