@@ -8,8 +8,8 @@ What is tested:
   answer nothing but that. A row may begin with a name, '**name**: ', and a named promise has an edit in one of its rows.
 - README.md, docs/, bench/README.md and each crate's README: each name in `code` that looks like one of the repository's is
   declared in it, and each path is there, as is what links lead to, with the place in its page. CHANGES.md may name what is gone.
-- what tools/words.py writes of the command words is current: the launcher's help, the manual's options, the completions. README.md's table has each
-  command with its options, and README.md and the manual say the times that the launcher says.
+- what tools/words.py writes of the command words is current: README.md's table, the launcher's help, the manual's options, the completions. README.md
+  says each form, and README.md and the manual say the times that the launcher says.
 - each edit still fits: its old text stands once in its file.
 - each block of README.md, docs/EXAMPLES.md, docs/DEBUGGING.md, docs/LANGUAGE.md and docs/FORMATS.md that shows commands, C or assembly is a file of examples/, of
   which the checks there run each, and each file *.shell of examples/ stands in one of the pages.
@@ -22,7 +22,7 @@ What is tested:
 - a crate of crates.txt stands on crates of its own floor and of those that the floor's line names; what it lists else is of the toolchain.
 - cases/README.md names each group of cases, but for those that have the name of a command. Each command is called by a case.
 - docs/REFUSALS.md: each row has calls of its crate, a clause of one of them or a word of it, and tests or cases, these as `group: name`; and each call of these crates that
-  answers a Result or an Option has a row.
+  answers a Result or an Option has a row. A crate that makes what a command answers is one of these.
 
 A row's second cell is read like this: parts are parted by ';', and what stands in `code` in a part is a function, method or
 type of the crate, or a clause of one named before it in that part. In brackets stand definitions, or an edit's crate.
@@ -45,7 +45,6 @@ COMMANDS = words.read_table()
 SPELLING = {LANGUAGE, FORMATS}
 HEADINGS = ['What it does', 'What a contract sees', 'What is proved', 'What is only tested', 'Left open', 'A caller']
 CRATE_TABLE = ['promise', 'function, clause', 'edit that is refused']
-COMMAND_TABLE = ['command', 'reads', 'writes', 'options']
 REFUSAL_TABLE = ['call', 'refuses', 'clause', 'what stands', 'succeeds in']
 
 # Words in `code` that the repository doesn't declare: of Rust and its library, of the toolchain, of the shell, and of GDB.
@@ -435,22 +434,13 @@ def check_fit(findings, edit, crate):
 
 
 def check_words(findings):
-    """What tools/words.py writes is current, and README.md's table has each command with its own options and their names, and no other."""
+    """What tools/words.py writes is current, README.md's table among it, and README.md has each form."""
     for file, text in words.pages().items():
         if file.read_text() != text:
             findings.say(file, 0, "isn't what the table of command words says today: run tools/words.py")
-    file, commands = ROOT / 'README.md', COMMANDS
-    rows = {row.cells[0].strip('`'): row for head, rows in tables_of(file.read_text()) if head == COMMAND_TABLE for row in rows}
-    if list(rows) != list(commands):
-        findings.say(file, 0, f'its table of commands has {", ".join(rows)}, and the program {", ".join(commands)}')
-    for name, row in rows.items():
-        wanted = {option.name for option in commands[name].options} if name in commands else set()
-        said = set(re.findall(r'--\w+', row.cells[3]))
-        for option in sorted(said ^ wanted):
-            findings.say(file, row.line, f"says {option} of {name}, which hasn't it" if option in said else f"doesn't say {option} of {name}")
-    spelled = {word for span in SPAN.findall(file.read_text()) for word in span.split()}
-    for form in sorted({form for command in commands.values() for option in command.options if option.value() == 'FORM' for form in option.names} - spelled):
-        findings.say(file, 0, f"doesn't say the form {form}")
+    spelled = {word for span in SPAN.findall(words.README.read_text()) for word in span.split()}
+    for form in sorted({form for command in COMMANDS.values() for option in command.options if option.value() == 'FORM' for form in option.names} - spelled):
+        findings.say(words.README, 0, f"doesn't say the form {form}")
 
 
 TIMES = re.compile(r"^(\w+_takes)='(.*)'$", re.M)
@@ -575,7 +565,9 @@ def check_refusals(findings, repository):
 
 
 def check_all_refuse(findings, file, named, repository):
-    """Each call of these crates that answers a Result or an Option is named."""
+    """Each call of these crates that answers a Result or an Option is named, and each crate with a call that makes what a command answers is one of them."""
+    for name in sorted({name for name, crate in repository.items() if any('Result<Output,' in f.signature for f in crate.calls())} - set(named)):
+        findings.say(file, 0, f'has no row of {name}, which makes what a command answers')
     for name, paths in named.items():
         refusing = {f.path for f in repository[name].calls() if re.search('->.*(Result|Option)', f.signature, re.S)}
         if missing := refusing - paths:

@@ -5,8 +5,8 @@
     tools/words.py --check   names what isn't current, and ends with 1 where something isn't
 
 The options of each command, their ranges and defaults are read from rows.rt and options.rt of crates/alw_config/src, and the names of instructions and
-directives from crates/sparc_asm/src/mnemonics.rt. What is written: the launcher's help, the commands and options of docs/alewife.1, docs/completions, and
-tools/words.json, by which tools/explain.py explains refusals. What the sources don't tell stands below: what a command reads, writes and does, how a text
+directives from crates/sparc_asm/src/mnemonics.rt. What is written: the table of README.md, the launcher's help, the commands and options of docs/alewife.1,
+docs/completions, and tools/words.json, by which tools/explain.py explains refusals. What the sources don't tell stands below: what a command reads, writes and does, how a text
 begins, and what an option is for. The scripts of tools, .ci and bench ask here.
 """
 import json
@@ -22,6 +22,7 @@ CHOOSING = ROOT / 'crates' / 'alw_config' / 'src' / 'options.rt'
 LOOKUPS = ROOT / 'crates' / 'alw_config' / 'src' / 'lookups.rt'
 DECLARING = ('alw_num', 'alw_image', 'alw_config')
 MNEMONICS = ROOT / 'crates' / 'sparc_asm' / 'src' / 'mnemonics.rt'
+README = ROOT / 'README.md'
 LAUNCHER = ROOT / 'alewife'
 MANUAL = ROOT / 'docs' / 'alewife.1'
 BASH = ROOT / 'docs' / 'completions' / 'alewife.bash'
@@ -49,17 +50,17 @@ KINDS = {
     'route': ('ALEWIFE ROUTE', 'load of wires', ''),
     'outcomes': ('ALEWIFE OUTCOMES', 'list of outcomes', ''),
 }
-# Of each command what it reads, what it writes where no form is chosen, and what it does.
+# Of each command what it reads, what it writes where no form is chosen, and what it does, with what comes of it behind a colon.
 COMMANDS = {
     'asm': ('source', 'image', 'assembles a source: its image, or a listing'),
     'run': ('image', 'report', 'runs an image: its run'),
-    'replay': ('trace', 'report', 'takes the events of a trace again: its run'),
-    'audit': ('claim', 'verdict', 'checks a claim on one flat memory: a verdict'),
-    'gen': ('', 'image', 'makes a workload: its image'),
+    'replay': ('trace', 'report', 'takes the events of a trace again: the run of its events'),
+    'audit': ('claim', 'verdict', 'checks a claim on one flat memory: sound, or what differs'),
+    'gen': ('', 'image', 'draws operations for each node: the image of a workload'),
     'route': ('trace', 'route', 'carries the messages of a trace hop by hop: the load of each wire'),
-    'save': ('trace', 'checkpoint', 'cuts a trace at a stamp: a checkpoint'),
+    'save': ('trace', 'checkpoint', 'cuts a trace: a checkpoint at a stamp'),
     'resume': ('checkpoint', 'report', 'goes on from a checkpoint: the whole run'),
-    'outcomes': ('image', 'outcomes', 'takes turns in every order on one memory: what an image can come to'),
+    'outcomes': ('image', 'outcomes', 'takes turns in every order on one memory: all that an image can come to'),
     'dis': ('image', 'source', 'writes an image back: its source'),
 }
 ORDER, FORM, EVICT = 'the number that the order of events is drawn from', 'what is written', 'how often of 256 an eviction is tried'
@@ -218,12 +219,14 @@ def rule_of(rows, command):
 
 
 def command_of(rows, name):
-    """A command, of which each text has a row, and which writes its default form."""
+    """A command, of which each text has a row, which writes its default form, and of which a colon parts what it does and what comes of it."""
     command = Command(*said_of(COMMANDS, name), options_of(rows, name), rule_of(rows, name))
     for kind in filter(None, (command.reads, *command.written())):
         said_of(KINDS, kind)
     if command.writes != next((option.default for option in command.options if option.name == '--write'), command.writes):
         sys.exit(f'words: {name} writes another form than {command.writes}, which tools/words.py says')
+    if ': ' not in command.does:
+        sys.exit(f'words: tools/words.py says what {name} does, and not behind a colon what comes of it')
     return command
 
 
@@ -394,6 +397,23 @@ def paragraphs(commands, before):
     return ''.join(f'.TP\n.B {name}\n' + kept.get(name, f'{command.does[0].upper()}{command.does[1:]}.\n') for name, command in commands.items())
 
 
+def option_cell(options):
+    """The options that make one choice, for a table, the last with its values where two are all that it has."""
+    names = ' or '.join(f'`{option.name}`' for option in options)
+    return f'{names[:-1]} {"` or `".join(options[-1].names)}`' if len(options[-1].names) == 2 else names
+
+
+def overview(commands):
+    """The rows of README.md's table: what each command reads and writes, and its options."""
+    rows = ''
+    for name, command in commands.items():
+        alike = {option.choice: [other for other in command.options if other.choice == option.choice] for option in command.options}
+        reads = f'{"an" if command.reads[0] in "aeiou" else "a"} {command.reads}' if command.reads else 'nothing'
+        cells = f'`{name}`', reads, command.does.partition(': ')[2], ', '.join(map(option_cell, alike.values()))
+        rows += f'| {" | ".join(cells).rstrip()} |\n'
+    return rows
+
+
 def between(text, first, last, middle):
     """A text with another middle between two marks, of which the first stays before it and the last behind it."""
     before, mark, rest = text.partition(first)
@@ -413,6 +433,7 @@ def pages():
     """All that is written: each file with its text."""
     commands = read_table()
     return {
+        README: between(README.read_text(), '| command | reads | writes | options |\n|---|---|---|---|\n', '\n`--write` takes', overview(commands)),
         LAUNCHER: between(LAUNCHER.read_text(), 'multiprocessor, proved\n\n', '\nThe first run', help_page(commands)),
         MANUAL: manual(commands),
         BASH: bash_page(commands),
