@@ -126,9 +126,13 @@ def taken(command):
     return f'{command} takes {a(wanted["called"])}: {wanted["made"]}'
 
 
-def of_kind(kind, command):
-    """That an input isn't what a command takes."""
-    takes = taken(command)
+def wanted(kind):
+    """That a kind of input is wanted, and how one comes by it."""
+    return f'{a(KINDS[kind]["called"])} is wanted: {KINDS[kind]["made"]}'
+
+
+def of_kind(kind, takes):
+    """That an input isn't what is taken, which a text says."""
     if kind == 'empty':
         return f'the input is empty; {takes}'
     called, others = KINDS[kind]['called'] if kind in KINDS else kind, takers(kind)
@@ -253,7 +257,7 @@ def of_input(reason, words, data):
         if reason in AT_THE_START:
             yield taken(words[0])
     elif kind_of(data, words[0]) != COMMANDS[words[0]]['reads']:
-        yield of_kind(kind_of(data, words[0]), words[0])
+        yield of_kind(kind_of(data, words[0]), taken(words[0]))
     elif source := re.fullmatch(r'source line \d+: (.*)', reason):
         yield from of_source(number, source[1], data)
     elif reason.startswith('text line '):

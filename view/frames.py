@@ -4,6 +4,7 @@ import sys
 from dataclasses import dataclass
 from pathlib import Path
 
+import explain
 import logs
 import machine
 from alewife import RAN, WORD, ProgramError, called, checkpoint_of, image_of
@@ -66,12 +67,16 @@ class Program:
         return text.split('\n')[:-1]
 
 
-def read_trace(path):
-    """The bytes of a trace, in a file or, where the path is -, on standard input."""
+def read_input(path, wanted):
+    """The bytes of a file or, where the path is -, of standard input, which begin as a trace or an image, as it is wanted."""
     try:
-        return sys.stdin.buffer.read() if path == '-' else Path(path).read_bytes()
+        data = sys.stdin.buffer.read() if path == '-' else Path(path).read_bytes()
     except OSError as fault:
         raise ViewError(f"can't read {path}: {fault.strerror}") from fault
+    kind = explain.kind_of(data, '')
+    if kind != wanted:
+        raise ViewError(explain.of_kind(kind, explain.wanted(wanted)))
+    return data
 
 
 # ---- what a trace says

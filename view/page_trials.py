@@ -136,6 +136,8 @@ def refusals_are_named(trial):
     trial.keep('torn.trace', trace[:-9].encode())
     trial.refused(f'refused: alewife: input refused: text line {trace.count(chr(10)) - 1}: syntax', 'torn.trace')
     trial.refused("can't read none.trace: No such file or directory", 'none.trace')
+    trial.keep('print.s', (EXAMPLES / 'print.s').read_bytes())
+    trial.refused('this is a source, for asm; a trace is wanted: run --write trace writes one', 'print.s')
     trial.refused('no entry has a stamp from 18 on', 'two_writers.trace', '--from', '18')
     trial.refused("none can't be run: No such file or directory. Name the program, or build it: ./alewife --build", 'spill.trace', '--program', 'none')
     trial.keep_program('old', 'echo alewife: word 0 refused >&2; exit 2')
