@@ -13,7 +13,7 @@ use Rattle.alw_model.specs.Runs.{Moment, moment_of, moments}
 use Rattle.alw_model.proofs.Journals.{and_is, moments_push}
 use Rattle.alw_mesh.specs.Histories.{History, begun, state_of, may_be_next, entry_of, grown}
 use Rattle.alw_mesh.proofs.Journals.{moments_long}
-use Rattle.alw_profile.specs.declared.columns.TheConstants.{NODE_COLUMNS, LINE_COLUMNS, CODE_COLUMNS}
+use Rattle.alw_profile.specs.Columns as column
 use Rattle.alw_profile.specs.declared.tables.Mark.{Mark}
 use Rattle.alw_profile.specs.declared.tallies.Tables.{Tables}
 use Rattle.alw_profile.specs.Events.{nodes_marked, lines_marked, code_marked, packets_told, accesses_told}
@@ -133,9 +133,9 @@ module _ (image : Parts) (parameters : Parameters) where
         let run = moments image parameters (take i journal) in
         let long : length run ≤ i = omega (arith, moments_long image parameters (take i journal), length-take i journal) in
         record {
-          nodes = record { total = omega (arith, way.told.nodes.total, blank_total (node_count image) NODE_COLUMNS) };
-          lines = record { total = omega (arith, way.told.lines.total, blank_total (line_count image) LINE_COLUMNS) };
-          code = record { total = omega (arith, way.told.code.total, blank_total (length image.code) CODE_COLUMNS) };
+          nodes = record { total = omega (arith, way.told.nodes.total, blank_total (node_count image) column.node_columns) };
+          lines = record { total = omega (arith, way.told.lines.total, blank_total (line_count image) column.line_columns) };
+          code = record { total = omega (arith, way.told.code.total, blank_total (length image.code) column.code_columns) };
         }
 
     pub begins : (again : History) (tables : Tables) → again ≡ begun image parameters → AreBlank image tables → IsUnderWay image parameters journal 0 again tables

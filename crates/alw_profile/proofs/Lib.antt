@@ -1,6 +1,6 @@
 mod Telling
 mod Marking
-mod Lists
+pub mod Lists
 mod Slots
 mod Enabled
 mod Tells

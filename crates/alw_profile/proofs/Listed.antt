@@ -7,7 +7,7 @@ use Rattle.alw_image.specs.declared.parts.Parts.{Parts}
 use Rattle.alw_image.specs.Images.{node_count, line_count}
 use Rattle.alw_image.specs.Parameters.{Parameters}
 use Rattle.alw_model.specs.Runs.{Moment}
-use Rattle.alw_profile.specs.declared.columns.TheConstants.{NODE_COLUMNS, LINE_COLUMNS, CODE_COLUMNS}
+use Rattle.alw_profile.specs.Columns as column
 use Rattle.alw_profile.specs.declared.tables.Mark.{Mark}
 use Rattle.alw_profile.specs.declared.tallies.Tables.{Tables}
 use Rattle.alw_profile.specs.Events.{nodes_marked, lines_marked, code_marked, packets_told, accesses_told}
@@ -31,28 +31,28 @@ columns_of rows columns marks table is = ap (λ (t : Cells). t.columns) is ∙ m
 module _ (image : Parts) (run : List Moment) (tables : Tables) (all : AreTold image run tables) where
   pub are_sized : AreSized image tables
   are_sized = record {
-    nodes = rows_of (node_count image) NODE_COLUMNS (flat_map (nodes_marked image) run) tables.nodes all.nodes.table;
-    node_columns = columns_of (node_count image) NODE_COLUMNS (flat_map (nodes_marked image) run) tables.nodes all.nodes.table;
+    nodes = rows_of (node_count image) column.node_columns (flat_map (nodes_marked image) run) tables.nodes all.nodes.table;
+    node_columns = columns_of (node_count image) column.node_columns (flat_map (nodes_marked image) run) tables.nodes all.nodes.table;
     packets = ap length all.packets ∙ (raised_length_by (replicate (node_count image) 0) (flat_map (packets_told image) run) ∙ length-replicate (node_count image) 0);
-    lines = rows_of (line_count image) LINE_COLUMNS (flat_map (lines_marked image) run) tables.lines all.lines.table;
-    line_columns = columns_of (line_count image) LINE_COLUMNS (flat_map (lines_marked image) run) tables.lines all.lines.table;
+    lines = rows_of (line_count image) column.line_columns (flat_map (lines_marked image) run) tables.lines all.lines.table;
+    line_columns = columns_of (line_count image) column.line_columns (flat_map (lines_marked image) run) tables.lines all.lines.table;
     readers = ap length all.readers ∙ (joined_length_by (replicate (line_count image) no_nodes) (flat_map (accesses_told Read image) run) ∙ length-replicate (line_count image) no_nodes);
     writers = ap length all.writers ∙ (joined_length_by (replicate (line_count image) no_nodes) (flat_map (accesses_told Write image) run) ∙ length-replicate (line_count image) no_nodes);
-    code = rows_of (length image.code) CODE_COLUMNS (flat_map (code_marked image) run) tables.code all.code.table;
-    code_columns = columns_of (length image.code) CODE_COLUMNS (flat_map (code_marked image) run) tables.code all.code.table;
+    code = rows_of (length image.code) column.code_columns (flat_map (code_marked image) run) tables.code all.code.table;
+    code_columns = columns_of (length image.code) column.code_columns (flat_map (code_marked image) run) tables.code all.code.table;
   }
 
   node_is : (node : ℕ) → node < 0 + node_count image → node_from tables node ≡ node_in_run image run node
   node_is node within =
       let here : node < node_count image = omega (arith, within) in
-      let counts = row_is (node_count image) NODE_COLUMNS (flat_map (nodes_marked image) run) tables.nodes all.nodes.table node here in
+      let counts = row_is (node_count image) column.node_columns (flat_map (nodes_marked image) run) tables.nodes all.nodes.table node here in
       let packets = ap (λ (most : List ℕ). slice_index most node) all.packets ∙ most_is (node_count image) (flat_map (packets_told image) run) node here in
       λ i. node_row node (counts i) (packets i)
 
   line_is : (line : ℕ) → line < 0 + line_count image → line_from tables line ≡ line_in_run image run line
   line_is line within =
       let here : line < line_count image = omega (arith, within) in
-      let counts = row_is (line_count image) LINE_COLUMNS (flat_map (lines_marked image) run) tables.lines all.lines.table line here in
+      let counts = row_is (line_count image) column.line_columns (flat_map (lines_marked image) run) tables.lines all.lines.table line here in
       let readers = ap (λ (sets : List Nodes). set_at sets line) all.readers ∙ nodes_are (line_count image) (flat_map (accesses_told Read image) run) line here in
       let writers = ap (λ (sets : List Nodes). set_at sets line) all.writers ∙ nodes_are (line_count image) (flat_map (accesses_told Write image) run) line here in
       λ i. line_row line (counts i) (readers i) (writers i)
@@ -60,7 +60,7 @@ module _ (image : Parts) (run : List Moment) (tables : Tables) (all : AreTold im
   word_is : (place : ℕ) → place < 0 + length image.code → word_from tables image.code place ≡ word_in_run image run place
   word_is place within =
       let here : place < length image.code = omega (arith, within) in
-      let counts = row_is (length image.code) CODE_COLUMNS (flat_map (code_marked image) run) tables.code all.code.table place here in
+      let counts = row_is (length image.code) column.code_columns (flat_map (code_marked image) run) tables.code all.code.table place here in
       λ i. word_row image.code place (counts i)
 
   -- what the tables tell is what is told of the run

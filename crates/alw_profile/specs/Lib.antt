@@ -1,3 +1,4 @@
+pub mod Columns
 pub mod Marks
 pub mod Tables
 pub mod Places
