@@ -1,3 +1,6 @@
-mod Listed
-mod Enabled
-mod Sums
+mod Rows
+mod Nodes
+mod Acts
+mod Standing
+mod Lines
+mod Words

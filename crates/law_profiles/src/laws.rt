@@ -1,7 +1,12 @@
-ghost use Rattle.law_profiles.specs.Sums.{SumsAreCounts};
+ghost use Rattle.law_profiles.specs.Sums.{NodeSumsAreCounts, LineSumsAreCounts, WordSumsAreCounts};
 
-/// The turns, the misses, the actions of the handler, the hops and the messages of each kind that the
-/// rows of all nodes tell are together those that a report counts.
+/// What the rows of a profile tell is together what a report counts. Over all nodes: the turns, the
+/// misses, the actions of the handler, the hops and the messages of each kind. Over all lines: the
+/// misses, INV, BUSY, REPM with UPDATE, the actions of the handler and those that spilled; and no more
+/// hits than turns. Over all code words: the misses, and the turns but for those of slots whose PC
+/// stands outside the code.
 pub fn sums_are_counts()
-    ensures { SumsAreCounts }
+    ensures nodes { NodeSumsAreCounts }
+    ensures lines { LineSumsAreCounts }
+    ensures words { WordSumsAreCounts }
 {}
