@@ -2,18 +2,13 @@
 use Rattle.std.specs.Prelude.{ℕ, ◌/◌, ◌%◌, List, ◌++◌, codes}
 use Rattle.std.specs.Fmt.{decimal}
 use Rattle.std.specs.List.{flat_map, range_with_len}
-use Rattle.alw_text.specs.Numbers.{hex_word}
-use Rattle.sparc_text.specs.Statements.{statement_at}
+use Rattle.alw_effects.specs.Pieces.{place_text}
 use Rattle.alw_image.specs.declared.parts.Parts.{Parts}
 use Rattle.alw_image.specs.Images.{context_count}
 use Rattle.alw_model.specs.Contexts.{Slot, slot_at}
 use Rattle.alw_model.specs.Machine.{MachineState, node_at}
 use Rattle.alw_report.specs.Names.{status_text}
 use Rattle.alw_report.specs.Reports.{heading}
-
--- a PC and the statement there
-unfoldable pub place_text : List ℕ → ℕ → List ℕ
-place_text code pc = codes " pc " ++ (hex_word pc ++ (codes " " ++ statement_at code pc))
 
 -- where a context stands: what it does, as a checkpoint spells it, its PC, and the statement there
 unfoldable pub slot_line : List ℕ → ℕ → Slot → List ℕ

@@ -1,8 +1,6 @@
 //! What an instruction of a machine did, as text.
 #![tactic(auto)]
 
-mod accesses;
-mod effects;
 mod pieces;
 mod sights;
 mod turns;

@@ -5,25 +5,25 @@ ghost use Rattle.alw_image.specs.Images.{node_count, line_count, context_count};
 ghost use Rattle.alw_model.specs.Caches.{set_of};
 ghost use Rattle.alw_model.specs.Contexts.{slot_at};
 ghost use Rattle.alw_mesh.specs.Readings.{node_in};
-ghost use Rattle.alw_turns.specs.Sights.{seen_of, IsLineOf};
+ghost use Rattle.alw_effects.specs.Before.{IsLineOf};
+ghost use Rattle.alw_turns.specs.Sights.{seen_of};
 ghost use Rattle.alw_turns.specs.Turns.{is_waited, bytes_in_set, bytes_needed};
 
+use alw_effects::Before;
 use alw_mesh::Machine;
 use alw_num::{Line, LineNo, NodeNo};
 use sparc_exec::need;
 use sparc_table::{Need, Regs};
 
-/// What is read of a slot of a node before its turn: its registers, the line that it has a hold on, what it
-/// needs, and of the line that it needs, whether a transaction is open and the bytes of the copy in its set.
+/// What is read of a slot of a node before its turn: the line that it has a hold on, whether a transaction is open on
+/// the line that it needs, and what its turn is told from. The bytes of that line are those of the copy in its set.
 #[derive(Clone, Copy, Debug)]
 pub struct Seen {
     pub node: NodeNo,
     pub slot: u8,
-    pub regs: Regs,
     pub hold: Option<u32>,
-    pub need: Need,
     pub waits: bool,
-    pub body: Line,
+    pub before: Before,
 }
 
 /// What is read of a slot now.
@@ -38,11 +38,13 @@ pub fn look(machine: &Machine, node: NodeNo, slot: u8) -> Seen
     Seen {
         node,
         slot,
-        regs,
         hold: hold_of(machine, node, slot),
-        need,
         waits: is_waited(machine, node, need),
-        body: bytes_needed(machine, node, need),
+        before: Before {
+            regs,
+            need,
+            body: bytes_needed(machine, node, need),
+        },
     }
 }
 

@@ -1,25 +1,22 @@
 ghost use Rattle.std.specs.Prelude.{◌≡◌, ◌++◌, OnOk, Some, IsTrue};
-ghost use Rattle.sparc_table.specs.Turns.{fetched, need_of};
-ghost use Rattle.alw_image.specs.Images.{line_count};
 ghost use Rattle.alw_msg.specs.declared.events.Event.TheVariants as events;
 ghost use Rattle.alw_model.specs.Contexts.{running};
 ghost use Rattle.alw_model.specs.Machine.{stepped_by};
 ghost use Rattle.alw_mesh.specs.Histories.{grown, may_be_next, state_of};
 ghost use Rattle.alw_mesh.specs.Readings.{node_in};
+ghost use Rattle.alw_effects.specs.Effects.{outcome_text};
 ghost use Rattle.alw_turns.specs.Sights.{IsSeenOf, done_by};
-ghost use Rattle.alw_turns.specs.Turns.{fetched_text, outcome_text, missed_text, did_text, slot_did, instr_text};
+ghost use Rattle.alw_turns.specs.Turns.{missed_text, did_text, slot_did, instr_text};
 
-use crate::effects::put_done;
-use crate::pieces::{put_ends, put_misses, put_prints, put_slot, put_traps};
+use crate::pieces::{put_ends, put_misses, put_slot};
 use crate::sights::{Seen, bytes_needed, look, regs_of};
-use alw_image::Image;
+use alw_effects::put_effect;
 use alw_mesh::Machine;
 use alw_model::Did;
 use alw_msg::Event;
-use alw_num::{Line, NoMemory, NodeNo};
+use alw_num::{NoMemory, NodeNo};
 use alw_text::Text;
-use sparc_exec::fetch;
-use sparc_table::{Need, Outcome, Regs};
+use sparc_table::{Need, Outcome};
 
 /// An instruction of a node happens, and what it did is appended.
 pub fn put_turn(text: &mut Text, machine: &mut Machine, node: NodeNo) -> Result<(), NoMemory>
@@ -50,7 +47,12 @@ fn put_slot_turn(
 {
     let _run = machine.journal();
     let seen = look(machine, node, slot);
-    put_slot(text, machine.image().code().words(), slot, &seen.regs)?;
+    put_slot(
+        text,
+        machine.image().code().words(),
+        slot,
+        &seen.before.regs,
+    )?;
     let did = machine.take(Event::Instr { node })?;
     put_did(text, machine, &seen, did)?;
     put_ends(text, seen.hold)?;
@@ -60,16 +62,16 @@ fn put_slot_turn(
 // What a slot did: its turn or its miss.
 fn put_did(text: &mut Text, machine: &Machine, seen: &Seen, did: Did) -> Result<(), NoMemory>
     requires { IsSeenOf machine.now seen.now }
-    ensures { OnOk result (text.new ≡ text.old ++ did_text did (done_by machine.now.image machine.now.parameters seen.now (node_in machine.now seen.now.node.0)) (missed_text seen.now.need seen.now.waits)) }
+    ensures { OnOk result (text.new ≡ text.old ++ did_text did (done_by machine.now.image machine.now.parameters seen.now (node_in machine.now seen.now.node.0)) (missed_text seen.now.before.need seen.now.waits)) }
 {
     match did {
         Did::Turn { outcome, .. } => put_outcome(text, machine, seen, outcome),
-        Did::Missed { .. } => put_missed(text, seen.need, seen.waits),
+        Did::Missed { .. } => put_missed(text, seen.before.need, seen.waits),
         _ => Ok(()),
     }
 }
 
-// A turn by its outcome.
+// A turn by its outcome, and by the registers and the line's bytes now.
 fn put_outcome(
     text: &mut Text,
     machine: &Machine,
@@ -79,40 +81,10 @@ fn put_outcome(
     requires { IsSeenOf machine.now seen.now }
     ensures { OnOk result (text.new ≡ text.old ++ outcome_text outcome (done_by machine.now.image machine.now.parameters seen.now (node_in machine.now seen.now.node.0))) }
 {
-    match outcome {
-        Outcome::Done => put_after(text, machine, seen),
-        Outcome::Out { word } => put_prints(text, word),
-        Outcome::Halt => text.put(b" halts"),
-        Outcome::Trap { tt } => put_traps(text, tt),
-        Outcome::Miss { .. } => Ok(()),
-    }
-}
-
-// A turn that is done, by the registers and the line's bytes now.
-fn put_after(text: &mut Text, machine: &Machine, seen: &Seen) -> Result<(), NoMemory>
-    requires { IsSeenOf machine.now seen.now }
-    ensures { OnOk result (text.new ≡ text.old ++ done_by machine.now.image machine.now.parameters seen.now (node_in machine.now seen.now.node.0)) }
-{
+    let code = machine.image().code().words();
     let regs = regs_of(machine, seen.node, seen.slot);
-    let body = bytes_needed(machine, seen.node, seen.need);
-    put_fetched(text, machine.image(), seen, &regs, &body)
-}
-
-// The same of the instruction that was fetched.
-fn put_fetched(
-    text: &mut Text,
-    image: &Image,
-    seen: &Seen,
-    regs: &Regs,
-    body: &Line,
-) -> Result<(), NoMemory>
-    requires { seen.now.need ≡ need_of image.now.code seen.now.regs (line_count image.now) }
-    ensures { OnOk result (text.new ≡ text.old ++ fetched_text (fetched image.now.code seen.now.regs.pc) seen.now.need seen.now.regs regs.now seen.now.body body.now) }
-{
-    match fetch(image.code().words(), seen.regs.pc) {
-        Ok(instr) => put_done(text, &instr, seen, regs, body),
-        Err(_) => Ok(()),
-    }
+    let body = bytes_needed(machine, seen.node, seen.before.need);
+    put_effect(text, code, &seen.before, outcome, &regs, &body)
 }
 
 // A miss: the line that is needed, and whether the slot opens a transaction on it or waits for one.

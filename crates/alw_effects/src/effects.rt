@@ -1,11 +1,11 @@
 ghost use Rattle.std.specs.Prelude.{◌≡◌, ◌<◌, ◌++◌, OnOk, IfSome};
 ghost use Rattle.sparc_table.specs.Table.{Fits};
-ghost use Rattle.alw_turns.specs.Sights.{IsAlignedIn};
-ghost use Rattle.alw_turns.specs.Turns.{written_by, written_text, goes_at_once, control_text, done_text};
+ghost use Rattle.alw_effects.specs.Before.{IsAlignedIn};
+ghost use Rattle.alw_effects.specs.Effects.{written_by, written_text, goes_at_once, control_text, done_text};
 
 use crate::accesses::put_moved;
+use crate::before::Before;
 use crate::pieces::{put_sets, put_taken};
-use crate::sights::Seen;
 use alw_num::{Line, NoMemory};
 use alw_text::Text;
 use sparc_table::{Instr, Regs};
@@ -15,17 +15,17 @@ use sparc_text::is_store;
 pub fn put_done(
     text: &mut Text,
     instr: &Instr,
-    seen: &Seen,
+    before: &Before,
     regs: &Regs,
     body: &Line,
 ) -> Result<(), NoMemory>
     requires fits { Fits instr.now }
-    requires aligned { IsAlignedIn seen.now.need instr.now seen.now.regs }
-    ensures { OnOk result (text.new ≡ text.old ++ done_text seen.now.need instr.now seen.now.regs regs.now seen.now.body body.now) }
+    requires aligned { IsAlignedIn before.now.need instr.now before.now.regs }
+    ensures { OnOk result (text.new ≡ text.old ++ done_text before.now.need instr.now before.now.regs regs.now before.now.body body.now) }
 {
     put_written(text, written(instr), regs)?;
-    put_moved(text, instr, seen, body)?;
-    put_control(text, goes_at_once(instr), &seen.regs, regs)?;
+    put_moved(text, instr, before, body)?;
+    put_control(text, goes_at_once(instr), &before.regs, regs)?;
     Ok(())
 }
 

@@ -3,12 +3,12 @@ ghost use Rattle.alw_num.specs.Lanes.{IsAligned, lane_of};
 ghost use Rattle.sparc_table.specs.Access.{width_of, is_load};
 ghost use Rattle.sparc_table.specs.Table.{Fits};
 ghost use Rattle.sparc_text.specs.Statements.{is_store};
-ghost use Rattle.alw_turns.specs.Pieces.{reads_text, writes_text};
-ghost use Rattle.alw_turns.specs.Sights.{IsAlignedIn};
-ghost use Rattle.alw_turns.specs.Turns.{access_text, moved_in};
+ghost use Rattle.alw_effects.specs.Pieces.{reads_text, writes_text};
+ghost use Rattle.alw_effects.specs.Before.{IsAlignedIn};
+ghost use Rattle.alw_effects.specs.Effects.{access_text, moved_in};
 
+use crate::before::Before;
 use crate::pieces::{put_reads, put_writes};
-use crate::sights::Seen;
 use alw_num::{LINE_BYTES, Line, NoMemory, lane};
 use alw_text::Text;
 use sparc_exec::{address, is_load, width};
@@ -16,12 +16,17 @@ use sparc_table::{Instr, Need};
 use sparc_text::is_store;
 
 /// What an instruction that is done read of its line as it was, and wrote of it as it is now.
-pub fn put_moved(text: &mut Text, instr: &Instr, seen: &Seen, body: &Line) -> Result<(), NoMemory>
+pub fn put_moved(
+    text: &mut Text,
+    instr: &Instr,
+    before: &Before,
+    body: &Line,
+) -> Result<(), NoMemory>
     requires fits { Fits instr.now }
-    requires aligned { IsAlignedIn seen.now.need instr.now seen.now.regs }
-    ensures { OnOk result (text.new ≡ text.old ++ moved_in seen.now.need instr.now seen.now.regs seen.now.body body.now) }
+    requires aligned { IsAlignedIn before.now.need instr.now before.now.regs }
+    ensures { OnOk result (text.new ≡ text.old ++ moved_in before.now.need instr.now before.now.regs before.now.body body.now) }
 {
-    match seen.need {
+    match before.need {
         Need::Copy { .. } => match *instr {
             Instr::Memory {
                 op3,
@@ -29,8 +34,8 @@ pub fn put_moved(text: &mut Text, instr: &Instr, seen: &Seen, body: &Line) -> Re
                 operand,
                 ..
             } => {
-                let address = address(rs1, operand, &seen.regs);
-                put_access(text, op3, address, &seen.body, body)
+                let address = address(rs1, operand, &before.regs);
+                put_access(text, op3, address, &before.body, body)
             }
             _ => Ok(()),
         },
