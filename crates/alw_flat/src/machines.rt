@@ -2,18 +2,18 @@ ghost use Rattle.std.specs.Prelude.{◌≡◌, ◌≢◌, ◌<◌, map, IfOk, Is
 ghost use Rattle.std.specs.List.{range_with_len};
 ghost use Rattle.alw_num.specs.declared.addresses.LineNo.{LineNo};
 ghost use Rattle.alw_num.specs.declared.states.Mode.{Mode};
-ghost use Rattle.alw_image.specs.Images.{context_count};
+ghost use Rattle.alw_image.specs.Images.{context_count, line_count};
 ghost use Rattle.alw_msg.specs.Statuses.{is_ready};
 ghost use Rattle.alw_model.specs.Contexts.{status_start};
 ghost use Rattle.alw_model.specs.ProcessorSteps.{status_after};
-ghost use Rattle.alw_model.specs.Flat.{flat_start, flat_turn, context_start, context_at};
+ghost use Rattle.alw_model.specs.Flat.{flat_start, flat_turn, context_start, context_at, line_at};
 ghost use Rattle.alw_flat.specs.Machines.{for_turns, word_of, IsSharedWord};
 ghost use Rattle.alw_flat.specs.Contexts.{contexts_of};
 
 use crate::memory::Memory;
 use alw_image::Image;
 use alw_msg::Status;
-use alw_num::{LINE_BYTES, LineNo, NoMemory, SHARED_BASE, Width, lane};
+use alw_num::{LINE_BYTES, Line, LineNo, NoMemory, SHARED_BASE, Width, lane};
 use sparc_exec::{Outcome, Program};
 use sparc_table::Regs;
 use std::alloc::Global;
@@ -92,6 +92,22 @@ impl Flat {
         ensures { result ≡ (context_at self.now.flat context).status }
     {
         self.contexts[context as usize].status
+    }
+
+    /// The registers of a context.
+    pub fn regs(&self, context: u32) -> Regs
+        requires { context < context_count self.now.parts }
+        ensures { result ≡ (context_at self.now.flat context).regs }
+    {
+        self.contexts[context as usize].regs
+    }
+
+    /// The value of a line of shared data.
+    pub fn line(&self, line: LineNo) -> Line
+        requires { line.0 < line_count self.now.parts }
+        ensures { result ≡ line_at self.now.flat line.0 }
+    {
+        self.memory.value(line)
     }
 
     /// The word at an address of shared data that is a multiple of 4.
