@@ -1,0 +1,13 @@
+-- The line that is needed exists.
+use Rattle.std.proofs.Common.{◌≡◌, ℕ, sym, ap, subst, ◌∙◌}
+use Rattle.sparc_table.specs.declared.outcomes.Need.{Need}
+use Rattle.alw_image.specs.Images.{line_count}
+use Rattle.alw_effects.specs.Before.{IsLineOf}
+use Rattle.alw_effects.proofs.Needs.{line_exists}
+use Rattle.alw_claims.proofs.sights.look.Goals as goal
+
+pub bytes_in-requires : goal.bytes_in-requires
+bytes_in-requires c =
+    let lines : c.lines.result ≡ line_count c.args.flat.now.parts = c.lines.ensures.count ∙ sym (ap line_count c.requires.parts) in
+    subst (λ (k : ℕ). IsLineOf k c.need-need.result) lines
+    (subst (λ (n : Need). IsLineOf c.lines.result n) (sym c.need-need.ensures) (line_exists c.words.result.now c.regs-regs.result c.lines.result))
