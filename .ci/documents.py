@@ -679,7 +679,7 @@ def rule_of(called):
     command, *options = called.split() or ['']
     writes = COMMANDS[command].writes if command in COMMANDS else None
     form = dict(zip(options[::2], options[1::2])).get('--write', writes)
-    return None if form in WITHOUT_RULE else form
+    return None if form in WITHOUT_RULE else words.OTHER.get((command, form), form)
 
 
 def texts_of(row):

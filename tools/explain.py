@@ -51,7 +51,7 @@ def of_unknown_option(word, command):
     if equals and name in names:
         return f'{shown(word)}: a value stands behind its option, as {name} {shown(value)}'
     if word.startswith('--') or not reads:
-        return f'{shown(word)}: {command} has ' + (f'the options {listed(names)}' if names else 'no options')
+        return f'{shown(word)}: {command} has ' + (f'the option{"" if len(names) == 1 else "s"} {listed(names)}' if names else 'no options')
     return f'{shown(word)}: input comes by <, as {command} < {shown(word)}'
 
 

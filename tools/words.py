@@ -31,7 +31,7 @@ TABLE = ROOT / 'tools' / 'words.json'
 
 MOST_LISTED = 16
 GREATEST = {'u64::MAX': 2**64 - 1, 'u32::MAX': 2**32 - 1}
-FORMS = {'AsmForm': 'ASM_FORMS', 'Form': 'FORMS'}
+FORMS = {'AsmForm': 'ASM_FORMS', 'AuditForm': 'AUDIT_FORMS', 'Form': 'FORMS'}
 
 # Of each text that is read or written how it begins, where that tells it from others, what it is called, and how one comes by it where it is read.
 KINDS = {
@@ -46,6 +46,7 @@ KINDS = {
     'log': ('ALEWIFE LOG', 'log', ''),
     'profile': ('{"code"', 'profile', ''),
     'verdict': ('', 'verdict', ''),
+    'claim_log': ('', 'log of a claim', ''),
     'checkpoint': ('ALEWIFE SAVE', 'checkpoint', 'save writes one'),
     'route': ('ALEWIFE ROUTE', 'load of wires', ''),
     'outcomes': ('ALEWIFE OUTCOMES', 'list of outcomes', ''),
@@ -55,7 +56,7 @@ COMMANDS = {
     'asm': ('source', 'image', 'assembles a source: its image, or a listing'),
     'run': ('image', 'report', 'runs an image: its run'),
     'replay': ('trace', 'report', 'takes the events of a trace again: the run of its events'),
-    'audit': ('claim', 'verdict', 'checks a claim on one flat memory: sound, or what differs'),
+    'audit': ('claim', 'verdict', 'checks a claim on one flat memory: sound, or what differs, or what each turn does too'),
     'gen': ('', 'image', 'draws operations for each node: the image of a workload'),
     'route': ('trace', 'route', 'carries the messages of a trace hop by hop: the load of each wire'),
     'save': ('trace', 'checkpoint', 'cuts a trace: a checkpoint at a stamp'),
@@ -63,13 +64,15 @@ COMMANDS = {
     'outcomes': ('image', 'outcomes', 'takes turns in every order on one memory: all that an image can come to'),
     'dis': ('image', 'source', 'writes an image back: its source'),
 }
+# The forms of a command that are other texts than those of their names.
+OTHER = {('audit', 'log'): 'claim_log'}
 ORDER, FORM, EVICT = 'the number that the order of events is drawn from', 'what is written', 'how often of 256 an eviction is tried'
 PHRASES = {
     'asm': {'--write': FORM},
     'run': {'--seed': ORDER, '--workers': 'workers on threads, in place of the schedule of a seed', '--pointers': 'hardware pointers of a directory entry',
             '--sets': "sets of a node's cache", '--limit': 'the greatest stamp of an event before all contexts have halted', '--evict': EVICT, '--write': FORM},
     'replay': {'--write': FORM},
-    'audit': {},
+    'audit': {'--write': FORM},
     'gen': {'--seed': 'the number that the operations are drawn from', '--width': 'columns of the mesh', '--height': 'rows of the mesh',
             '--size': 'operations of each node'},
     'route': {'--seed': 'the number that the order of hops is drawn from'},
@@ -162,7 +165,7 @@ def constant(text):
 
 def names_in(text, table):
     """The names of a table of rows."""
-    body = re.search(rf'const {table}: \[[^=]*\] = \[(.*?)\];', text, re.S)[1]
+    body = re.search(rf'const {table}: \[[^=]*\] =\s+\[(.*?)\];', text, re.S)[1]
     return tuple(re.findall(r'b"([^"]+)"', body))
 
 

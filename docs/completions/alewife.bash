@@ -23,7 +23,9 @@ _alewife() {
         replay:replay) words='--write --help' ;;
         replay:--write) words='report json trace claim summary log profile' ;;
         replay:*) words='--write' ;;
-        audit:audit) words='--help' ;;
+        audit:audit) words='--write --help' ;;
+        audit:--write) words='verdict log' ;;
+        audit:*) words='--write' ;;
         gen:gen) words='--seed --width --height --size --help' ;;
         gen:--width) words='1 2 3 4 5 6 7 8 9 10 11 12 13 14 15 16' ;;
         gen:--height) words='1 2 3 4 5 6 7 8 9 10 11 12 13 14 15 16' ;;

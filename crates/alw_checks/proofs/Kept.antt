@@ -7,6 +7,7 @@ use Rattle.alw_trace.specs.declared.faults.TextErr.TheVariants as text
 use Rattle.alw_trace.specs.Readings.{ReadsClaim}
 use Rattle.alw_trace.proofs.ReadClaims.{same_claim, claim_back}
 use Rattle.alw_audit.specs.Verdicts.{ClaimIsSound}
+use Rattle.alw_config.specs.declared.commands.AuditForm.{AuditForm}
 use Rattle.alw_endings.specs.declared.values.TrapEnd.{TrapEnd}
 use Rattle.alw_answers.specs.declared.answers.InputErr.{InputErr}
 use Rattle.alw_answers.specs.declared.answers.InputErr.TheVariants as reason
@@ -23,17 +24,19 @@ pub claim_read : (bytes : List ℕ) (c : Claim) (fault : TextErr) → SpellsClai
 claim_read bytes c fault spells refused =
     claim_back c fault spells.is spells.types (subst (λ (bs : List ℕ). ReadsClaim bs (Err fault)) spells.text refused)
 
+-- bytes spell one claim
+pub one_claim : (bytes : List ℕ) (one other : Claim) → SpellsClaim bytes one → SpellsClaim bytes other → one ≡ other
+one_claim bytes one other a b = same_claim one other a.is b.is a.types b.types (sym a.text ∙ b.text)
+
 pub sound_so : (bytes : List ℕ) (other : Claim) → IsSoundText bytes → SpellsClaim bytes other → ClaimIsSound other
-sound_so bytes other accepted spells =
-    let mine = accepted.spelled in
-    subst ClaimIsSound (same_claim accepted.claim other mine.is spells.is mine.types spells.types (sym mine.text ∙ spells.text)) accepted.sound
+sound_so bytes other accepted spells = subst ClaimIsSound (one_claim bytes accepted.claim other accepted.spelled spells) accepted.sound
 
 audit_unrefused : (bytes : List ℕ) (fault : InputErr) → IsNoClaim bytes fault → IsSoundText bytes → ⊥
 audit_unrefused bytes (reason.Text fault) refused accepted = refused.0 (claim_read bytes accepted.claim fault accepted.spelled refused.1)
 audit_unrefused bytes _ refused accepted = refused
 
-pub audit_kept : IsKept audit_task
-audit_kept = record {
+pub audit_kept : (form : AuditForm) → IsKept (audit_task form)
+audit_kept form = record {
   finished = λ bytes output made accepted. fine output.ending
       (made.text.ending_is ∙ ap ending_of_verdict (made.sound.1 (sound_so bytes made.claim accepted made.spelled)));
   unrefused = λ bytes fault refused accepted. audit_unrefused bytes fault refused accepted;

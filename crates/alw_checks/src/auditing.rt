@@ -1,23 +1,54 @@
 ghost use Rattle.std.specs.Prelude.{◌≡◌, ◌<◌, ◌^◌, ◌++◌, IfOk, OnOk};
+ghost use Rattle.std.specs.List.{AllByRecursion};
+ghost use Rattle.alw_image.specs.Images.{context_count};
 ghost use Rattle.alw_audit.specs.Verdicts.{AreWords};
-ghost use Rattle.alw_checks.specs.Auditing.{Audits, IsNoClaim, ending_of_verdict, verdict_text, place_text, print_context, values_text};
+ghost use Rattle.alw_checks.specs.Auditing.{Audits, IsNoClaim, audit_text, ending_of_verdict, told_before, verdict_text, place_text, print_context, values_text};
 ghost use Rattle.alw_answers.specs.Outputs.{Gives};
 
 use alw_answers::{Ending, Output, Refusal};
 use alw_audit::{Place, Verdict, audit};
+use alw_claims::claim_log;
+use alw_config::AuditForm;
 use alw_num::NoMemory;
 use alw_text::{Spell, Text, put_number};
-use alw_trace::read_claim;
+use alw_trace::{Claim, read_claim};
 use std::alloc::Global;
 
-/// Audits the claim that bytes spell, to its verdict.
-pub fn audit_bytes(alloc: Global, bytes: &[u8]) -> Result<Output, Refusal>
-    ensures { Gives (Audits bytes.now) (IsNoClaim bytes.now) result }
+/// Audits the claim that bytes spell, to its verdict: alone, or behind what each turn did on the flat memory.
+pub fn audit_bytes(alloc: Global, form: AuditForm, bytes: &[u8]) -> Result<Output, Refusal>
+    ensures { Gives (Audits form bytes.now) (IsNoClaim bytes.now) result }
 {
     let claim = read_claim(alloc, bytes)?;
     let verdict = audit(alloc, &claim)?;
-    let text = verdict_text(alloc, verdict)?;
+    let text = audit_text(alloc, form, &claim, verdict)?;
     Ok(Output::of_text(alloc, text, ending_of_verdict(verdict)))
+}
+
+// The line of a verdict, behind what stands before it in a form.
+fn audit_text(
+    alloc: Global,
+    form: AuditForm,
+    claim: &Claim,
+    verdict: Verdict,
+) -> Result<Text, NoMemory>
+    requires turns { AllByRecursion (λ context. context < context_count claim.now.image) claim.now.turns }
+    requires words { AreWords verdict }
+    ensures { IfOk result (λ text. text ≡ audit_text form claim.now verdict) }
+{
+    let mut text = told_before(alloc, form, claim)?;
+    put_verdict(&mut text, verdict)?;
+    Ok(text)
+}
+
+// What stands before the verdict's line.
+fn told_before(alloc: Global, form: AuditForm, claim: &Claim) -> Result<Text, NoMemory>
+    requires { AllByRecursion (λ context. context < context_count claim.now.image) claim.now.turns }
+    ensures { IfOk result (λ text. text ≡ told_before form claim.now) }
+{
+    match form {
+        AuditForm::Verdict => Ok(Text::empty(alloc)),
+        AuditForm::Log => claim_log(alloc, claim),
+    }
 }
 
 // How an audit ends by its verdict.
@@ -36,11 +67,10 @@ fn ending_of_verdict(verdict: Verdict) -> Ending
 
 // The line of a verdict.
 #[tactic(auto, unfolding(crate::specs::Auditing::sound_line))]
-fn verdict_text(alloc: Global, verdict: Verdict) -> Result<Text, NoMemory>
+fn put_verdict(text: &mut Text, verdict: Verdict) -> Result<(), NoMemory>
     requires { AreWords verdict }
-    ensures { IfOk result (λ text. text ≡ verdict_text verdict) }
+    ensures { OnOk result (text.new ≡ text.old ++ verdict_text verdict) }
 {
-    let mut text = Text::empty(alloc);
     match verdict {
         Verdict::Sound => text.put(b"sound\n")?,
         Verdict::Differs {
@@ -49,11 +79,11 @@ fn verdict_text(alloc: Global, verdict: Verdict) -> Result<Text, NoMemory>
             real,
         } => {
             text.put(b"differs ")?;
-            put_place(&mut text, place)?;
-            put_values(&mut text, claimed, real)?;
+            put_place(text, place)?;
+            put_values(text, claimed, real)?;
         }
     }
-    Ok(text)
+    Ok(())
 }
 
 // The place at which a claim differs.

@@ -13,7 +13,7 @@ each_kept (commands.Asm form) = asm_kept form
 each_kept (commands.Run (hows.Seed n) params form) = run_kept n params form
 each_kept (commands.Run (hows.Workers n) params form) = work_kept n params form
 each_kept (commands.Replay form) = replay_kept form
-each_kept commands.Audit = audit_kept
+each_kept (commands.Audit form) = audit_kept form
 each_kept (commands.Gen seed width height size) = gen_kept (record { seed = seed; width = width; height = height; size = size })
 each_kept (commands.Route seed) = route_kept
 each_kept (commands.Save at) = save_kept at

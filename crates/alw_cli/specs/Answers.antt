@@ -32,7 +32,7 @@ task_of (commands.Asm form) = asm_task form
 task_of (commands.Run (hows.Seed n) params form) = run_task n params form
 task_of (commands.Run (hows.Workers n) params form) = work_task n params form
 task_of (commands.Replay form) = replay_task form
-task_of commands.Audit = audit_task
+task_of (commands.Audit form) = audit_task form
 task_of (commands.Gen seed width height size) = gen_task (record { seed = seed; width = width; height = height; size = size })
 task_of (commands.Route seed) = route_task
 task_of (commands.Save at) = save_task at

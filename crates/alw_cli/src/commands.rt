@@ -64,7 +64,7 @@ fn make(alloc: Global, command: Command, bytes: &[u8]) -> Result<Output, Refusal
         Command::Asm { write } => assemble_source(alloc, write, bytes),
         Command::Run { how, params, write } => run_by(alloc, how, &params, write, bytes),
         Command::Replay { write } => replay_bytes(alloc, write, bytes),
-        Command::Audit => audit_bytes(alloc, bytes),
+        Command::Audit { write } => audit_bytes(alloc, write, bytes),
         Command::Gen {
             seed,
             width,

@@ -14,8 +14,7 @@ use Rattle.alw_config.specs.declared.rows.Kind.{Kind}
 use Rattle.alw_config.specs.declared.rows.Kind.TheVariants as kinds
 use Rattle.alw_config.specs.declared.rows.Value.{Value}
 use Rattle.alw_config.specs.declared.rows.Value.TheVariants as values
-use Rattle.alw_config.specs.declared.rows.TheConstants.{MOST_CHOICES}
-use Rattle.alw_config.specs.Values.{row_of, asm_forms, forms, number_if, value_of}
+use Rattle.alw_config.specs.Values.{row_of, asm_forms, audit_forms, forms, number_if, value_of}
 use Rattle.alw_config.specs.Table.{Options, options_of, defaults_of, rule_of, made_from, made}
 use Rattle.alw_config.specs.Choices.{ChoicesAreMade, HasChoices, is_of, is_allowed, ValuesAreAllowed, value_by}
 use Rattle.alw_config.proofs.Made.{made_at}
@@ -43,6 +42,7 @@ value_of_kind (kinds.Between least most) word v found =
     number_of_kind values.Number (λ n. nat_le least n && nat_le n most) word v (is_of (kinds.Between least most)) (λ n. refl) found
 value_of_kind kinds.SetCount word v found = number_of_kind values.Number (λ n. list_any (λ count. n == count) set_counts) word v (is_of kinds.SetCount) (λ n. refl) found
 value_of_kind kinds.AsmForm word v found = mapped values.AsmForm (row_of asm_forms word) v (is_of kinds.AsmForm) (λ a. refl) found
+value_of_kind kinds.AuditForm word v found = mapped values.AuditForm (row_of audit_forms word) v (is_of kinds.AuditForm) (λ a. refl) found
 value_of_kind kinds.Form word v found = mapped values.Form (row_of forms word) v (is_of kinds.Form) (λ a. refl) found
 
 -- ---- of a choice
@@ -109,7 +109,8 @@ defaults_allowed names.Run (suc (suc (suc (suc (suc zero))))) l = refl
 defaults_allowed names.Run (suc (suc (suc (suc (suc (suc k)))))) l = absurd (omega arith)
 defaults_allowed names.Replay zero l = refl
 defaults_allowed names.Replay (suc k) l = absurd (omega arith)
-defaults_allowed names.Audit k l = absurd (omega arith)
+defaults_allowed names.Audit zero l = refl
+defaults_allowed names.Audit (suc k) l = absurd (omega arith)
 defaults_allowed names.Dis k l = absurd (omega arith)
 defaults_allowed names.Gen zero l = refl
 defaults_allowed names.Gen (suc zero) l = refl
@@ -127,7 +128,7 @@ defaults_allowed names.Resume (suc (suc (suc k))) l = absurd (omega arith)
 defaults_allowed names.Outcomes zero l = refl
 defaults_allowed names.Outcomes (suc k) l = absurd (omega arith)
 
-pub few_defaults : (name : Name) → length (defaults_of name) ≤ MOST_CHOICES
+pub few_defaults : (name : Name) → length (defaults_of name) ≤ 6
 few_defaults names.Asm = omega arith
 few_defaults names.Run = omega arith
 few_defaults names.Replay = omega arith

@@ -5,6 +5,7 @@ use Rattle.std.specs.Fmt.{digits}
 use Rattle.alw_config.specs.declared.commands.Command.TheVariants.{Asm, Run, Replay, Audit, Gen, Route, Save, Resume, Outcomes, Dis}
 use Rattle.alw_config.specs.declared.commands.How.TheVariants.{Seed, Workers}
 use Rattle.alw_config.specs.declared.commands.AsmForm.TheVariants.{Image, Listing}
+use Rattle.alw_config.specs.declared.commands.AuditForm.TheVariants as audits
 use Rattle.alw_config.specs.declared.commands.Form.TheVariants.{Report, Claim, Log, Profile}
 use Rattle.alw_config.specs.Places.{IsFirstPlace, IsRefusedAt, is_bad, asked, misfit_in}
 
@@ -88,8 +89,14 @@ evictions = (refl, refl)
 replayed : asked (codes "replay" ∷ codes "--write" ∷ codes "claim" ∷ []) ≡ Some (Replay Claim)
 replayed = refl
 
-audited : asked (codes "audit" ∷ []) ≡ Some Audit
+audited : asked (codes "audit" ∷ []) ≡ Some (Audit audits.Verdict)
 audited = refl
+
+read_aloud : asked (codes "audit" ∷ codes "--write" ∷ codes "log" ∷ []) ≡ Some (Audit audits.Log)
+read_aloud = refl
+
+no_report : is_bad (codes "audit" ∷ codes "--write" ∷ codes "report" ∷ []) 2 ≡ true
+no_report = refl
 
 read_back : asked (codes "dis" ∷ []) ≡ Some Dis
 read_back = refl

@@ -7,7 +7,6 @@ use Rattle.alw_config.specs.declared.rows.Made.{Made}
 use Rattle.alw_config.specs.declared.rows.Name.{Name}
 use Rattle.alw_config.specs.declared.rows.Rule.{Rule}
 use Rattle.alw_config.specs.declared.rows.Value.{Value}
-use Rattle.alw_config.specs.declared.rows.TheConstants.{MOST_CHOICES}
 use Rattle.alw_config.specs.Values.{row_of}
 use Rattle.alw_config.specs.Table.{Options, commands, options_of, defaults_of, rule_of, misfit, values_from, command_of}
 use Rattle.alw_config.specs.Places.{PlacesAreRight, IsFirstPlace, IsRefusedAt, IsRefusedBehind, IsCommand, is_bad, is_bad_option, misfit_in}
@@ -51,7 +50,7 @@ module _ (word : List ℕ) (rest : List (List ℕ)) (name : Name) (known : row_o
 
 -- the choices as the program holds them are those of the words
 values_are : (options : Options) (words : List (List ℕ)) (chosen : List (Option Made)) (k : ℕ) (defaults : List Value) → ChoicesAreMade options words chosen →
-    k + length defaults ≤ MOST_CHOICES
+    k + length defaults ≤ 6
     → values_from k options defaults words ≡ values_by k chosen defaults
 values_are options words chosen k [] all few = refl
 values_are options words chosen k (default ∷ rest) all few =

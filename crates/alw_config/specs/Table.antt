@@ -6,13 +6,14 @@ use Rattle.std.specs.Option.{option_map_or}
 use Rattle.alw_config.specs.declared.commands.Command.{Command}
 use Rattle.alw_config.specs.declared.commands.Command.TheVariants as command
 use Rattle.alw_config.specs.declared.rows.Value.{Value}
-use Rattle.alw_config.specs.declared.rows.Value.TheVariants.{Number, How, AsmForm, Form}
+use Rattle.alw_config.specs.declared.rows.Value.TheVariants.{Number, How, AsmForm, AuditForm, Form}
 use Rattle.alw_config.specs.declared.rows.Name.{Name}
 use Rattle.alw_config.specs.declared.rows.Name.TheVariants.{Asm, Run, Replay, Audit, Gen, Route, Save, Resume, Outcomes, Dis}
 use Rattle.alw_config.specs.declared.rows.Kind.{Kind}
 use Rattle.alw_config.specs.declared.rows.Kind.TheVariants as kinds
 use Rattle.alw_config.specs.declared.commands.How.TheVariants as hows
 use Rattle.alw_config.specs.declared.commands.AsmForm.TheVariants as asms
+use Rattle.alw_config.specs.declared.commands.AuditForm.TheVariants as audits
 use Rattle.alw_config.specs.declared.commands.Form.TheVariants as forms
 use Rattle.alw_config.specs.declared.rows.Meaning.{Meaning}
 use Rattle.alw_config.specs.declared.rows.Made.{Made}
@@ -41,7 +42,7 @@ options_of Run =
     (codes "--sets", makes_by 2 kinds.SetCount) ∷ (codes "--limit", makes_by 3 (kinds.Between 1 1048576)) ∷ (codes "--evict", makes_by 4 (kinds.Between 0 255)) ∷
     (codes "--write", makes_by 5 kinds.Form) ∷ []
 options_of Replay = (codes "--write", makes_by 0 kinds.Form) ∷ []
-options_of Audit = []
+options_of Audit = (codes "--write", makes_by 0 kinds.AuditForm) ∷ []
 options_of Dis = []
 options_of Gen =
     (codes "--seed", makes_by 0 (kinds.Between 0 18446744073709551615)) ∷ (codes "--width", makes_by 1 (kinds.Between 1 16)) ∷
@@ -56,7 +57,7 @@ abbrev pub defaults_of : Name → List Value
 defaults_of Asm = AsmForm asms.Image ∷ []
 defaults_of Run = How (hows.Seed 0) ∷ Number 4 ∷ Number 256 ∷ Number 32768 ∷ Number 0 ∷ Form forms.Report ∷ []
 defaults_of Replay = Form forms.Report ∷ []
-defaults_of Audit = []
+defaults_of Audit = AuditForm audits.Verdict ∷ []
 defaults_of Dis = []
 defaults_of Gen = Number 0 ∷ Number 4 ∷ Number 4 ∷ Number 16 ∷ []
 defaults_of Route = Number 0 ∷ []
@@ -129,7 +130,7 @@ command_of Asm (AsmForm write ∷ []) = Some (command.Asm write)
 command_of Run (How how ∷ Number pointers ∷ Number sets ∷ Number limit ∷ Number evict ∷ Form write ∷ []) =
     Some (command.Run how (record { pointers = pointers; sets = sets; limit = limit; evict = evict }) write)
 command_of Replay (Form write ∷ []) = Some (command.Replay write)
-command_of Audit [] = Some command.Audit
+command_of Audit (AuditForm write ∷ []) = Some (command.Audit write)
 command_of Dis [] = Some command.Dis
 command_of Gen (Number seed ∷ Number width ∷ Number height ∷ Number size ∷ []) = Some (command.Gen seed width height size)
 command_of Route (Number seed ∷ []) = Some (command.Route seed)

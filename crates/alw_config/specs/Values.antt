@@ -4,6 +4,7 @@ use Rattle.std.specs.List.{list_any}
 use Rattle.std.specs.Str.Parse.{digits_value}
 use Rattle.alw_image.specs.Parameters.{set_counts}
 use Rattle.alw_config.specs.declared.commands.AsmForm.{AsmForm}
+use Rattle.alw_config.specs.declared.commands.AuditForm.{AuditForm}
 use Rattle.alw_config.specs.declared.commands.Form.{Form}
 use Rattle.alw_config.specs.declared.commands.How.TheVariants as hows
 use Rattle.alw_config.specs.declared.rows.Value.{Value}
@@ -11,6 +12,7 @@ use Rattle.alw_config.specs.declared.rows.Value.TheVariants as values
 use Rattle.alw_config.specs.declared.rows.Kind.{Kind}
 use Rattle.alw_config.specs.declared.rows.Kind.TheVariants as kinds
 use Rattle.alw_config.specs.declared.commands.AsmForm.TheVariants as asms
+use Rattle.alw_config.specs.declared.commands.AuditForm.TheVariants as audits
 use Rattle.alw_config.specs.declared.commands.Form.TheVariants as runs
 
 -- what a name stands for in a table: by the first row that has it
@@ -21,6 +23,9 @@ row_of (row ∷ rest) name = if bytes_eq row.0 name then Some row.1 else row_of 
 -- what is written
 abbrev pub asm_forms : List (List ℕ × AsmForm)
 asm_forms = (codes "image", asms.Image) ∷ (codes "listing", asms.Listing) ∷ []
+
+abbrev pub audit_forms : List (List ℕ × AuditForm)
+audit_forms = (codes "verdict", audits.Verdict) ∷ (codes "log", audits.Log) ∷ []
 
 abbrev pub forms : List (List ℕ × Form)
 forms = (codes "report", runs.Report) ∷ (codes "json", runs.Json) ∷ (codes "trace", runs.Trace) ∷ (codes "claim", runs.Claim) ∷ (codes "summary", runs.Summary) ∷ (codes "log", runs.Log) ∷ (codes "profile", runs.Profile) ∷ []
@@ -44,4 +49,5 @@ value_of kinds.Workers word = option_map (λ n. values.How (hows.Workers n)) (nu
 value_of (kinds.Between least most) word = option_map values.Number (number_if (λ n. nat_le least n && nat_le n most) word)
 value_of kinds.SetCount word = option_map values.Number (number_if (λ n. list_any (λ count. n == count) set_counts) word)
 value_of kinds.AsmForm word = option_map values.AsmForm (row_of asm_forms word)
+value_of kinds.AuditForm word = option_map values.AuditForm (row_of audit_forms word)
 value_of kinds.Form word = option_map values.Form (row_of forms word)

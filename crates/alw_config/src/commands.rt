@@ -20,7 +20,9 @@ pub enum Command {
         write: Form,
     },
     /// Checks a claim on the flat machine.
-    Audit,
+    Audit {
+        write: AuditForm,
+    },
     /// Makes the workload of a seed: a mesh of so many columns and rows, and `size` operations on each node.
     Gen {
         seed: u64,
@@ -55,6 +57,15 @@ pub enum Command {
 pub enum AsmForm {
     Image,
     Listing,
+}
+
+/// What an audit is written as.
+#[derive(Clone, Copy, Debug, PartialEq, Eq)]
+pub enum AuditForm {
+    /// Whether the claim is sound, or where it differs.
+    Verdict,
+    /// What each turn did, a line a turn, and then the verdict.
+    Log,
 }
 
 /// What the order of a run's events is chosen by.

@@ -2,15 +2,16 @@ ghost use Rattle.std.specs.Prelude.{◌≡◌, ◌<◌, ◌≤◌, length, map, 
 ghost use Rattle.alw_config.specs.declared.rows.Value.TheVariants as values;
 ghost use Rattle.alw_config.specs.Table.{options_of, defaults_of, rule_of, number_in, command_of};
 ghost use Rattle.alw_config.specs.Places.{IsRefusedBehind};
-ghost use Rattle.alw_config.specs.Choices.{HavePlaces, ChoicesAreMade, ValuesAreAllowed, CommandIsWithin, is_allowed, value_by, values_by, misfit_by, IsNumber, IsHow, IsAsmForm, IsForm};
+ghost use Rattle.alw_config.specs.Choices.{HavePlaces, ChoicesAreMade, ValuesAreAllowed, CommandIsWithin, is_allowed, value_by, values_by, misfit_by, IsNumber, IsHow, IsAsmForm, IsAuditForm, IsForm};
 
-use crate::commands::{AsmForm, Command, Form, How, WordErr};
+use crate::commands::{AsmForm, AuditForm, Command, Form, How, WordErr};
 use crate::lookups::row_of;
 use crate::rows::{
-    ASM_DEFAULTS, ASM_OPTIONS, GEN_DEFAULTS, GEN_OPTIONS, GEN_RULE, MOST_CHOICES, Made, Meaning,
-    NO_DEFAULTS, NO_OPTIONS, Name, OUTCOMES_DEFAULTS, OUTCOMES_OPTIONS, REPLAY_DEFAULTS,
-    REPLAY_OPTIONS, RESUME_DEFAULTS, RESUME_OPTIONS, ROUTE_DEFAULTS, ROUTE_OPTIONS, RUN_DEFAULTS,
-    RUN_OPTIONS, Row, Rule, SAVE_DEFAULTS, SAVE_OPTIONS, Value,
+    ASM_DEFAULTS, ASM_OPTIONS, AUDIT_DEFAULTS, AUDIT_OPTIONS, GEN_DEFAULTS, GEN_OPTIONS, GEN_RULE,
+    MOST_CHOICES, Made, Meaning, NO_DEFAULTS, NO_OPTIONS, Name, OUTCOMES_DEFAULTS,
+    OUTCOMES_OPTIONS, REPLAY_DEFAULTS, REPLAY_OPTIONS, RESUME_DEFAULTS, RESUME_OPTIONS,
+    ROUTE_DEFAULTS, ROUTE_OPTIONS, RUN_DEFAULTS, RUN_OPTIONS, Row, Rule, SAVE_DEFAULTS,
+    SAVE_OPTIONS, Value,
 };
 use alw_image::Params;
 
@@ -53,7 +54,7 @@ pub(crate) fn chosen(options: &[Row<Meaning>], words: &[String]) -> Result<Chose
 // What makes a choice: an option's value, or else the default.
 fn value_of(chosen: &Chosen, defaults: &[Value], choice: usize) -> Value
     requires choice { choice < length defaults.now }
-    requires few { length defaults.now ≤ MOST_CHOICES }
+    requires few { length defaults.now ≤ 6 }
     ensures { result ≡ value_by chosen.now defaults.now choice }
 {
     match chosen[choice] {
@@ -68,7 +69,7 @@ impl Rule {
         requires one { self.one < length defaults.now }
         requires other { self.other < length defaults.now }
         requires third { self.third < length defaults.now }
-        requires few { length defaults.now ≤ MOST_CHOICES }
+        requires few { length defaults.now ≤ 6 }
         ensures { result ≡ misfit_by self chosen.now defaults.now }
     {
         let one = value_of(chosen, defaults, self.one).number_or_zero();
@@ -91,7 +92,7 @@ impl Name {
             Name::Asm => &ASM_OPTIONS,
             Name::Run => &RUN_OPTIONS,
             Name::Replay => &REPLAY_OPTIONS,
-            Name::Audit => &NO_OPTIONS,
+            Name::Audit => &AUDIT_OPTIONS,
             Name::Gen => &GEN_OPTIONS,
             Name::Route => &ROUTE_OPTIONS,
             Name::Save => &SAVE_OPTIONS,
@@ -104,13 +105,13 @@ impl Name {
     // The command's choices where no option makes them.
     pub(crate) fn defaults(self) -> &'static [Value]
         ensures defaults { result.now ≡ defaults_of self }
-        ensures few { length result.now ≤ MOST_CHOICES }
+        ensures few { length result.now ≤ 6 }
     {
         match self {
             Name::Asm => &ASM_DEFAULTS,
             Name::Run => &RUN_DEFAULTS,
             Name::Replay => &REPLAY_DEFAULTS,
-            Name::Audit => &NO_DEFAULTS,
+            Name::Audit => &AUDIT_DEFAULTS,
             Name::Gen => &GEN_DEFAULTS,
             Name::Route => &ROUTE_DEFAULTS,
             Name::Save => &SAVE_DEFAULTS,
@@ -171,7 +172,9 @@ impl Name {
             Name::Replay => Command::Replay {
                 write: self.value(chosen, 0).form(),
             },
-            Name::Audit => Command::Audit,
+            Name::Audit => Command::Audit {
+                write: self.value(chosen, 0).audit_form(),
+            },
             Name::Dis => Command::Dis,
             Name::Gen => Command::Gen {
                 seed: self.value(chosen, 0).number(),
@@ -237,6 +240,17 @@ impl Value {
     {
         match self {
             Value::AsmForm(form) => form,
+            _ => unreachable!(),
+        }
+    }
+
+    // The form of an audit that it is.
+    fn audit_form(self) -> AuditForm
+        requires { IsAuditForm self }
+        ensures { self ≡ values.AuditForm result }
+    {
+        match self {
+            Value::AuditForm(form) => form,
             _ => unreachable!(),
         }
     }

@@ -1,6 +1,6 @@
 //! The tables of command words: each row is a name, and what it stands for. The definitions have them as literals.
 
-use crate::commands::{AsmForm, Form, How};
+use crate::commands::{AsmForm, AuditForm, Form, How};
 use alw_image::{MOST_LIMIT, MOST_POINTERS};
 
 // A row of a table: a name, and what it stands for.
@@ -42,6 +42,8 @@ pub(crate) enum Kind {
     SetCount,
     // The names of `ASM_FORMS`.
     AsmForm,
+    // The names of `AUDIT_FORMS`.
+    AuditForm,
     // The names of `FORMS`.
     Form,
 }
@@ -52,6 +54,7 @@ pub(crate) enum Value {
     Number(u64),
     How(How),
     AsmForm(AsmForm),
+    AuditForm(AuditForm),
     Form(Form),
 }
 
@@ -94,6 +97,12 @@ pub(crate) const COMMANDS: [Row<Name>; 10] = [
 pub(crate) const ASM_FORMS: [Row<AsmForm>; 2] = [
     (b"image", AsmForm::Image),
     (b"listing", AsmForm::Listing),
+];
+
+// What an audit is written as.
+pub(crate) const AUDIT_FORMS: [Row<AuditForm>; 2] = [
+    (b"verdict", AuditForm::Verdict),
+    (b"log", AuditForm::Log),
 ];
 
 // What a run is written as.
@@ -194,7 +203,18 @@ pub(crate) const REPLAY_OPTIONS: [Row<Meaning>; 1] = [(
 // What `replay` chooses where no option does.
 pub(crate) const REPLAY_DEFAULTS: [Value; 1] = [Value::Form(Form::Report)];
 
-// The options of `audit` and `dis`, and what they choose: there are none.
+// The options of `audit`, and what it chooses where no option does.
+pub(crate) const AUDIT_OPTIONS: [Row<Meaning>; 1] = [(
+    b"--write",
+    Meaning {
+        choice: 0,
+        kind: Kind::AuditForm,
+    },
+)];
+
+pub(crate) const AUDIT_DEFAULTS: [Value; 1] = [Value::AuditForm(AuditForm::Verdict)];
+
+// The options of `dis`, and what it chooses: there are none.
 pub(crate) const NO_OPTIONS: [Row<Meaning>; 0] = [];
 
 pub(crate) const NO_DEFAULTS: [Value; 0] = [];

@@ -3,6 +3,7 @@ ghost use Rattle.alw_msg.specs.declared.events.Entry.{Entry};
 ghost use Rattle.alw_image.specs.declared.parts.Parts.{Parts};
 ghost use Rattle.alw_image.specs.Parameters.{Parameters};
 ghost use Rattle.alw_model.specs.declared.ends.Ended.{Ended};
+ghost use Rattle.alw_audit.specs.Claims.{claim_of};
 ghost use Rattle.alw_trace.specs.Texts.{trace_text};
 ghost use Rattle.alw_config.specs.declared.commands.Form.TheVariants as forms;
 ghost use Rattle.law_order.specs.Orders.{kept_by};
@@ -21,13 +22,14 @@ ghost use Rattle.alw_answers.specs.Limits.{most_input};
 ghost use Rattle.alw_answers.specs.Outputs.{Gives};
 ghost use Rattle.alw_builds.specs.Assembling.{Assembles, asm_task};
 ghost use Rattle.alw_builds.specs.ReadingBack.{ReadsBack};
-ghost use Rattle.alw_checks.specs.Auditing.{Audits, IsNoClaim, FindsSound, IsSoundText};
+ghost use Rattle.alw_checks.specs.Auditing.{Audits, IsNoClaim, FindsSound, IsSoundText, told_before};
 ghost use Rattle.alw_runs.specs.Forms.{run_text, IsTold};
 ghost use Rattle.alw_runs.specs.Replaying.{IsFinishedText, IsRunThatFits, Replays, ReportsTheSame, trace_of};
 ghost use Rattle.alw_runs.specs.Resuming.{IsSomeCheckpoint};
 ghost use Rattle.alw_image.specs.Faults.{image_in};
 ghost use Rattle.alw_model.specs.declared.ends.Ended.TheVariants.{Halted};
 ghost use Rattle.alw_report.specs.Reports.{told_of};
+ghost use Rattle.alw_config.specs.declared.commands.AuditForm.{AuditForm};
 ghost use Rattle.alw_config.specs.declared.commands.Form.{Form};
 ghost use Rattle.alw_answers.specs.declared.outputs.Ending.TheVariants.{Fine};
 ghost use Rattle.alw_endings.specs.Schedules.{TellsEveryRun};
@@ -45,13 +47,15 @@ pub fn traces_report_the_same()
 
 /// What a run claims is found sound. The claim that `run` or `replay` writes of a run of an image that fits
 /// is a claim's one text, with at most 8,388,608 turns, and an audit of it that is carried out answers
-/// `sound`: it names no difference, and refuses nothing but for want of memory.
+/// `sound`: it names no difference, and refuses nothing but for want of memory. In the form `log` this stands behind the log
+/// of the run's turns on the flat memory.
 pub fn claims_are_found_sound()
     ensures accepted { (image : Parts) → (parameters : Parameters) → (journal : List Entry) → (ended : Ended) → IsRunThatFits image parameters journal ended →
         IsSoundText (run_text forms.Claim image parameters journal ended) }
     ensures sound { (image : Parts) → (parameters : Parameters) → (journal : List Entry) → (ended : Ended) → IsRunThatFits image parameters journal ended →
-        (result : Result Output Refusal) → Gives (Audits (run_text forms.Claim image parameters journal ended)) (IsNoClaim (run_text forms.Claim image parameters journal ended)) result →
-        FindsSound result }
+        (form : AuditForm) → (result : Result Output Refusal) →
+        Gives (Audits form (run_text forms.Claim image parameters journal ended)) (IsNoClaim (run_text forms.Claim image parameters journal ended)) result →
+        FindsSound (told_before form (claim_of image parameters journal)) result }
 {}
 
 /// What `save` writes is a checkpoint that `resume` takes, however often evictions are then tried; and a checkpoint
