@@ -144,6 +144,15 @@ module _ {X : Type 0} where
   each_push P (first ∷ rest) x each is zero y at = each zero y at
   each_push P (first ∷ rest) x each is (suc k) y at = each_push (λ j. P (suc j)) rest x (λ j z there. each (suc j) z there) is k y at
 
+-- each member from a place on
+abbrev pub EachFrom : {X : Type 0} → (ℕ → X → Type 0) → ℕ → List X → Type 0
+EachFrom {X = X} P least xs = EachAt (λ k (x : X). least ≤ k → P k x) xs
+
+-- the first of them is another
+pub each_given : {X : Type 0} (P : ℕ → X → Type 0) (n : ℕ) (xs : List X) (x : X) → EachFrom P n xs → EachFrom P (n + 1) (slice_set xs n x)
+each_given {X = X} P n xs x each =
+    each_set (λ k (y : X). n + 1 ≤ k → P k y) xs n x (λ k y at more. each k y at (omega (arith, more))) (λ more. absurd (omega (arith, more)))
+
 -- ---- cells behind locks
 
 pub record AreSoFar (parts : Parts) (parameters : Parameters) (cells : List Cell) (trapped : Bool) : Type 0 where

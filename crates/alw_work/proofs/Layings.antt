@@ -11,8 +11,8 @@ use Rattle.alw_ruled.specs.Ends.{LinkName, sender_at_start, receiver_at_start}
 use Rattle.alw_work.specs.declared.ends.Out.{Out}
 use Rattle.alw_work.specs.declared.ends.In.{In}
 use Rattle.alw_work.specs.Seats.{EachAt, came_of}
-use Rattle.alw_work.specs.Ties.{given, all_carried, IsNewOut, IsNewIn, AreNewOuts, AreNewIns, LinksAreColumns, Keeps, AreTiedOuts, AreTiedIns}
-use Rattle.alw_work.proofs.Finishing.{get_last, get_left, get_within, set_length, at_place, each_set, each_none, each_push, none_come}
+use Rattle.alw_work.specs.Ties.{given, all_carried, FitsOut, FitsIn, IsNewOut, IsNewIn, AreNewOuts, RowsAreNew, LinksAreColumns, Keeps, AreTiedOuts, AreTiedIns}
+use Rattle.alw_work.proofs.Finishing.{EachFrom, get_last, get_left, get_within, set_length, at_place, each_set, each_none, each_push, none_come}
 
 -- ---- a link more
 
@@ -84,11 +84,11 @@ columns_turn links nodes from ins are = record {
 }
 
 pub rows_next : (before after : List LinkName) (nodes from : ℕ) (outs : List (Vec Out)) (row : Vec Out) → Keeps before after → from ≡ length outs
-    → EachAt (IsNewOut after nodes from) row.items → AreNewOuts before nodes outs → AreNewOuts after nodes (outs ++ row ∷ [])
+    → AreNewOuts after nodes from row.items → RowsAreNew before nodes outs → RowsAreNew after nodes (outs ++ row ∷ [])
 rows_next before after nodes from outs row keeps here new each =
-    each_push (λ number (r : Vec Out). EachAt (IsNewOut after nodes number) r.items) outs row
-    (λ number r at. outs_keep before after nodes number r.items keeps (each number r at))
-    (subst (λ (k : ℕ). EachAt (IsNewOut after nodes k) row.items) here new)
+    each_push (λ number (r : Vec Out). AreNewOuts after nodes number r.items) outs row
+    (λ number r at. let old = each number r at in record { count = old.count; each = outs_keep before after nodes number r.items keeps old.each })
+    (subst (λ (k : ℕ). AreNewOuts after nodes k row.items) here new)
 
 pub columns_start : (nodes : ℕ) (ins : List (Vec In)) → length ins ≡ nodes → EachAt (λ number (column : Vec In). column.items ≡ []) ins
     → LinksAreColumns [] nodes 0 0 ins
@@ -101,20 +101,36 @@ columns_start nodes ins count empty = record {
 
 -- ---- the ends are handed out
 
+-- the ends of a node are new
+abbrev pub RowIsNew : List LinkName → ℕ → ℕ → Vec Out → Type 0
+RowIsNew links nodes number row = AreNewOuts links nodes number row.items
+
+abbrev pub ColumnIsNew : List LinkName → ℕ → ℕ → Vec In → Type 0
+ColumnIsNew links nodes number column = (length column.items ≡ nodes) × EachAt (IsNewIn links nodes number) column.items
+
+pub rows_at_start : (links : List LinkName) (nodes : ℕ) (outs : List (Vec Out)) → RowsAreNew links nodes outs → EachFrom (RowIsNew links nodes) 0 outs
+rows_at_start links nodes outs new k row at _ = new k row at
+
+pub columns_at_start : (links : List LinkName) (nodes : ℕ) (ins : List (Vec In)) → LinksAreColumns links nodes nodes 0 ins
+    → EachFrom (ColumnIsNew links nodes) 0 ins
+columns_at_start links nodes ins are k column at least = (are.above k column at least, are.each k column at)
+
 pub outs_start : (links : List LinkName) (nodes number : ℕ) (parts : Parts) (parameters : Parameters) (cell : Cell) (outs : List Out)
     → cell ≡ cell_start parts parameters number
-    → EachAt (IsNewOut links nodes number) outs → AreTiedOuts links nodes number cell outs
-outs_start links nodes number parts parameters cell outs is each = subst (λ (c : Cell). AreTiedOuts links nodes number c outs) (sym is) at_start
+    → AreNewOuts links nodes number outs → AreTiedOuts links nodes number cell outs
+outs_start links nodes number parts parameters cell outs is new =
+    record { count = new.count; each = subst (λ (c : Cell). EachAt (FitsOut links nodes number c) outs) (sym is) at_start }
   where
-    at_start : AreTiedOuts links nodes number (cell_start parts parameters number) outs
-    at_start k out at = record { name = (each k out at).name; words = ap (λ (xs : List Msg). xs ++ []) (each k out at).empty }
+    at_start : EachAt (FitsOut links nodes number (cell_start parts parameters number)) outs
+    at_start k out at = let end = new.each k out at in record { name = end.name; words = ap (λ (xs : List Msg). xs ++ []) end.empty }
 
 pub ins_start : (links : List LinkName) (nodes number : ℕ) (parts : Parts) (parameters : Parameters) (cell : Cell) (ins : List In)
     → cell ≡ cell_start parts parameters number
-    → EachAt (IsNewIn links nodes number) ins → AreTiedIns links nodes number cell ins
-ins_start links nodes number parts parameters cell ins is each = subst (λ (c : Cell). AreTiedIns links nodes number c ins) (sym is) at_start
+    → length ins ≡ nodes → EachAt (IsNewIn links nodes number) ins → AreTiedIns links nodes number cell ins
+ins_start links nodes number parts parameters cell ins is count each =
+    record { count = count; each = subst (λ (c : Cell). EachAt (FitsIn links nodes number c) ins) (sym is) at_start }
   where
-    at_start : AreTiedIns links nodes number (cell_start parts parameters number) ins
+    at_start : EachAt (FitsIn links nodes number (cell_start parts parameters number)) ins
     at_start k come at =
         let new = each k come at in
         record {

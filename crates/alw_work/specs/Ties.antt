@@ -29,12 +29,14 @@ pub record FitsIn (links : List LinkName) (nodes number : ℕ) (cell : Cell) (fr
   pub name : slice_get links (from * nodes + number) ≡ Some come.end.link
   pub words : all_carried come.end.popped ≡ came_of cell from ++ all_carried (option_to_list come.kept)
 
--- all ends of a node
-abbrev pub AreTiedOuts : List LinkName → ℕ → ℕ → Cell → List Out → Type 0
-AreTiedOuts links nodes number cell outs = EachAt (FitsOut links nodes number cell) outs
+-- all ends of a node: one for each node, in order, and each is tied to the log
+pub record AreTiedOuts (links : List LinkName) (nodes number : ℕ) (cell : Cell) (outs : List Out) : Type 0 where
+  pub count : length outs ≡ nodes
+  pub each : EachAt (FitsOut links nodes number cell) outs
 
-abbrev pub AreTiedIns : List LinkName → ℕ → ℕ → Cell → List In → Type 0
-AreTiedIns links nodes number cell ins = EachAt (FitsIn links nodes number cell) ins
+pub record AreTiedIns (links : List LinkName) (nodes number : ℕ) (cell : Cell) (ins : List In) : Type 0 where
+  pub count : length ins ≡ nodes
+  pub each : EachAt (FitsIn links nodes number cell) ins
 
 -- ---- moves
 
@@ -100,18 +102,19 @@ pub record IsNewIn (links : List LinkName) (nodes number : ℕ) (from : ℕ) (co
   pub name : slice_get links (from * nodes + number) ≡ Some come.end.link
   pub empty : (come.end.popped ≡ []) × (come.kept ≡ None)
 
+-- the sender's ends of a node, one for each node
+pub record AreNewOuts (links : List LinkName) (nodes number : ℕ) (row : List Out) : Type 0 where
+  pub count : length row ≡ nodes
+  pub each : EachAt (IsNewOut links nodes number) row
+
 -- the sender's ends of all nodes
-abbrev pub AreNewOuts : List LinkName → ℕ → List (Vec Out) → Type 0
-AreNewOuts links nodes outs = EachAt (λ number (row : Vec Out). EachAt (IsNewOut links nodes number) row.items) outs
+abbrev pub RowsAreNew : List LinkName → ℕ → List (Vec Out) → Type 0
+RowsAreNew links nodes outs = EachAt (λ number (row : Vec Out). AreNewOuts links nodes number row.items) outs
 
--- the receiver's ends of all nodes
-abbrev pub AreNewIns : List LinkName → ℕ → List (Vec In) → Type 0
-AreNewIns links nodes ins = EachAt (λ number (column : Vec In). EachAt (IsNewIn links nodes number) column.items) ins
-
--- the same, from the first so many of them, and of the first `to` nodes from one more
+-- the receiver's ends of all nodes, from the first so many of them, and of the first `to` nodes from one more
 pub record LinksAreColumns (links : List LinkName) (nodes from to : ℕ) (ins : List (Vec In)) : Type 0 where
   pub count : length ins ≡ nodes
-  pub each : AreNewIns links nodes ins
+  pub each : EachAt (λ number (column : Vec In). EachAt (IsNewIn links nodes number) column.items) ins
   pub below : (number : ℕ) (column : Vec In) → slice_get ins number ≡ Some column → number < to → length column.items ≡ from + 1
   pub above : (number : ℕ) (column : Vec In) → slice_get ins number ≡ Some column → to ≤ number → length column.items ≡ from
 
@@ -123,14 +126,14 @@ Keeps before after = (place : ℕ) (link : LinkName) → slice_get before place 
 pub record LaysRow (nodes from : ℕ) (before after : List LinkName) (row : List Out) (ins : List (Vec In)) : Type 0 where
   pub keeps : Keeps before after
   pub count : length after ≡ from * nodes + nodes
-  pub row_is : EachAt (IsNewOut after nodes from) row
+  pub row_is : AreNewOuts after nodes from row
   pub ins_are : LinksAreColumns after nodes (from + 1) 0 ins
 
 -- all links and their ends
 pub record LinksAreLaid (nodes : ℕ) (laid : Laid) : Type 0 where
   pub links : length laid.links.items ≡ nodes * nodes
   pub rows : length laid.outs.items ≡ nodes
-  pub outs : AreNewOuts laid.links.items nodes laid.outs.items
+  pub outs : RowsAreNew laid.links.items nodes laid.outs.items
   pub ins : LinksAreColumns laid.links.items nodes nodes 0 laid.ins.items
 
 -- ---- what locks leave
@@ -138,10 +141,10 @@ pub record LinksAreLaid (nodes : ℕ) (laid : Laid) : Type 0 where
 abbrev pub cells_in : List Left → List Cell
 cells_in lefts = map (λ (left : Left). left.cell) lefts
 
--- the ends of a node are tied to its log
+-- the ends that are left of a node are tied to its log
 pub record IsTied (links : List LinkName) (nodes number : ℕ) (left : Left) : Type 0 where
-  pub outs : AreTiedOuts links nodes number left.cell left.outs.items
-  pub ins : AreTiedIns links nodes number left.cell left.ins.items
+  pub outs : EachAt (FitsOut links nodes number left.cell) left.outs.items
+  pub ins : EachAt (FitsIn links nodes number left.cell) left.ins.items
 
 abbrev pub EndsAreTied : List LinkName → ℕ → List Left → Type 0
 EndsAreTied links nodes lefts = EachAt (IsTied links nodes) lefts

@@ -56,7 +56,7 @@ fn fetch_at<R: Wait>(
     ensures tied { AreTiedIns links.now nodes number.0 cell.new ins.new.items }
 {
     let at = usize::from(from.0);
-    if from.0 >= nodes || at >= ins.len() {
+    if from.0 >= nodes {
         return Ok(false);
     }
     let Some(link) = links.get(at * usize::from(nodes) + usize::from(number.0)) else {

@@ -3,7 +3,7 @@ ghost use Rattle.alw_image.specs.Images.{node_count};
 ghost use Rattle.alw_cells.specs.Logs.{logged};
 ghost use Rattle.alw_cells.specs.Leaving.{LogsAreWorked};
 ghost use Rattle.alw_work.specs.Works.{AreSpent, WorkIsLeft};
-ghost use Rattle.alw_work.specs.Ties.{AreNewOuts, AreNewIns, LinksAreLaid};
+ghost use Rattle.alw_work.specs.Ties.{RowsAreNew, LinksAreColumns, LinksAreLaid};
 
 use crate::cells::{finish_all, split_all, start_all};
 use crate::closing::{cells_of, close_all, gather};
@@ -76,9 +76,8 @@ fn start_seats<I: Naming>(
     requires image { image.now ≡ I.image }
     requires parameters { params.now ≡ I.parameters }
     requires rows { length outs.items ≡ node_count image.now }
-    requires outs { AreNewOuts I.links (node_count image.now) outs.items }
-    requires ins { AreNewIns I.links (node_count image.now) ins.items }
-    requires columns { length ins.items ≡ node_count image.now }
+    requires outs { RowsAreNew I.links (node_count image.now) outs.items }
+    requires ins { LinksAreColumns I.links (node_count image.now) (node_count image.now) 0 ins.items }
 {
     let program = Arc::new(alloc, Program::of(alloc, image.code())?)?;
     let nodes = image.nodes();

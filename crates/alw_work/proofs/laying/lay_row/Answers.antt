@@ -35,7 +35,7 @@ returns g c =
     record {
       keeps = was.keeps;
       count = was.count ∙ ap (λ k. c.args.from * c.args.nodes + k) all;
-      row_is = was.row_is;
+      row_is = record { count = was.many ∙ all; each = was.row_is };
       ins_are = columns_turn c.loop-to.links.items c.args.nodes c.args.from c.loop-to.ins.items
           (subst (λ k. LinksAreColumns c.loop-to.links.items c.args.nodes c.args.from k c.loop-to.ins.items) all was.ins_are);
     }

@@ -12,7 +12,7 @@ offer_to-requires g c =
     let here = subst (λ k. slice_get outs k ≡ Some out) c.from-at.ensures (slice_get_read outs _ c.from-at.result out refl below c.index_mut.ensures.value) in
     let there = slice_get_read c.args.links.now _ _ c.in-Some.link.now refl c.in-Some.ensures.lookup.3.0 c.in-Some.ensures.lookup.1 in
     same_link c.args.links.now _ _ out.end.link c.in-Some.link.now (λ i. sym c.from.ensures i * sym c.from-2.ensures i + sym c.from-at.ensures i)
-    (c.requires c.args.to.0 out here).name there
+    (c.requires.each c.args.to.0 out here).name there
 
 pub returns-clause-tied : goal.returns-clause-tied
 returns-clause-tied g c =
