@@ -1,5 +1,5 @@
 -- How the links are tied to the logs: what the passes of a node pushed and popped is what its log sent and took, but for what stands between.
-use Rattle.std.specs.Prelude.{◌≡◌, ◌≢◌, ℕ, ◌+◌, ◌*◌, ◌<◌, ◌≤◌, Option, Some, None, option_to_list, List, [], ◌∷◌, ◌++◌, map, length, slice_get}
+use Rattle.std.specs.Prelude.{◌≡◌, ◌≢◌, ℕ, ◌+◌, ◌*◌, ◌<◌, ◌≤◌, Option, Some, None, option_to_list, List, [], ◌∷◌, ◌++◌, map, length, slice_get, slice_set}
 use Rattle.std.specs.Global.{Vec}
 use Rattle.alw_msg.specs.declared.messages.Msg.{Msg}
 use Rattle.alw_model.specs.Threads.{sent_to, IsFront}
@@ -141,28 +141,40 @@ pub record LinksAreLaid (nodes : ℕ) (laid : Laid) : Type 0 where
 abbrev pub cells_in : List Left → List Cell
 cells_in lefts = map (λ (left : Left). left.cell) lefts
 
--- the ends that are left of a node are tied to its log
+-- the ends of a node are tied to its log
 pub record IsTied (links : List LinkName) (nodes number : ℕ) (left : Left) : Type 0 where
-  pub outs : EachAt (FitsOut links nodes number left.cell) left.outs.items
-  pub ins : EachAt (FitsIn links nodes number left.cell) left.ins.items
+  pub outs : AreTiedOuts links nodes number left.cell left.outs.items
+  pub ins : AreTiedIns links nodes number left.cell left.ins.items
 
 abbrev pub EndsAreTied : List LinkName → ℕ → List Left → Type 0
 EndsAreTied links nodes lefts = EachAt (IsTied links nodes) lefts
 
--- the last end of a node was taken off: that of its link to another one, where it is answered
-pub record TakesOut (from to : ℕ) (before after : List Left) (found : Option Out) : Type 0 where
-  pub cells : cells_in after ≡ cells_in before
-  pub tied : (links : List LinkName) (nodes : ℕ) → EndsAreTied links nodes before → EndsAreTied links nodes after
-  pub fits : (links : List LinkName) (nodes : ℕ) (out : Out) → EndsAreTied links nodes before → found ≡ Some out
-      → (cell : Cell) × (slice_get (cells_in before) from ≡ Some cell) × FitsOut links nodes from cell to out
+-- a node has an end left
+pub record HasOut (from : ℕ) (lefts : List Left) : Type 0 where
+  pub left : Left
+  pub here : slice_get lefts from ≡ Some left
+  pub some : 0 < length left.outs.items
 
-pub record TakesIn (from to : ℕ) (before after : List Left) (found : Option In) : Type 0 where
-  pub cells : cells_in after ≡ cells_in before
-  pub tied : (links : List LinkName) (nodes : ℕ) → EndsAreTied links nodes before → EndsAreTied links nodes after
-  pub fits : (links : List LinkName) (nodes : ℕ) (come : In) → EndsAreTied links nodes before → found ≡ Some come
-      → (cell : Cell) × (slice_get (cells_in before) to ≡ Some cell) × FitsIn links nodes to cell from come
+pub record HasIn (to : ℕ) (lefts : List Left) : Type 0 where
+  pub left : Left
+  pub here : slice_get lefts to ≡ Some left
+  pub some : 0 < length left.ins.items
 
--- a list became a front of itself, and what is answered stood at this place
-pub record TakesLast {X : Type 0} (place : ℕ) (before after : List X) (found : Option X) : Type 0 where
-  pub front : (k : ℕ) (x : X) → slice_get after k ≡ Some x → slice_get before k ≡ Some x
-  pub last : (x : X) → found ≡ Some x → slice_get before place ≡ Some x
+-- the last end of a node was taken off, and all else is the same
+pub record TakesOut (from : ℕ) (before after : List Left) (out : Out) : Type 0 where
+  pub was : Left
+  pub now : Left
+  pub here : slice_get before from ≡ Some was
+  pub after_is : after ≡ slice_set before from now
+  pub cell : now.cell ≡ was.cell
+  pub ins : now.ins.items ≡ was.ins.items
+  pub outs : was.outs.items ≡ now.outs.items ++ out ∷ []
+
+pub record TakesIn (to : ℕ) (before after : List Left) (come : In) : Type 0 where
+  pub was : Left
+  pub now : Left
+  pub here : slice_get before to ≡ Some was
+  pub after_is : after ≡ slice_set before to now
+  pub cell : now.cell ≡ was.cell
+  pub outs : now.outs.items ≡ was.outs.items
+  pub ins : was.ins.items ≡ now.ins.items ++ come ∷ []

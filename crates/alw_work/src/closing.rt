@@ -1,7 +1,7 @@
-ghost use Rattle.std.specs.Prelude.{◌≡◌, ◌<◌, ◌*◌, true, length, vec_len, IfOk, IfSome};
+ghost use Rattle.std.specs.Prelude.{◌≡◌, ◌<◌, ◌*◌, length, vec_len, IfOk, IfSome};
 ghost use Rattle.alw_image.specs.Images.{node_count};
 ghost use Rattle.alw_work.specs.Seats.{CellsAreGathered};
-ghost use Rattle.alw_work.specs.Ties.{cells_in, EndsAreTied, SendPlain, AllAgree, TakesOut, TakesIn, TakesLast};
+ghost use Rattle.alw_work.specs.Ties.{cells_in, EndsAreTied, SendPlain, AllAgree, HasOut, HasIn, TakesOut, TakesIn};
 
 use crate::ends::{In, Out};
 use crate::seats::{Locked, Naming};
@@ -46,27 +46,21 @@ pub fn gather<I: Naming>(
     }
 }
 
-/// Closes the links. What has come to each node of each is then a front of what that one sent it. False
-/// where an end isn't at its place.
-pub fn close_all<R: Wait>(rt: &R, nodes: u16, mut links: Vec<Link>, lefts: &mut Vec<Left>) -> bool
+/// Closes the links. What has come to each node of each is then a front of what that one sent it.
+pub fn close_all<R: Wait>(rt: &R, nodes: u16, mut links: Vec<Link>, lefts: &mut Vec<Left>)
     requires some { 0 < nodes }
     requires links { length links.items ≡ nodes * nodes }
     requires count { length lefts.old.items ≡ nodes }
     requires tied { EndsAreTied links.items nodes lefts.old.items }
     requires plain { SendPlain (cells_in lefts.old.items) }
     ensures cells { cells_in lefts.new.items ≡ cells_in lefts.old.items }
-    ensures agree { result ≡ true → AllAgree (cells_in lefts.old.items) }
+    ensures agree { AllAgree (cells_in lefts.old.items) }
 {
     let nodes = usize::from(nodes);
     while let Some(link) = links.pop() {
         let place = links.len();
-        let (from, to) = (place / nodes, place % nodes);
-        let Some(out) = take_out(lefts, from, to) else {
-            return false;
-        };
-        let Some(come) = take_in(lefts, from, to) else {
-            return false;
-        };
+        let out = take_out(lefts, place / nodes);
+        let come = take_in(lefts, place % nodes);
         let Out {
             end: sender,
             kept: _,
@@ -77,7 +71,6 @@ pub fn close_all<R: Wait>(rt: &R, nodes: u16, mut links: Vec<Link>, lefts: &mut 
         } = come;
         link.close(rt, sender, receiver);
     }
-    true
 }
 
 /// The cells alone, in order.
@@ -96,34 +89,24 @@ pub fn cells_of(alloc: Global, lefts: Vec<Left>) -> Result<Vec<NodeCell>, NoMemo
     Ok(cells)
 }
 
-// The last of the sender's ends of a node. None where it isn't that of the link to another one.
-fn take_out(lefts: &mut Vec<Left>, from: usize, to: usize) -> Option<Out>
-    ensures { TakesOut from to lefts.old.items lefts.new.items result }
+// The last of the sender's ends of a node.
+fn take_out(lefts: &mut Vec<Left>, from: usize) -> Out
+    requires { HasOut from lefts.old.items }
+    ensures { TakesOut from lefts.old.items lefts.new.items result }
 {
-    if from >= lefts.len() {
-        return None;
-    }
-    take_last(&mut lefts[from].outs, to)
+    let Some(out) = lefts[from].outs.pop() else {
+        unreachable!()
+    };
+    out
 }
 
-// The last of the receiver's ends of a node. None where it isn't that of the link from another one.
-fn take_in(lefts: &mut Vec<Left>, from: usize, to: usize) -> Option<In>
-    ensures { TakesIn from to lefts.old.items lefts.new.items result }
+// The last of the receiver's ends of a node.
+fn take_in(lefts: &mut Vec<Left>, to: usize) -> In
+    requires { HasIn to lefts.old.items }
+    ensures { TakesIn to lefts.old.items lefts.new.items result }
 {
-    if to >= lefts.len() {
-        return None;
-    }
-    take_last(&mut lefts[to].ins, from)
-}
-
-// The last of some ends, which is answered where it stood at this place.
-fn take_last<E: Drop>(ends: &mut Vec<E>, place: usize) -> Option<E>
-    ensures { TakesLast place ends.old.items ends.new.items result }
-{
-    let last = ends.pop()?;
-    if ends.len() == place {
-        Some(last)
-    } else {
-        None
-    }
+    let Some(come) = lefts[to].ins.pop() else {
+        unreachable!()
+    };
+    come
 }

@@ -104,9 +104,8 @@ fn lock_each<I: Naming>(
     Ok(locks)
 }
 
-// What the workers leave. Each cell is compared with its place, and the links are closed; where a cell or an
-// end is of another place, all nodes start anew. Where none has trapped, each is then stepped until it is
-// idle.
+// What the workers leave. Each cell is compared with its place: where one is of another place, all nodes
+// start anew. Else the links are closed, and where none has trapped, each node is stepped until it is idle.
 fn take_over<I: Naming, R: Wait>(
     rt: &R,
     alloc: Global,
@@ -126,9 +125,7 @@ fn take_over<I: Naming, R: Wait>(
     let Some((mut lefts, trapped)) = gather(alloc, nodes, locks)? else {
         return run_apart(alloc, image, params, workers);
     };
-    if !close_all(rt, nodes, links, &mut lefts) {
-        return run_apart(alloc, image, params, workers);
-    }
+    close_all(rt, nodes, links, &mut lefts);
     let mut cells = cells_of(alloc, lefts)?;
     if trapped {
         return split_all(alloc, cells);

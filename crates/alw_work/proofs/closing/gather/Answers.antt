@@ -24,5 +24,5 @@ loop-lock-preserved g c =
       so_far = subst (λ (cells : List Cell). AreSoFar image parameters cells (c.loop-lock.trapped || opened.2))
           (sym (map-append (λ (l : Left). l.cell) lefts (left ∷ []))) so_far;
       tied = each_push (IsTied links (node_count image)) lefts left c.loop-lock.invariant.tied
-          (subst (λ k. IsTied links (node_count image) k left) here (record { outs = c.open-cell.ensures.outs.each; ins = c.open-cell.ensures.ins.each }));
+          (subst (λ k. IsTied links (node_count image) k left) here (record { outs = c.open-cell.ensures.outs; ins = c.open-cell.ensures.ins }));
     })

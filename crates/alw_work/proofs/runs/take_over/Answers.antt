@@ -25,7 +25,7 @@ returns-then-trapped g c =
     let over = taken image parameters c.nodes-nodes.result (cells_in c.in-Some.lefts.items) (cells_in c.close_all.new.lefts.items) cells
     c.in-Some.trapped
     (rw c.in-Some.is at c.in_ok-lefts.ensures.cells) (c.nodes-nodes.ensures.count ∙ ap node_count c.requires.image) c.close_all.ensures.cells
-    (c.close_all.ensures.agree c.if-not-close_all.false) c.in_ok-cells.ensures in
+    c.close_all.ensures.agree c.in_ok-cells.ensures in
     rw (c.requires.image, c.requires.parameters)
     (IfOk-weaker c.split_all.result _ _ (λ worked are. left_at_trap image parameters cells c.in-Some.trapped over worked c.if-trapped.true are)
     c.split_all.ensures)
@@ -38,7 +38,7 @@ returns g c =
     let over = taken image parameters c.nodes-nodes.result (cells_in c.in-Some.lefts.items) (cells_in c.close_all.new.lefts.items) cells
     c.in-Some.trapped
     (rw c.in-Some.is at c.in_ok-lefts.ensures.cells) (c.nodes-nodes.ensures.count ∙ ap node_count c.requires.image) c.close_all.ensures.cells
-    (c.close_all.ensures.agree c.if-not-close_all.false) c.in_ok-cells.ensures in
+    c.close_all.ensures.agree c.in_ok-cells.ensures in
     rw (c.requires.image, c.requires.parameters)
     (IfOk-weaker c.split_all-2.result _ _
     (λ worked are. left_at_end image parameters cells c.in-Some.trapped over c.finish_all.new.cells.items worked c.in_ok-finish_all.ensures are)
