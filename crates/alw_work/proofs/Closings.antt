@@ -1,21 +1,21 @@
 -- Links are closed one after the other, from the last. What each tells is that what has come over it is a front of what was sent.
-use Rattle.std.proofs.Common.{◌≡◌, ◌≢◌, ◌↔◌, ◌⊎◌, ⊎_elim, ℕ, zero, suc, ◌+◌, ◌*◌, ◌/◌, ◌%◌, ◌<◌, ◌≤◌, Bool, Option, Some, None, List, [], ◌∷◌, ◌++◌, length, map, slice_get, slice_set, refl, sym, ap, subst, ◌∙◌, arith, append_assoc, length-append, add-mul, one-mul}
+use Rattle.std.proofs.Common.{◌≡◌, ◌≢◌, ◌↔◌, ⊎_elim, ℕ, zero, suc, ◌+◌, ◌*◌, ◌/◌, ◌%◌, ◌<◌, ◌≤◌, Option, Some, List, [], ◌∷◌, ◌++◌, length, slice_get, slice_set, refl, sym, ap, subst, ◌∙◌, arith, append_assoc, length-append, add-mul, one-mul}
 use Rattle.std.specs.Prelude.{option_to_list}
 use Rattle.std.specs.Option.{option_map}
 use Rattle.std.proofs.lemmas.List.{length-map, map-append}
 use Rattle.std.proofs.lemmas.Nat.{div-add-mod', div-mul-add, mod-mul-add, mul-add-lt}
 use Rattle.std.proofs.Math.Nat.{mod-lt, div-lt_iff_lt-mul}
-use Rattle.std.proofs.lemmas.Option.{same_Some, none-some, slice_get-map}
+use Rattle.std.proofs.lemmas.Option.{same_Some, slice_get-map}
 use Rattle.alw_num.proofs.Weigh.{cases_lt_then}
 use Rattle.alw_msg.specs.declared.messages.Msg.{Msg}
-use Rattle.alw_model.specs.Threads.{took_from, sent_to, IsFront, Logs, LinksAgree}
-use Rattle.alw_cells.specs.Cells.{Cell, in_from, picked, as_carried}
+use Rattle.alw_model.specs.Threads.{sent_to, IsFront}
+use Rattle.alw_cells.specs.Cells.{Cell, picked, as_carried}
 use Rattle.alw_ruled.specs.Ends.{LinkName}
 use Rattle.alw_work.specs.declared.ends.Out.{Out}
 use Rattle.alw_work.specs.declared.ends.In.{In}
 use Rattle.alw_work.specs.declared.closing.Left.{Left}
 use Rattle.alw_work.specs.Seats.{EachAt, came_of, CellsAreAlone, CellsAreFinished}
-use Rattle.alw_work.specs.Ties.{given, all_carried, SendsPlain, SendPlain, FitsOut, FitsIn, cells_in, IsTied, EndsAreTied, Keeps, AgreesAt, AllAgree, HasOut, HasIn, TakesOut, TakesIn}
+use Rattle.alw_work.specs.Ties.{all_carried, SendsPlain, SendPlain, FitsOut, FitsIn, cells_in, IsTied, EndsAreTied, Keeps, AgreesAt, AllAgree, HasOut, HasIn, TakesOut, TakesIn}
 use Rattle.alw_work.proofs.Finishing.{get_last, get_left, get_within, set_length, at_place}
 
 -- ---- one link

@@ -1,5 +1,5 @@
 -- Links are laid row by row: each new one stands at its place, and so do its ends.
-use Rattle.std.proofs.Common.{◌≡◌, ◌≢◌, ◌⊎◌, ⊎_elim, ℕ, ◌+◌, ◌*◌, ◌<◌, ◌≤◌, Option, Some, None, List, [], ◌∷◌, ◌++◌, length, slice_get, slice_set, refl, sym, ap, subst, ◌∙◌, arith, length-append}
+use Rattle.std.proofs.Common.{◌≡◌, ◌≢◌, ⊎_elim, ℕ, ◌+◌, ◌*◌, Some, None, List, [], ◌∷◌, ◌++◌, length, slice_get, slice_set, sym, ap, subst, ◌∙◌, arith, length-append}
 use Rattle.std.specs.Prelude.{option_to_list}
 use Rattle.std.specs.Global.{Vec}
 use Rattle.alw_msg.specs.declared.messages.Msg.{Msg}
@@ -10,8 +10,8 @@ use Rattle.alw_cells.specs.Cells.{Cell, cell_start}
 use Rattle.alw_ruled.specs.Ends.{LinkName, sender_at_start, receiver_at_start}
 use Rattle.alw_work.specs.declared.ends.Out.{Out}
 use Rattle.alw_work.specs.declared.ends.In.{In}
-use Rattle.alw_work.specs.Seats.{EachAt, came_of}
-use Rattle.alw_work.specs.Ties.{given, all_carried, FitsOut, FitsIn, IsNewOut, IsNewIn, AreNewOuts, RowsAreNew, LinksAreColumns, Keeps, AreTiedOuts, AreTiedIns}
+use Rattle.alw_work.specs.Seats.{EachAt}
+use Rattle.alw_work.specs.Ties.{all_carried, FitsOut, FitsIn, IsNewOut, IsNewIn, AreNewOuts, RowsAreNew, LinksAreColumns, Keeps, AreTiedOuts, AreTiedIns}
 use Rattle.alw_work.proofs.Finishing.{EachFrom, get_last, get_left, get_within, set_length, at_place, each_set, each_none, each_push, none_come}
 
 -- ---- a link more

@@ -1,5 +1,5 @@
 -- What the parts of cells are: local runs whose links agree, nodes as the logs leave them, and what their events did; and when the nodes are spent.
-use Rattle.std.proofs.Common.{◌≡◌, ℕ, Bool, zero, suc, ◌+◌, ◌<◌, true, false, Some, List, [], ◌∷◌, ◌++◌, length, map, slice_get, refl, sym, ap, subst, ◌∙◌, arith, append_assoc, append-nil, length-append, ◌^◌}
+use Rattle.std.proofs.Common.{◌≡◌, ℕ, Bool, zero, suc, ◌<◌, true, Some, List, [], ◌∷◌, ◌++◌, length, map, slice_get, refl, sym, ap, subst, ◌∙◌, arith, append_assoc, append-nil, length-append, ◌^◌}
 use Rattle.std.proofs.lemmas.List.{map-append, length-map}
 use Rattle.std.proofs.lemmas.Bool.{true≢false}
 use Rattle.std.proofs.lemmas.Option.{same_Some, slice_get-map}
@@ -8,7 +8,6 @@ use Rattle.std.specs.Prelude.{Option}
 use Rattle.alw_image.specs.declared.parts.Parts.{Parts}
 use Rattle.alw_image.specs.Images.{node_count}
 use Rattle.alw_image.specs.Parameters.{Parameters}
-use Rattle.alw_msg.specs.declared.messages.Msg.{Msg}
 use Rattle.alw_model.specs.declared.steps.Did.{Did}
 use Rattle.alw_model.specs.NodeStates.{NodeState, node_start}
 use Rattle.alw_model.specs.Threads.{Logged, Logs, log_at, IsLocalRun, node_after, took_from, sent_to, IsFront, LinksAgree}
@@ -20,7 +19,7 @@ use Rattle.alw_cells.specs.Logs.{Written, logged}
 use Rattle.alw_cells.specs.Leaving.{whole_after, LogsAreWorked}
 use Rattle.alw_cells.proofs.Runs.{local_run, left_alike, answers_alike}
 use Rattle.alw_work.specs.Works.{holds_trap, AreSpent, WorkIsLeft}
-use Rattle.alw_work.specs.Seats.{EachAt, logs_in, nodes_in, dids_in, CellsAreSplit, StandsAt, HasTrapped, CellsAreGathered, CellsAreAlone, CellsAreFinished}
+use Rattle.alw_work.specs.Seats.{EachAt, logs_in, CellsAreSplit, StandsAt, HasTrapped, CellsAreGathered, CellsAreFinished}
 use Rattle.alw_work.specs.Ties.{AllAgree}
 use Rattle.alw_work.proofs.Trapping.{holds_same}
 use Rattle.alw_work.proofs.Finishing.{get_within}

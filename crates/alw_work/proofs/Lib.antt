@@ -8,3 +8,4 @@ mod Layings
 mod Closings
 mod Plain
 mod Fairness
+pub mod Turned

@@ -1,17 +1,17 @@
 -- The ends of a node stay tied to its log: when messages come, when the node steps, and when messages are given out.
-use Rattle.std.proofs.Common.{◌≡◌, ◌≢◌, ◌⊎◌, ⊎_elim, ℕ, ◌<◌, Option, Some, None, List, [], ◌∷◌, ◌++◌, length, slice_get, slice_set, refl, sym, ap, subst, ◌∙◌, append_assoc, append-nil}
+use Rattle.std.proofs.Common.{◌≡◌, ◌≢◌, ⊎_elim, ℕ, Option, Some, None, List, [], ◌∷◌, ◌++◌, slice_get, slice_set, refl, sym, ap, subst, ◌∙◌, append_assoc, append-nil}
 use Rattle.std.specs.Prelude.{option_to_list}
 use Rattle.std.proofs.lemmas.Option.{same_Some}
 use Rattle.alw_msg.specs.declared.messages.Msg.{Msg}
 use Rattle.alw_msg.specs.Lists.{front, behind}
 use Rattle.alw_model.specs.Threads.{Logged, took_from, sent_to}
-use Rattle.alw_cells.specs.Cells.{Cell, in_from, picked, without_first, after_coming, after_giving}
+use Rattle.alw_cells.specs.Cells.{Cell, in_from, picked, after_giving}
 use Rattle.alw_cells.proofs.Receivers.{picked_behind, picked_other}
 use Rattle.alw_ruled.specs.Ends.{LinkName}
 use Rattle.alw_work.specs.declared.ends.Out.{Out}
 use Rattle.alw_work.specs.declared.ends.In.{In}
 use Rattle.alw_work.specs.Seats.{EachAt, came_of, Works}
-use Rattle.alw_work.specs.Ties.{given, all_carried, FitsOut, FitsIn, AreTiedOuts, AreTiedIns, Receives, IsSameButCome, IsSameButGiven, Fetches, Offers}
+use Rattle.alw_work.specs.Ties.{given, all_carried, FitsOut, FitsIn, AreTiedOuts, AreTiedIns, IsSameButCome, IsSameButGiven, Fetches, Offers}
 use Rattle.alw_work.proofs.Finishing.{at_place, set_length}
 
 -- two links at one place are one
@@ -122,7 +122,7 @@ none_left (first ∷ rest) is = absurd (cc)
 pub offers_empty : (to : ℕ) (cell : Cell) (old new : Out) → new.end.link ≡ old.end.link → given new ≡ given old → None ≡ front (picked to cell.pending)
     → Offers to cell (after_giving cell to) old new
 offers_empty to cell old new link same none = record {
-  same = record { node = refl; log = refl; come = refl };
+  same = record { node = refl; log = refl; come = refl; dids = refl };
   link = link;
   others = λ k other. picked_other to k cell.pending other;
   words = λ i. same i ++ (picked_behind to cell.pending ∙ none_left (picked to cell.pending) none) i;
@@ -135,7 +135,7 @@ offers_one to cell old mid new msg link flushed empty is link_too sent =
     let rest = behind (picked to cell.pending) in
     let mid_is : mid.end.pushed ≡ given old = sym (ap (λ (o : Option Msg). mid.end.pushed ++ option_to_list o) empty ∙ append-nil mid.end.pushed) ∙ flushed in
     record {
-      same = record { node = refl; log = refl; come = refl };
+      same = record { node = refl; log = refl; come = refl; dids = refl };
       link = link_too ∙ link;
       others = λ k other. picked_other to k cell.pending other;
       words = (λ i. sent i ++ picked_behind to cell.pending i) ∙ (append_assoc mid.end.pushed (msg ∷ []) rest

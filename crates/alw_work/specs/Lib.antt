@@ -1,4 +1,5 @@
 pub mod Works
 pub mod Seats
 pub mod Ties
+pub mod Turns
 pub mod Ready

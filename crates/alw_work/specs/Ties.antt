@@ -52,12 +52,14 @@ pub record IsSameButCome (before after : Cell) : Type 0 where
   pub node : after.node ≡ before.node
   pub log : after.log ≡ before.log
   pub pending : after.pending ≡ before.pending
+  pub dids : after.dids ≡ before.dids
 
 -- messages were given out alone
 pub record IsSameButGiven (before after : Cell) : Type 0 where
   pub node : after.node ≡ before.node
   pub log : after.log ≡ before.log
   pub come : after.come ≡ before.come
+  pub dids : after.dids ≡ before.dids
 
 -- messages of a node went from its link into the in list, by the end
 pub record Fetches (from : ℕ) (before after : Cell) (old new : In) : Type 0 where

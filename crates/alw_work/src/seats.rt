@@ -2,7 +2,8 @@ ghost use Rattle.std.specs.Prelude.{◌≡◌, ◌<◌};
 ghost use Rattle.alw_image.specs.Images.{node_count};
 ghost use Rattle.alw_work.specs.Works as works;
 ghost use Rattle.alw_work.specs.Seats.{IsCellOf, StandsAt, TrapIsMarked, CellIsOfNode, Works};
-ghost use Rattle.alw_work.specs.Ties.{AreTiedOuts, AreTiedIns};
+ghost use Rattle.alw_work.specs.Ties.{AreTiedOuts, AreTiedIns, IsSameButCome, IsSameButGiven};
+ghost use Rattle.alw_work.specs.Turns.{StepsOnce, IsSameButCell, Acts, Turns};
 
 use crate::ends::{In, Out};
 use crate::moves::{fetch, offer};
@@ -89,7 +90,9 @@ impl<I: Naming> Locked<I> {
     }
 
     /// One turn of a worker: what has come is taken in, the cell takes one step, and what it sent goes
-    /// onto the links. Answers whether the cell did anything. A trapping turn stops all workers.
+    /// onto the links. So the log grows by at most one event, which the step took. Answers whether the cell
+    /// did anything: it didn't where no main event might happen on what had come (`NodeCell::step`). A
+    /// trapping turn stops all workers.
     pub fn turn<R: Wait>(
         &mut self,
         rt: &R,
@@ -98,6 +101,7 @@ impl<I: Naming> Locked<I> {
         pick: u32,
     ) -> Result<bool, NoMemory>
         requires { links.now ≡ I.links }
+        ensures { Turns pick self.old self.new result }
     {
         self.take_in(rt, links, signs)?;
         let has_acted = self.act(pick)?;
@@ -111,6 +115,8 @@ impl<I: Naming> Locked<I> {
     // Takes in what has come.
     fn take_in<R: Wait>(&mut self, rt: &R, links: &[Link], signs: &Signs) -> Result<(), NoMemory>
         requires { links.now ≡ I.links }
+        ensures come { IsSameButCome self.old.cell self.new.cell }
+        ensures rest { IsSameButCell self.old self.new }
     {
         let (number, nodes) = (self.number, self.nodes);
         fetch(
@@ -125,13 +131,17 @@ impl<I: Naming> Locked<I> {
     }
 
     // Takes one step.
-    fn act(&mut self, pick: u32) -> Result<bool, NoMemory> {
+    fn act(&mut self, pick: u32) -> Result<bool, NoMemory>
+        ensures { Acts pick self.old self.new result }
+    {
         step(&mut self.cell, &mut self.trapped, pick)
     }
 
     // Gives out what was sent.
     fn give_out<R: Wait>(&mut self, rt: &R, links: &[Link], signs: &Signs)
         requires { links.now ≡ I.links }
+        ensures given { IsSameButGiven self.old.cell self.new.cell }
+        ensures rest { IsSameButCell self.old self.new }
     {
         let (number, nodes) = (self.number, self.nodes);
         self.late = offer(
@@ -187,6 +197,7 @@ fn step(cell: &mut NodeCell, trapped: &mut bool, pick: u32) -> Result<bool, NoMe
     ensures same { CellIsOfNode cell.old cell.new }
     ensures marked { TrapIsMarked trapped.old cell.old → TrapIsMarked trapped.new cell.new }
     ensures works { Works cell.old cell.new }
+    ensures steps { StepsOnce pick cell.old trapped.old cell.new trapped.new result }
 {
     let _stands = cell.log(); // for its clause
     match cell.step(pick)? {

@@ -1,4 +1,5 @@
 ghost use Rattle.std.specs.Prelude.{◌≡◌, ◌<◌, ◌^◌};
+ghost use Rattle.alw_work.specs.Turns.{Turns};
 
 use crate::gates::Gate;
 use crate::ready::{Counting, Ready};
@@ -129,6 +130,7 @@ fn turn<I: Naming, R: Wait>(
     pick: u32,
 ) -> Result<bool, NoMemory>
     requires { links.now ≡ I.links }
+    ensures { Turns pick seat.old seat.new result }
 {
     let turned = seat.turn(rt, links, signs, pick);
     if turned.is_err() {

@@ -1,5 +1,5 @@
 -- The lists so far are empty, and there are no more than nodes.
-use Rattle.std.proofs.Common.{◌≡◌, ◌≤◌, ◌-◌, ℕ, [], length, slice_get, Some, vec_len}
+use Rattle.std.proofs.Common.{◌≡◌, ◌≤◌, ◌-◌, [], length}
 use Rattle.std.specs.Global.{Vec}
 use Rattle.alw_work.specs.declared.ends.In.{In}
 use Rattle.alw_work.specs.Seats.{EachAt}

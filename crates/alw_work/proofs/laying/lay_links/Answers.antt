@@ -1,5 +1,5 @@
 -- One row more is laid, and at the end all of them.
-use Rattle.std.proofs.Common.{◌≡◌, ◌+◌, ◌*◌, ◌∙◌, [], ◌∷◌, length, sym, ap, subst, arith, add-mul, one-mul, length-append}
+use Rattle.std.proofs.Common.{◌≡◌, ◌+◌, ◌*◌, ◌∙◌, [], ◌∷◌, sym, ap, subst, arith, add-mul, one-mul, length-append}
 use Rattle.alw_work.specs.Ties.{LinksAreColumns}
 use Rattle.alw_work.proofs.Layings.{rows_next}
 use Rattle.alw_work.proofs.laying.lay_links.Goals as goal

@@ -1,5 +1,5 @@
 -- One link more is laid, and at the end the whole row.
-use Rattle.std.proofs.Common.{◌≡◌, ◌<◌, ◌+◌, ◌*◌, ◌∙◌, List, [], ◌∷◌, length, slice_get, Some, None, refl, sym, ap, subst, arith, length-append}
+use Rattle.std.proofs.Common.{◌≡◌, ◌<◌, ◌+◌, ◌*◌, ◌∙◌, [], ◌∷◌, length, slice_get, Some, None, refl, sym, ap, subst, arith, length-append}
 use Rattle.std.proofs.lemmas.Option.{slice_get_read}
 use Rattle.alw_work.specs.declared.ends.Out.{Out}
 use Rattle.alw_work.specs.Ties.{LinksAreColumns}

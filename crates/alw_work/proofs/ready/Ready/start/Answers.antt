@@ -1,5 +1,5 @@
 -- An empty queue keeps the rule, and is filled.
-use Rattle.std.proofs.Common.{◌≡◌, sym, ◌∙◌}
+use Rattle.std.proofs.Common.{sym, ◌∙◌}
 use Rattle.alw_work.proofs.Fairness.{begins, filled_is}
 use Rattle.alw_work.proofs.ready.Ready.start.Goals as goal
 

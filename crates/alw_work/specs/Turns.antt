@@ -1,0 +1,46 @@
+-- One turn of a worker at a node: messages come in, the cell takes one step, and messages are given out.
+use Rattle.std.specs.Prelude.{◌≡◌, ℕ, Bool, true, false, ◌||◌, Result, Ok, Err}
+use Rattle.alw_num.specs.declared.memory.NoMemory.{NoMemory}
+use Rattle.alw_cells.specs.declared.cells.Stepped.{Stepped}
+use Rattle.alw_cells.specs.declared.cells.Stepped.TheVariants.{Did, Idle}
+use Rattle.alw_cells.specs.Cells.{Cell}
+use Rattle.alw_cells.specs.Choice.{StepsCell}
+use Rattle.alw_work.specs.Works.{is_trap}
+use Rattle.alw_work.specs.Seats.{Seat}
+use Rattle.alw_work.specs.Ties.{IsSameButCome, IsSameButGiven}
+
+-- whether a step did anything
+abbrev pub has_acted : Result Stepped NoMemory → Result Bool NoMemory
+has_acted (Ok (Did entry did)) = Ok true
+has_acted (Ok Idle) = Ok false
+has_acted (Err refused) = Err refused
+
+-- a step was a trapping turn
+abbrev pub has_trapped : Result Stepped NoMemory → Bool
+has_trapped (Ok (Did entry did)) = is_trap did
+has_trapped (Ok Idle) = false
+has_trapped (Err refused) = false
+
+-- a cell took one step: the event that a number picks, with its record in the log, or none; a trapping turn is marked
+pub record StepsOnce (pick : ℕ) (before : Cell) (was : Bool) (after : Cell) (now : Bool) (result : Result Bool NoMemory) : Type 0 where
+  pub answer : Result Stepped NoMemory
+  pub steps : StepsCell before pick after answer
+  pub told : result ≡ has_acted answer
+  pub marked : now ≡ (was || has_trapped answer)
+
+-- number and mark are the same
+abbrev pub IsSameButCell : Seat → Seat → Type 0
+IsSameButCell before after = (after.number ≡ before.number) × (after.trapped ≡ before.trapped)
+
+-- the cell behind a lock took one step
+abbrev pub Acts : ℕ → Seat → Seat → Result Bool NoMemory → Type 0
+Acts pick before after result = (after.number ≡ before.number) × StepsOnce pick before.cell before.trapped after.cell after.trapped result
+
+-- a turn: messages came into in lists alone, the cell took one step from there, and messages were then given out alone
+pub record Turns (pick : ℕ) (before after : Seat) (result : Result Bool NoMemory) : Type 0 where
+  pub come : Cell
+  pub stepped : Cell
+  pub number : after.number ≡ before.number
+  pub comes : IsSameButCome before.cell come
+  pub steps : StepsOnce pick come before.trapped stepped after.trapped result
+  pub gives : IsSameButGiven stepped after.cell
