@@ -4,3 +4,4 @@ pub mod Stepping
 pub mod Courses
 pub mod Walking
 pub mod Joining
+pub mod TrapTurns

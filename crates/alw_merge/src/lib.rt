@@ -10,7 +10,7 @@ mod walks;
 
 pub use alw_replay::{Replayed, replay, take};
 pub use joins::join;
-pub use laws::merges_are_kept;
+pub use laws::{merges_are_kept, traps_are_turns};
 pub use merges::{merge, stream};
 pub use replays::replay_logs;
 pub use streams::Stream;
