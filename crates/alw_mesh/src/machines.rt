@@ -91,32 +91,17 @@ impl Machine {
         requires { IsTrue (may_be_next self.old event) }
         ensures { Takes self.old event self.new result }
     {
-        match event {
-            Event::Instr { node } => self.happen(Event::Instr { node }),
-            Event::Deliver { from, to } => self.happen(Event::Deliver { from, to }),
-            other => self.happen(other),
-        }
-    }
-
-    // The same: a copy of it is compiled for instructions alone, and one for deliveries.
-    #[inline(always)]
-    fn happen(&mut self, event: Event) -> Result<Did, NoMemory>
-        requires { IsTrue (may_be_next self.old event) }
-        ensures { Takes self.old event self.new result }
-    {
         let stamp = self.mesh.stamp(event);
         self.tally.reserve()?;
         self.mesh.reserve()?;
         self.journal.push(Entry { stamp, event })?;
         let had_halted = self.mesh.has_halted();
         let happening = self.mesh.happen(event, &mut self.sent);
-        if is_quiet(event, &happening) && stamp < self.mesh.params().limit() {
-            self.tally
-                .add(self.mesh.image(), &happening.told, &self.sent);
-            return Ok(happening.told.did);
-        }
         self.tally
             .add(self.mesh.image(), &happening.told, &self.sent);
+        if is_quiet(event, &happening) && stamp < self.mesh.params().limit() {
+            return Ok(happening.told.did);
+        }
         let changes = Changes {
             event,
             wide: is_wide(

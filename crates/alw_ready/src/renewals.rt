@@ -34,7 +34,6 @@ impl Ready {
     /// event's own node, at the link that it took from, and at the links of its sends; where the event is
     /// wide also at the heads of all links to its node that hold something; and where with it every
     /// context has halted at all nodes.
-    #[inline(always)]
     pub fn renew<V: View>(&mut self, view: &V, happened: &Happened, sends: &Sends)
         requires counted { length self.old ≡ node_count (V.image view.now) }
         requires few { node_count (V.image view.now) ≤ MOST_NODES }

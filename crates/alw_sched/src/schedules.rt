@@ -1,9 +1,10 @@
-ghost use Rattle.std.specs.Prelude.{◌≡◌, ◌<◌, ◌%◌, cond, nat_lt, None, Some};
+ghost use Rattle.std.specs.Prelude.{◌≡◌, ◌<◌, ◌%◌, cond, nat_lt, None, Some, IsTrue};
 ghost use Rattle.alw_image.specs.Images.{node_count};
+ghost use Rattle.alw_mesh.specs.Histories.{Takes, may_be_next};
 ghost use Rattle.alw_sched.specs.Schedules.{Finishes, end_in, asked_node, asked_eviction, is_evicted, picked};
 
 use alw_mesh::Machine;
-use alw_model::Ended;
+use alw_model::{Did, Ended};
 use alw_msg::Event;
 use alw_num::{Draws, NoMemory, NodeNo};
 
@@ -18,7 +19,19 @@ pub fn finish(machine: &mut Machine, seed: u64) -> Result<Ended, NoMemory>
             return Ok(ended);
         }
         let event = pick(machine, draws.draw());
-        machine.take(event)?;
+        take(machine, event)?;
+    }
+}
+
+// Takes an event that may be next. A turn and a delivery have a compiled way of their own each.
+fn take(machine: &mut Machine, event: Event) -> Result<Did, NoMemory>
+    requires { IsTrue (may_be_next machine.old event) }
+    ensures { Takes machine.old event machine.new result }
+{
+    match event {
+        Event::Instr { node } => machine.take(Event::Instr { node }),
+        Event::Deliver { from, to } => machine.take(Event::Deliver { from, to }),
+        other => machine.take(other),
     }
 }
 

@@ -5,7 +5,7 @@ use Rattle.alw_model.specs.Machine.{has_halted}
 use Rattle.alw_tally.specs.Told.{told_with}
 use Rattle.alw_mesh.specs.Grids.{Grid}
 use Rattle.alw_mesh.proofs.Journals.{journal_fits, next_may, few_remain, sends_below_rows, step_answers, machine_grows, rows_renewed, rows_stay}
-use Rattle.alw_mesh.proofs.machines.Machine.happen.Goals as goal
+use Rattle.alw_mesh.proofs.machines.Machine.take.Goals as goal
 
 pub push-requires : goal.push-requires
 push-requires c = journal_fits _ c.self.invariant.run
@@ -25,7 +25,7 @@ invariant_of-self-2 c =
     let happens = rw c.in_ok-reserve-2.ensures.ok at c.happen-happening.ensures in
     let had = c.has_halted-had_halted.ensures ∙ ap (λ (g : Grid). has_halted g.machine) c.in_ok-reserve-2.ensures.ok in
     machine_grows c.self.invariant c.args.event may happens c.stamp-stamp.result c.stamp-stamp.ensures c.in_ok-push.ensures.ok
-    (λ moment of. c.add-2.ensures.told moment of ∙ (λ i. told_with (c.image-2.ensures i) (c.reserve.ensures.told i) moment))
+    (λ moment of. c.add.ensures.told moment of ∙ (λ i. told_with (c.image.ensures i) (c.reserve.ensures.told i) moment))
     (rows_renewed c.self.invariant c.args.event may happens c.is_wide.result c.flips.result c.is_wide.ensures (c.flips.ensures ∙ (λ i. not (had i) && c.has_halted.ensures i)) c.renew.ensures)
 
 pub invariant_of-self-then-stamp-limit : goal.invariant_of-self-then-stamp-limit
