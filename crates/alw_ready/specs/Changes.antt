@@ -1,6 +1,7 @@
 -- What an event that happened changes of the rows of a machine.
 use Rattle.std.specs.Prelude.{◌≡◌, ℕ, ◌<◌, Bool, true, false, cond, not, ◌&&◌, ◌||◌, ◌==◌, Option, is_some, List, length, slice_set, IsTrue}
 use Rattle.alw_num.specs.Maps.{passes}
+use Rattle.alw_num.specs.declared.node_sets.NodeSet.{NodeSet}
 use Rattle.alw_num.specs.NodeSets.{has_node, nodes_of}
 use Rattle.alw_num.specs.Weights.{digit, weigh}
 use Rattle.alw_msg.specs.declared.messages.Msg.{Msg}
@@ -76,6 +77,12 @@ pub record OwnRowIsRenewed (parts : Parts) (parameters : Parameters) (machine : 
   pub rows_are : after ≡ slice_set before (node_of happened.event) own
   pub in_time : own.in_time ≡ is_in_time parameters machine (node_of happened.event)
   pub renewed : RowIsRenewed (may_happen parts parameters machine) (node_of happened.event) (λ from. happened.wide || takes_from happened.event from (node_of happened.event)) (row_at before (node_of happened.event)) own
+
+-- a delivery from one node to another was looked at again; all else of the rows stays
+pub record SenderIsLookedAt (test : Event → Bool) (from to : ℕ) (before after : List Row) : Type 0 where
+  pub senders : NodeSet
+  pub rows_are : after ≡ slice_set before to (record (row_at before to) { senders = senders })
+  pub looked : (k : ℕ) → has_node (nodes_of senders) k ≡ cond (k == from) (test (delivery from to)) (has_node (nodes_of (row_at before to).senders) k)
 
 -- there is a row for each node, and it fits, but for deliveries from a sender of messages that were sent just now
 pub record RowsFitBut (parts : Parts) (parameters : Parameters) (machine : MachineState) (sender : ℕ) (sends : List (ℕ × Msg)) (rows : List Row) : Type 0 where

@@ -93,11 +93,7 @@ impl Ready {
         requires { node.0 < length self.old }
         ensures { self.new ≡ slice_set self.old node.0 (record own { senders = (row_at self.old node.0).senders }) }
     {
-        let row = &self.rows[usize::from(node.0)];
-        if row.in_time == own.in_time && row.instr == own.instr && row.handle == own.handle {
-            return;
-        }
-        let senders = row.senders;
+        let senders = self.rows[usize::from(node.0)].senders;
         self.set(node, Row { senders, ..own });
     }
 }

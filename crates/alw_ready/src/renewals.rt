@@ -1,14 +1,13 @@
-ghost use Rattle.std.specs.Prelude.{◌≡◌, ℕ, ◌<◌, ◌≤◌, false, cond, ◌||◌, ◌==◌, List, length, IsTrue};
+ghost use Rattle.std.specs.Prelude.{◌≡◌, ℕ, ◌<◌, ◌≤◌, cond, ◌==◌, List, length};
 ghost use Rattle.alw_num.specs.NodeSets.{has_node, nodes_of};
 ghost use Rattle.alw_msg.specs.declared.events.Entry.{Entry};
 ghost use Rattle.alw_msg.specs.Events.{node_of};
 ghost use Rattle.alw_image.specs.Images.{node_count};
 ghost use Rattle.alw_model.specs.Machine.{state, IsLegal};
 ghost use Rattle.law_lines.specs.Links.{GoBelow};
-ghost use Rattle.law_order.specs.Orders.{takes_from};
-ghost use Rattle.alw_ready.specs.Rows.{instr_at, handle_at, delivery};
-ghost use Rattle.alw_ready.specs.Fits.{may_happen, is_in_time, RowFits, RowsFit};
-ghost use Rattle.alw_ready.specs.Changes.{RowIsRenewed, OwnRowIsRenewed, RowsFitBut, EventIsTold};
+ghost use Rattle.alw_ready.specs.Rows.{delivery};
+ghost use Rattle.alw_ready.specs.Fits.{may_happen, RowFits, RowsFit};
+ghost use Rattle.alw_ready.specs.Changes.{SenderIsLookedAt, OwnRowIsRenewed, RowsFitBut, EventIsTold};
 
 use crate::changes::Happened;
 use crate::ready::Ready;
@@ -34,6 +33,7 @@ impl Ready {
     /// event's own node, at the link that it took from, and at the links of its sends; where the event is
     /// wide also at the heads of all links to its node that hold something; and where with it every
     /// context has halted at all nodes.
+    #[inline(always)]
     pub fn renew<V: View>(&mut self, view: &V, happened: &Happened, sends: &Sends)
         requires counted { length self.old ≡ node_count (V.image view.now) }
         requires few { node_count (V.image view.now) ≤ MOST_NODES }
@@ -61,12 +61,14 @@ impl Ready {
         ensures { OwnRowIsRenewed (V.image view.now) (V.parameters view.now) (V.state view.now) happened.now self.old self.new }
     {
         let node = happened.event.node();
-        if keeps_senders(happened) {
-            self.set_own(node, view.row(node));
-            return;
+        self.set_own(node, view.row(node));
+        if happened.wide {
+            let row = self.row(node);
+            let senders = deliverable(view, node);
+            self.set(node, Row { senders, ..row });
+        } else if let Event::Deliver { from, to } = happened.event {
+            self.look(view, from, to);
         }
-        let row = self.row(node);
-        self.set(node, own_row(view, happened, row));
     }
 
     // Looks again at the heads of the links that a node sent to.
@@ -80,10 +82,20 @@ impl Ready {
     {
         for i in 0..sends.len() {
             let (to, _) = sends.at(i);
-            let row = self.row(to);
-            let senders = looked_at(view, row.senders, from, to);
-            self.set(to, Row { senders, ..row });
+            self.look(view, from, to);
         }
+    }
+
+    // Looks again at the head of a link.
+    fn look<V: View>(&mut self, view: &V, from: NodeNo, to: NodeNo)
+        requires counted { length self.old ≡ node_count (V.image view.now) }
+        requires few { node_count (V.image view.now) ≤ MOST_NODES }
+        requires here { to.0 < length self.old }
+        ensures { SenderIsLookedAt (may_happen (V.image view.now) (V.parameters view.now) (V.state view.now)) from.0 to.0 self.old self.new }
+    {
+        let row = self.row(to);
+        let senders = looked_at(view, row.senders, from, to);
+        self.set(to, Row { senders, ..row });
     }
 }
 
@@ -93,62 +105,9 @@ fn row_of<V: View>(view: &V, node: NodeNo) -> Row
     requires here { node.0 < node_count (V.image view.now) }
     ensures { RowFits (V.image view.now) (V.parameters view.now) (V.state view.now) node.0 result }
 {
-    row_with(view, node, deliverable(view, node))
-}
-
-// The row of an event's own node after it, from the one before it.
-#[inline(always)]
-fn own_row<V: View>(view: &V, happened: &Happened, row: Row) -> Row
-    requires few { node_count (V.image view.now) ≤ MOST_NODES }
-    requires here { node_of happened.now.event < node_count (V.image view.now) }
-    ensures in_time { result.in_time ≡ is_in_time (V.parameters view.now) (V.state view.now) (node_of happened.now.event) }
-    ensures renewed { RowIsRenewed (may_happen (V.image view.now) (V.parameters view.now) (V.state view.now)) (node_of happened.now.event)
-        (λ from. happened.now.wide || takes_from happened.now.event from (node_of happened.now.event)) row result }
-{
-    let senders = own_senders(view, happened, row.senders);
-    row_with(view, happened.event.node(), senders)
-}
-
-// The row of a node with these senders.
-#[inline(always)]
-fn row_with<V: View>(view: &V, node: NodeNo, senders: NodeSet) -> Row
-    requires { node.0 < node_count (V.image view.now) }
-    ensures in_time { result.in_time ≡ is_in_time (V.parameters view.now) (V.state view.now) node.0 }
-    ensures instr { result.instr ≡ may_happen (V.image view.now) (V.parameters view.now) (V.state view.now) (instr_at node.0) }
-    ensures handle { result.handle ≡ may_happen (V.image view.now) (V.parameters view.now) (V.state view.now) (handle_at node.0) }
-    ensures senders { result.senders ≡ senders }
-{
     Row {
-        senders,
+        senders: deliverable(view, node),
         ..view.row(node)
-    }
-}
-
-// An event neither took a message nor may have changed what keeps others on their links to its node.
-#[inline(always)]
-fn keeps_senders(happened: &Happened) -> bool
-    ensures { IsTrue result → (from : ℕ) → (happened.now.wide || takes_from happened.now.event from (node_of happened.now.event)) ≡ false }
-{
-    match happened.event {
-        Event::Deliver { .. } => false,
-        Event::Instr { .. } | Event::Handle { .. } | Event::Evict { .. } => !happened.wide,
-    }
-}
-
-// The nodes from which a delivery to an event's own node may happen after it, from those before it.
-#[inline(always)]
-fn own_senders<V: View>(view: &V, happened: &Happened, senders: NodeSet) -> NodeSet
-    requires few { node_count (V.image view.now) ≤ MOST_NODES }
-    requires here { node_of happened.now.event < node_count (V.image view.now) }
-    ensures { (from : ℕ) → has_node (nodes_of result) from ≡ cond (happened.now.wide || takes_from happened.now.event from (node_of happened.now.event))
-        (may_happen (V.image view.now) (V.parameters view.now) (V.state view.now) (delivery from (node_of happened.now.event))) (has_node (nodes_of senders) from) }
-{
-    if happened.wide {
-        return deliverable(view, happened.event.node());
-    }
-    match happened.event {
-        Event::Deliver { from, to } => looked_at(view, senders, from, to),
-        Event::Instr { .. } | Event::Handle { .. } | Event::Evict { .. } => senders,
     }
 }
 
