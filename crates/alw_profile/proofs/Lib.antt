@@ -1,5 +1,7 @@
 mod Telling
 mod Marking
+mod Paging
+mod Sparse
 pub mod Lists
 mod Slots
 mod Enabled

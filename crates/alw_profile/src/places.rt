@@ -1,7 +1,8 @@
-ghost use Rattle.std.specs.Prelude.{◌≡◌, ◌<◌, ◌≤◌, ◌+◌, ◌^◌, length, replicate, slice_index, IfOk};
+ghost use Rattle.std.specs.Prelude.{◌≡◌, ◌<◌, ◌≤◌, ◌+◌, ◌^◌, length, replicate, slice_index, IfOk, OnOk};
 ghost use Rattle.alw_num.specs.NodeSets.{no_nodes, nodes_of};
 ghost use Rattle.alw_profile.specs.Places.{raised, joined, set_at};
 
+use crate::pages::Pages;
 use alw_num::{MOST_NODES, NoMemory, NodeNo, NodeSet};
 use std::alloc::Global;
 use std::marker::Model;
@@ -52,10 +53,10 @@ impl Most {
     }
 }
 
-/// The nodes that were told of each place.
+/// The nodes that were told of each place. They take memory where a node was told.
 #[derive(Debug, Drop)]
 pub struct Sets {
-    sets: Vec<NodeSet>,
+    sets: Pages<NodeSet>,
 }
 
 impl Model for Sets {
@@ -64,7 +65,7 @@ impl Model for Sets {
 
     ghost Value = { List Nodes };
 
-    ghost view = { λ s. map nodes_of s.sets.items };
+    ghost view = { λ s. map nodes_of s.sets };
 }
 
 impl Sets {
@@ -72,23 +73,22 @@ impl Sets {
     pub fn none(alloc: Global, places: u32) -> Result<Sets, NoMemory>
         ensures { IfOk result (λ sets. sets ≡ replicate places no_nodes) }
     {
-        let mut sets = Vec::with_capacity(alloc, places as usize)?;
-        for _place in 0..places {
-            sets.push_reserved(NodeSet::empty());
-        }
+        let sets = Pages::blank(alloc, places as usize, NodeSet::empty())?;
         Ok(Sets { sets })
     }
 
     /// A node is told of a place, where it is there.
     #[tactic(auto, unfolding(crate::specs::Places::joined))]
-    pub fn tell(&mut self, place: u32, node: NodeNo)
+    pub fn tell(&mut self, place: u32, node: NodeNo) -> Result<(), NoMemory>
         requires { node.0 < MOST_NODES }
-        ensures { self.new ≡ joined self.old (place, node.0) }
+        ensures { OnOk result (self.new ≡ joined self.old (place, node.0)) }
     {
         let place = place as usize;
         if place < self.sets.len() {
-            self.sets[place] = self.sets[place].with(node);
+            let set = self.sets.at(place).with(node);
+            self.sets.put(place, set)?;
         }
+        Ok(())
     }
 
     /// The nodes that were told of a place.
@@ -96,6 +96,6 @@ impl Sets {
         requires { place < length self.now }
         ensures { nodes_of result ≡ set_at self.now place }
     {
-        self.sets[place as usize]
+        self.sets.at(place as usize)
     }
 }

@@ -189,7 +189,8 @@ pub fn line_rows(alloc: Global, tables: &Tables, image: &Image) -> Result<LineRo
     for line in 0..image.lines() {
         let readers = tables.readers.at(line);
         let writers = tables.writers.at(line);
-        put_line(&mut rows, line, tables.lines.row(line), readers, writers)?;
+        let counts = tables.lines.row(alloc, line)?;
+        put_line(&mut rows, line, &counts, readers, writers)?;
     }
     Ok(rows)
 }

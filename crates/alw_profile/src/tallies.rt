@@ -12,7 +12,7 @@ use crate::marks::{is_turn, mark_lines, mark_node, mark_slot};
 use crate::places::{Most, Sets};
 use crate::retries::mark_retries;
 use crate::sights::{Ran, look};
-use crate::tables::Table;
+use crate::tables::{SparseTable, Table};
 use alw_image::Image;
 use alw_mesh::Machine;
 use alw_model::Did;
@@ -26,7 +26,7 @@ use std::alloc::Global;
 #[derive(Debug, Drop)]
 pub struct Tables {
     pub nodes: Table,
-    pub lines: Table,
+    pub lines: SparseTable,
     pub code: Table,
     pub packets: Most,
     pub readers: Sets,
@@ -44,7 +44,7 @@ impl Tables {
         let _ = image.parts();
         Ok(Tables {
             nodes: Table::blank(alloc, nodes, NODE_COLUMNS)?,
-            lines: Table::blank(alloc, lines, LINE_COLUMNS)?,
+            lines: SparseTable::blank(alloc, lines, LINE_COLUMNS)?,
             code: Table::blank(alloc, words, CODE_COLUMNS)?,
             packets: Most::none(alloc, nodes)?,
             readers: Sets::none(alloc, lines)?,
@@ -69,11 +69,11 @@ pub fn tell_event(tables: &mut Tables, machine: &mut Machine, event: Event) -> R
     let _after = machine.journal();
     let sends = machine.last_sent();
     mark_node(&mut tables.nodes, machine.image(), node, did, sends);
-    mark_lines(&mut tables.lines, &seen, did, sends);
+    mark_lines(&mut tables.lines, &seen, did, sends)?;
     mark_slot(&mut tables.code, seen.ran, did);
     tell_packets(&mut tables.packets, node, seen.packets, did);
-    tell_access(&mut tables.readers, Mode::Read, node, did, seen.ran);
-    tell_access(&mut tables.writers, Mode::Write, node, did, seen.ran);
+    tell_access(&mut tables.readers, Mode::Read, node, did, seen.ran)?;
+    tell_access(&mut tables.writers, Mode::Write, node, did, seen.ran)?;
     Ok(())
 }
 
@@ -88,9 +88,16 @@ fn tell_packets(most: &mut Most, node: NodeNo, packets: u32, did: Did)
 }
 
 // A turn of a node that accesses a line in a mode is told of the line.
-fn tell_access(sets: &mut Sets, wanted: Mode, node: NodeNo, did: Did, ran: Option<Ran>)
+#[inline(always)]
+fn tell_access(
+    sets: &mut Sets,
+    wanted: Mode,
+    node: NodeNo,
+    did: Did,
+    ran: Option<Ran>,
+) -> Result<(), NoMemory>
     requires { node.0 < MOST_NODES }
-    ensures { sets.new ≡ joined_by sets.old (accessed_by wanted node.0 did ran) }
+    ensures { OnOk result (sets.new ≡ joined_by sets.old (accessed_by wanted node.0 did ran)) }
 {
     if let Some(
         Ran {
@@ -101,8 +108,9 @@ fn tell_access(sets: &mut Sets, wanted: Mode, node: NodeNo, did: Did, ran: Optio
         && is_turn(did)
         && is_same(wanted, mode)
     {
-        sets.tell(line.0, node);
+        sets.tell(line.0, node)?;
     }
+    Ok(())
 }
 
 fn is_same(one: Mode, other: Mode) -> bool
