@@ -13,7 +13,8 @@ ghost use Rattle.alw_outcomes.specs.Explored.{found_in, place_in, places_in, row
 
 use crate::classes::{Broken, Class};
 use crate::leads::{Lead, lead_of};
-use crate::pools::{Numbers, Pools, Seat, memory_number, seat_number};
+use crate::pooled::number_in;
+use crate::pools::{Numbers, Pools, Seat};
 use crate::remembered::{Known, Remembered};
 use crate::tables::{Slot, Table, mixed};
 use crate::turns::{contexts_of, lines_of};
@@ -163,7 +164,7 @@ fn start(
 {
     let mut pools = Pools::empty(alloc);
     let memory = Memory::start(alloc, image, lines_of(image))?;
-    let number = memory_number(&mut pools.memories, &mut pools.by_memory, memory)?;
+    let number = number_in(&mut pools.memories, &mut pools.by_memory, memory)?;
     let rows = seats_at_start(alloc, image, &mut pools)?;
     let mut memories = Vec::new(alloc);
     memories.push(number)?;
@@ -202,7 +203,7 @@ fn seats_at_start(alloc: Global, image: &Image, pools: &mut Pools) -> Result<Vec
     let mut rows = Vec::new(alloc);
     for number in 0..count {
         let seat = seat_at_start(image, number, count);
-        let at = seat_number(&mut pools.seats, &mut pools.by_seat, &seat)?;
+        let at = number_in(&mut pools.seats, &mut pools.by_seat, seat)?;
         rows.push(at)?;
     }
     Ok(rows)

@@ -8,6 +8,7 @@ mod hints;
 mod laws;
 mod leads;
 mod places;
+mod pooled;
 mod pools;
 mod remembered;
 mod stuck;

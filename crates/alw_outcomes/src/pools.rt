@@ -6,7 +6,8 @@ ghost use Rattle.alw_outcomes.specs.Effects.{written};
 ghost use Rattle.alw_outcomes.specs.Threads.{effect_in, thread_turn, words_after};
 ghost use Rattle.alw_outcomes.specs.Pools.{Numbered, IsFront, LinksGoOn, HasWords, lists_of, thread_in, memory_in, seat_in, AreIn, ArePools, GoOn};
 
-use crate::tables::{Slot, Table, mixed};
+use crate::pooled::{Pooled, number_in};
+use crate::tables::{Table, mixed};
 use crate::turns::{left_by, run};
 use alw_flat::Memory;
 use alw_image::Image;
@@ -75,17 +76,15 @@ impl Seat {
     {
         matches!(self.status, Status::Halted)
     }
+}
 
-    // Both are the same.
-    fn is_same(&self, other: &Seat) -> bool
-        ensures { IsTrue result → self.now ≡ other.now }
-    {
+impl Pooled for Seat {
+    fn is_same(&self, other: &Seat) -> bool {
         same_regs(&self.regs, &other.regs)
             && same_status(&self.status, &other.status)
             && self.list == other.list
     }
 
-    // A number that is the same for contexts that are the same.
     fn digest(&self) -> u32 {
         let mut digest = mixed(mixed(self.regs.pc, self.regs.npc), self.list);
         let mut factor = 0x9e37_79b1_u32;
@@ -94,6 +93,33 @@ impl Seat {
             factor = factor.wrapping_add(0x85eb_ca6a);
         }
         mixed(digest, self.regs.y)
+    }
+}
+
+impl Pooled for Link {
+    fn is_same(&self, other: &Link) -> bool {
+        self.before == other.before && self.word == other.word
+    }
+
+    fn digest(&self) -> u32 {
+        mixed(mixed(1, self.before), self.word)
+    }
+}
+
+impl Pooled for Memory {
+    fn is_same(&self, other: &Memory) -> bool {
+        same_lines(self.values(), other.values())
+    }
+
+    fn digest(&self) -> u32 {
+        let mut digest = 1_u32;
+        let mut factor = 0x9e37_79b1_u32;
+        for line in self.values() {
+            let words = mixed(mixed(mixed(line.a, line.b), line.c), line.d);
+            digest = digest.wrapping_add(words.wrapping_mul(factor));
+            factor = factor.wrapping_add(0x85eb_ca6a);
+        }
+        mixed(digest, 0)
     }
 }
 
@@ -133,7 +159,7 @@ pub fn step(image: &Image, pools: &mut Pools, at: Numbers) -> Result<(Numbers, O
     let status = left_by(&left.regs, left.outcome);
     let regs = left.regs;
     let after = Seat { regs, status, list };
-    let number = seat_number(&mut pools.seats, &mut pools.by_seat, &after)?;
+    let number = number_in(&mut pools.seats, &mut pools.by_seat, after)?;
     let memory = memory_after(
         &mut pools.memories,
         &mut pools.by_memory,
@@ -164,7 +190,7 @@ fn list_after(
     match outcome {
         Outcome::Out { word } => {
             let link = Link { before: list, word };
-            let at = link_number(links, table, link)?;
+            let at = number_in(links, table, link)?;
             Ok(at + 1)
         }
         _ => Ok(list),
@@ -186,174 +212,11 @@ fn memory_after(
         Some((line, value)) => {
             let mut after = memories[memory as usize].copy()?;
             after.set(line, value);
-            let at = memory_number(memories, table, after)?;
+            let at = number_in(memories, table, after)?;
             Ok(at)
         }
         None => Ok(memory),
     }
-}
-
-/// The number of a context with what it has printed.
-pub fn seat_number(seats: &mut Vec<Seat>, table: &mut Table, seat: &Seat) -> Result<u32, NoMemory>
-    ensures { IfOk result (λ at. Numbered seats.old.items seats.new.items seat.now at) }
-{
-    let digest = seat.digest();
-    match find_seat(seats, table, seat, digest) {
-        Some(at) => Ok(at),
-        None => {
-            if seats.len() >= 4_294_967_295 {
-                return Err(NoMemory);
-            }
-            let at = seats.len() as u32;
-            table.add(digest, at)?;
-            seats.push(*seat)?;
-            Ok(at)
-        }
-    }
-}
-
-// The number of a link.
-fn link_number(links: &mut Vec<Link>, table: &mut Table, link: Link) -> Result<u32, NoMemory>
-    ensures number { IfOk result (λ at. Numbered links.old.items links.new.items link at) }
-    ensures small { IfOk result (λ at. at < 2 ^ 32 - 1) }
-{
-    let digest = mixed(mixed(1, link.before), link.word);
-    match find_link(links, table, link, digest) {
-        Some(at) => {
-            if at == u32::MAX {
-                return Err(NoMemory);
-            }
-            Ok(at)
-        }
-        None => {
-            if links.len() >= 4_294_967_295 {
-                return Err(NoMemory);
-            }
-            let at = links.len() as u32;
-            table.add(digest, at)?;
-            links.push(link)?;
-            Ok(at)
-        }
-    }
-}
-
-/// The number of a memory.
-pub fn memory_number(
-    memories: &mut Vec<Memory>,
-    table: &mut Table,
-    memory: Memory,
-) -> Result<u32, NoMemory>
-    ensures { IfOk result (λ at. Numbered memories.old.items memories.new.items memory at) }
-{
-    let digest = digest_of(&memory);
-    match find_memory(memories, table, &memory, digest) {
-        Some(at) => Ok(at),
-        None => {
-            if memories.len() >= 4_294_967_295 {
-                return Err(NoMemory);
-            }
-            let at = memories.len() as u32;
-            table.add(digest, at)?;
-            memories.push(memory)?;
-            Ok(at)
-        }
-    }
-}
-
-// The number of a context, if the table tells one.
-fn find_seat(seats: &[Seat], table: &Table, seat: &Seat, digest: u32) -> Option<u32>
-    ensures { IfSome result (λ at. slice_get seats.now at ≡ Some seat.now) }
-{
-    for behind in 0..table.len() {
-        match table.slot(digest, behind) {
-            Slot::Free => return None,
-            Slot::Number(at) => {
-                if is_seat(seats, at, seat) {
-                    return Some(at);
-                }
-            }
-            Slot::Other => {}
-        }
-    }
-    None
-}
-
-// The context with this number is the same.
-fn is_seat(seats: &[Seat], at: u32, seat: &Seat) -> bool
-    ensures { IsTrue result → slice_get seats.now at ≡ Some seat.now }
-{
-    if at as usize >= seats.len() {
-        return false;
-    }
-    seats[at as usize].is_same(seat)
-}
-
-// The number of a link, if the table tells one.
-fn find_link(links: &[Link], table: &Table, link: Link, digest: u32) -> Option<u32>
-    ensures { IfSome result (λ at. slice_get links.now at ≡ Some link) }
-{
-    for behind in 0..table.len() {
-        match table.slot(digest, behind) {
-            Slot::Free => return None,
-            Slot::Number(at) => {
-                if is_link(links, at, link) {
-                    return Some(at);
-                }
-            }
-            Slot::Other => {}
-        }
-    }
-    None
-}
-
-// The link with this number is the same.
-fn is_link(links: &[Link], at: u32, link: Link) -> bool
-    ensures { IsTrue result → slice_get links.now at ≡ Some link }
-{
-    if at as usize >= links.len() {
-        return false;
-    }
-    links[at as usize].before == link.before && links[at as usize].word == link.word
-}
-
-// The number of a memory, if the table tells one.
-fn find_memory(memories: &[Memory], table: &Table, memory: &Memory, digest: u32) -> Option<u32>
-    ensures { IfSome result (λ at. slice_get memories.now at ≡ Some memory.now) }
-{
-    for behind in 0..table.len() {
-        match table.slot(digest, behind) {
-            Slot::Free => return None,
-            Slot::Number(at) => {
-                if is_memory(memories, at, memory) {
-                    return Some(at);
-                }
-            }
-            Slot::Other => {}
-        }
-    }
-    None
-}
-
-// The memory with this number is the same.
-fn is_memory(memories: &[Memory], at: u32, memory: &Memory) -> bool
-    ensures { IsTrue result → slice_get memories.now at ≡ Some memory.now }
-{
-    if at as usize >= memories.len() {
-        return false;
-    }
-    same_lines(memories[at as usize].values(), memory.values())
-}
-
-// A number that is the same for memories that are the same.
-fn digest_of(memory: &Memory) -> u32 {
-    let mut digest = 1_u32;
-    let mut factor = 0x9e37_79b1_u32;
-    for line in memory.values() {
-        let words = mixed(mixed(mixed(line.a, line.b), line.c), line.d);
-        digest = digest.wrapping_add(words.wrapping_mul(factor));
-        factor = factor.wrapping_add(0x85eb_ca6a);
-    }
-    mixed(digest, 0)
 }
 
 // Both registers are the same.

@@ -7,9 +7,9 @@ use Rattle.alw_outcomes.proofs.Pooling.{links_go_on, words_longer}
 use Rattle.alw_outcomes.proofs.pools.list_after.Goals as goal
 
 pub returns-in_ok-at-in-Out-clause-links : goal.returns-in_ok-at-in-Out-clause-links
-returns-in_ok-at-in-Out-clause-links c = links_go_on c.args.links.now.items c.link_number.new.links.items c.args.list c.in-Out.word c.in_ok-at-in-Out.at c.requires.list c.requires.back c.in_ok-at-in-Out.ensures.number
+returns-in_ok-at-in-Out-clause-links c = links_go_on c.args.links.now.items c.number_in.new.pool.items c.args.list c.in-Out.word c.in_ok-at-in-Out.at c.requires.list c.requires.back c.in_ok-at-in-Out.ensures.number
 
 pub returns-in_ok-at-in-Out-clause-words : goal.returns-in_ok-at-in-Out-clause-words
 returns-in_ok-at-in-Out-clause-words c =
-    subst (λ (o : Outcome). HasWords c.link_number.new.links.items (c.in_ok-at-in-Out.at + 1) (words_after (slice_index_or (lists_of c.args.links.now.items) c.args.list []) o)) (sym c.in-Out.is)
-    (words_longer c.args.links.now.items c.link_number.new.links.items c.args.list c.in-Out.word c.in_ok-at-in-Out.at c.requires.list c.requires.back c.in_ok-at-in-Out.ensures.number)
+    subst (λ (o : Outcome). HasWords c.number_in.new.pool.items (c.in_ok-at-in-Out.at + 1) (words_after (slice_index_or (lists_of c.args.links.now.items) c.args.list []) o)) (sym c.in-Out.is)
+    (words_longer c.args.links.now.items c.number_in.new.pool.items c.args.list c.in-Out.word c.in_ok-at-in-Out.at c.requires.list c.requires.back c.in_ok-at-in-Out.ensures.number)
