@@ -1,152 +1,266 @@
--- Sums of counts by groups of 16 places: what a change of one count does to them, and how number k is found by them.
-use Rattle.std.proofs.Common.{◌≡◌, ◌≢◌, ℕ, zero, suc, add-one, ◌+◌, ◌-◌, ◌*◌, ◌/◌, ◌%◌, ◌<◌, ◌≤◌, List, [], ◌∷◌, length, replicate, set, drop, slice_index, refl, sym, ap, ◌∙◌, ⊎_elim, arith}
-use Rattle.std.proofs.lemmas.Bool.{cases_lt}
-use Rattle.std.proofs.lemmas.List.{get_or-set_same, get_or-set_other, get_or-drop, get_or_past, length-set, length-replicate, get_or-replicate}
-use Rattle.alw_num.specs.Weights.{sum_below}
-use Rattle.alw_num.proofs.Weigh.{is_node, sum_same, sum_le, sum_none, sum_scale, sum_ones, le_sum, sum_at}
+-- Sums of counts by parts of so many places: what a change of one count does to them, and how number k is found by them.
+use Rattle.std.proofs.Common.{◌≡◌, ◌≢◌, ℕ, zero, suc, add-one, mul-add, ◌+◌, ◌-◌, ◌*◌, ◌/◌, ◌^◌, ◌<◌, ◌≤◌, List, [], ◌∷◌, length, replicate, take, set, slice_index, refl, sym, ap, ◌∙◌, ◌⊎◌, inl, inr, ⊎_elim, arith}
+use Rattle.std.proofs.lemmas.List.{get_or-set_same, get_or-set_other, get_or_past, length-set, length-replicate, get_or-replicate}
+use Rattle.alw_num.proofs.Weigh.{is_node, sum_same, sum_le, sum_none, sum_scale, sum_ones, sum_at, cases_lt_then}
 use Rattle.alw_num.proofs.Ranks.{sum_cat}
-use Rattle.alw_num.specs.PlaceCounts.{sum_before, total, IsPlace, AreSummed}
+use Rattle.alw_num.specs.PlaceCounts.{sum_before, total, IsPlace, IsInPart, AreSumsBy, AreSummed}
 
--- one count more
-pub sum_more : (counts : List ℕ) (n : ℕ) → sum_before counts (n + 1) ≡ sum_before counts n + slice_index counts n
-sum_more counts n = rw add-one (omega arith)
+module _ (counts : List ℕ) where
+  -- one count more
+  sum_more : (n : ℕ) → sum_before counts (n + 1) ≡ sum_before counts n + slice_index counts n
+  sum_more n = rw add-one (omega arith)
 
--- a sum that goes on over zeros
-sum_past : (f : ℕ → ℕ) (n m : ℕ) → ((k : ℕ) → n ≤ k → f k ≡ 0) → n ≤ m → sum_below m f ≡ sum_below n f
-sum_past f n m none l =
-    let whole : n + (m - n) ≡ m = omega arith in
-    ap (λ k. sum_below k f) (sym whole) ∙ (sum_cat n (m - n) f ∙ omega (arith, sum_none (m - n) (λ k. f (n + k)) (λ k h. none (n + k) (omega arith))))
+  -- a longer front has no less
+  sum_up : (n m : ℕ) → n ≤ m → sum_before counts n ≤ sum_before counts m
+  sum_up n m l =
+      let whole : n + (m - n) ≡ m = omega arith in
+      omega (arith, ap (sum_before counts) whole, sum_cat n (m - n) (slice_index counts))
 
--- a sum is no more than that of all that isn't zero
-sum_most : (f : ℕ → ℕ) (n m : ℕ) → ((k : ℕ) → n ≤ k → f k ≡ 0) → sum_below m f ≤ sum_below n f
-sum_most f n m none = ⊎_elim
-    (λ l. omega (arith, ap (λ k. sum_below k f) (shorter m n l), sum_cat m (n - m) f))
-    (λ l. omega (arith, sum_past f n m none l))
-    (cases_lt m n)
-  where
-    shorter : (m n : ℕ) → m < n → n ≡ m + (n - m)
-    shorter m n l = omega arith
+  beyond : (k : ℕ) → length counts ≤ k → slice_index counts k ≡ 0
+  beyond k l = get_or_past counts k 0 l
 
-beyond : (counts : List ℕ) (k : ℕ) → length counts ≤ k → slice_index counts k ≡ 0
-beyond counts k l = get_or_past counts k 0 l
+  -- no front has more than all
+  sum_most : (n : ℕ) → sum_before counts n ≤ total counts
+  sum_most n = cases_lt_then (length counts) n (λ l. sum_up n (length counts) (omega arith)) (λ l.
+      let whole : length counts + (n - length counts) ≡ n = omega arith in
+      omega (
+        arith,
+        ap (sum_before counts) whole,
+        sum_cat (length counts) (n - length counts) (slice_index counts),
+        sum_none (n - length counts) (λ k. slice_index counts (length counts + k)) (λ k m. beyond (length counts + k) (omega arith)),
+      ))
 
--- groups of 16 places make up a front
-by_groups : (g : ℕ) (f : ℕ → ℕ) → sum_below g (λ i. sum_below 16 (λ j. f (16 * i + j))) ≡ sum_below (16 * g) f
-by_groups zero f = refl
-by_groups (suc g) f =
-    let e : 16 * suc g ≡ 16 * g + 16 = omega arith in
-    ap (λ n. sum_below 16 (λ j. f (16 * g + j)) + n) (by_groups g f) ∙ sym (ap (λ n. sum_below n f) e ∙ (sum_cat (16 * g) 16 f ∙ omega arith))
+  -- small counts of a few places have a small sum
+  total_small : length counts ≤ 256 → ((k : ℕ) → slice_index counts k < 65536) → total counts ≤ 16776960
+  total_small few small = omega (
+    arith,
+    sum_le (length counts) (slice_index counts) (λ k. 65535 * 1) (λ k l. omega (arith, small k)),
+    sum_scale (length counts) 65535 (λ k. 1),
+    sum_ones (length counts),
+  )
 
-module _ (counts groups : List ℕ) (sum : ℕ) (summed : AreSummed counts groups sum) where
-  -- the groups in front of one sum up all places in front of it
-  pub front_is : (g : ℕ) → sum_before groups g ≡ sum_before counts (16 * g)
-  front_is g = sum_same g (slice_index groups) (λ i. sum_below 16 (λ j. slice_index counts (16 * i + j))) (λ i l. summed.grouped i) ∙ by_groups g (slice_index counts)
+  -- ---- finding
 
-  pub all_groups : length groups ≡ 16 → total groups ≡ total counts
-  all_groups sixteen = ap (sum_before groups) sixteen ∙ (front_is 16 ∙ sum_past (slice_index counts) (length counts) 256 (beyond counts) summed.few)
+  -- what stands behind a front and not behind one place more is of that place
+  is_place : (p place k left : ℕ) → place ≡ p → sum_before counts p + left ≡ k → k < sum_before counts (p + 1) → IsPlace counts k place left
+  is_place p place k left same before below =
+      let front : sum_before counts place ≡ sum_before counts p = ap (sum_before counts) same in
+      let here : slice_index counts place ≡ slice_index counts p = ap (slice_index counts) same in
+      record { before = omega (arith, front, before); below = omega (arith, sum_more p, here, before, below) }
 
-  module _ (group number : ℕ) (here : number < slice_index groups group) where
-    pub rest_has : number < total (drop (16 * group) counts)
-    rest_has =
-        let tail = drop (16 * group) counts in
+  pub place_exists : (k place left : ℕ) → IsPlace counts k place left → place < length counts
+  place_exists k place left found = cases_lt_then (length counts) place (λ l. l) (λ l. absurd (omega (arith, found.below, beyond place l)))
+
+  -- of two parts one after the other, the first or the second has number k
+  halved : (low middle high k first left half rest : ℕ) → sum_before counts low + left ≡ k → k < sum_before counts high → sum_before counts low + first ≡ sum_before counts middle
+      → (left < first → (half ≡ 0) × (rest ≡ left)) → (first ≤ left → (half ≡ 1) × (first + rest ≡ left))
+      → ((half ≡ 0) × ((sum_before counts low + rest ≡ k) × (k < sum_before counts middle))) ⊎ ((half ≡ 1) × ((sum_before counts middle + rest ≡ k) × (k < sum_before counts high)))
+  halved low middle high k first left half rest before below part one two = cases_lt_then first left
+      (λ l. let in_first = one l in inl (in_first.0, (omega (arith, in_first.1), omega arith)))
+      (λ l. let in_second = two l in inr (in_second.0, (omega (arith, in_second.1), below)))
+
+  -- two halvings find one of four
+  pub one_of_four : (at k half left odd rest : ℕ) → sum_before counts at + k < sum_before counts (at + 4)
+      → (k < slice_index counts at + slice_index counts (at + 1) → (half ≡ 0) × (left ≡ k)) → (slice_index counts at + slice_index counts (at + 1) ≤ k → (half ≡ 1) × (slice_index counts at + slice_index counts (at + 1) + left ≡ k))
+      → (left < slice_index counts (at + 2 * half) → (odd ≡ 0) × (rest ≡ left)) → (slice_index counts (at + 2 * half) ≤ left → (odd ≡ 1) × (slice_index counts (at + 2 * half) + rest ≡ left))
+      → IsPlace counts (sum_before counts at + k) (at + 2 * half + odd) rest
+  one_of_four at k half left odd rest below first second even uneven =
+      let next : at + 1 + 1 ≡ at + 2 = omega arith in
+      let last : at + 4 ≡ at + 2 + 2 = omega arith in
+      let two : sum_before counts at + (slice_index counts at + slice_index counts (at + 1)) ≡ sum_before counts (at + 2) = omega (arith, sum_more at, sum_more (at + 1), ap (sum_before counts) next) in
+      ⊎_elim
+      (λ low. one_of_two at (omega (arith, low.0)) low.1.0 low.1.1)
+      (λ high. one_of_two (at + 2) (omega (arith, high.0)) high.1.0 (omega (arith, high.1.1, ap (sum_before counts) last)))
+      (halved at (at + 2) (at + 4) (sum_before counts at + k) (slice_index counts at + slice_index counts (at + 1)) k half left refl below two first second)
+    where
+      one_of_two : (p : ℕ) → at + 2 * half ≡ p → sum_before counts p + left ≡ sum_before counts at + k → sum_before counts at + k < sum_before counts (p + 2) → IsPlace counts (sum_before counts at + k) (at + 2 * half + odd) rest
+      one_of_two p is before within =
+          let here : slice_index counts (at + 2 * half) ≡ slice_index counts p = ap (slice_index counts) is in
+          let next : p + 1 + 1 ≡ p + 2 = omega arith in
+          ⊎_elim
+          (λ low. is_place p (at + 2 * half + odd) (sum_before counts at + k) rest (omega (arith, low.0, is)) low.1.0 low.1.1)
+          (λ high. is_place (p + 1) (at + 2 * half + odd) (sum_before counts at + k) rest (omega (arith, high.0, is)) high.1.0 (omega (arith, high.1.1, ap (sum_before counts) next)))
+          (halved p (p + 1) (p + 2) (sum_before counts at + k) (slice_index counts (at + 2 * half)) left odd rest before within (omega (arith, sum_more p, here)) even uneven)
+
+  -- a part of all places has every number
+  pub in_all : (width k : ℕ) → length counts ≤ width → k < total counts → IsInPart width counts k 0 k
+  in_all width k l below =
+      let none : width * 0 ≡ 0 = omega arith in
+      let one : width * (0 + 1) ≡ width = omega arith in
+      let front : sum_before counts (width * 0) ≡ 0 = ap (sum_before counts) none in
+      record { before = omega (arith, front); below = omega (arith, below, ap (sum_before counts) one, sum_up (length counts) width l) }
+
+  -- a part of one place is the place
+  pub in_one : (k place left : ℕ) → IsInPart 1 counts k place left → IsPlace counts k place left
+  in_one k place left found =
+      let this : 1 * place ≡ place = omega arith in
+      let next : 1 * (place + 1) ≡ place + 1 = omega arith in
+      is_place place place k left refl (omega (arith, found.before, ap (sum_before counts) this)) (omega (arith, found.below, ap (sum_before counts) next))
+
+module _ (width : ℕ) (counts sums : List ℕ) (are : AreSumsBy width counts sums) where
+  -- the sums in front of a part are what stands in front of it
+  front_is : (part : ℕ) → sum_before sums part ≡ sum_before counts (width * part)
+  front_is zero = let none : width * 0 ≡ 0 = omega arith in sym (ap (sum_before counts) none)
+  front_is (suc part) =
+      let next : part + 1 ≡ suc part = omega arith in
+      omega (arith, front_is part, are part, ap (λ n. sum_before counts (width * n)) next)
+
+  pub sums_small : (n : ℕ) → length counts ≤ 256 → ((k : ℕ) → slice_index counts k < 65536) → sum_before sums n < 2 ^ 32
+  sums_small n few small = omega (arith, front_is n, sum_most counts (width * n), total_small counts few small)
+
+  -- so many sums that have all places have every number
+  pub has_all : (n k : ℕ) → length counts ≤ width * n → k < total counts → sum_before sums 0 + k < sum_before sums (0 + n)
+  has_all n k l below =
+      let none : 0 + n ≡ n = omega arith in
+      omega (arith, below, ap (sum_before sums) none, front_is n, sum_up counts (length counts) (width * n) l)
+
+  -- which sum has a number says which part has it
+  pub in_part : (number k part left : ℕ) → number ≡ k → IsPlace sums number part left → IsInPart width counts k part left
+  in_part number k part left same found = record {
+    before = omega (arith, same, front_is part, found.before);
+    below = omega (arith, same, front_is part, are part, found.before, found.below);
+  }
+
+  module _ (wide k part left : ℕ) (found : IsInPart wide counts k part left) where
+    -- a part that has a number is four parts that have it
+    pub has_four : width * (4 * part) ≡ wide * part → width * (4 * part + 4) ≡ wide * (part + 1) → sum_before sums (4 * part) + left < sum_before sums (4 * part + 4)
+    has_four low high = omega (
+      arith,
+      front_is (4 * part),
+      front_is (4 * part + 4),
+      ap (sum_before counts) low,
+      ap (sum_before counts) high,
+      found.before,
+      found.below,
+    )
+
+    -- and one of the four is the part that has it
+    pub found_in : (place rest : ℕ) → width * (4 * part) ≡ wide * part → IsPlace sums (sum_before sums (4 * part) + left) place rest → IsInPart width counts k place rest
+    found_in place rest low is = in_part (sum_before sums (4 * part) + left) k place rest (omega (arith, front_is (4 * part), ap (sum_before counts) low, found.before)) is
+
+ones_are : (counts ones : List ℕ) → AreSumsBy 1 counts ones → (k : ℕ) → slice_index ones k ≡ slice_index counts k
+ones_are counts ones are k =
+    let this : 1 * k ≡ k = omega arith in
+    let next : 1 * (k + 1) ≡ k + 1 = omega arith in
+    omega (arith, are k, ap (sum_before counts) this, ap (sum_before counts) next, sum_more counts k)
+
+-- ---- a change of one count
+
+module _ (counts : List ℕ) (place count : ℕ) (here : place < length counts) (few : length counts ≤ 256) (small : (k : ℕ) → slice_index counts k < 65536) (new_small : count < 65536) where
+  next_here : slice_index (set counts place count) place ≡ count
+  next_here = get_or-set_same counts place count 0 here
+
+  next_other : (k : ℕ) → k ≢ place → slice_index (set counts place count) k ≡ slice_index counts k
+  next_other k other = get_or-set_other counts place k count 0 other
+
+  before_it : (n : ℕ) → n ≤ place → sum_before (set counts place count) n ≡ sum_before counts n
+  before_it n l = sum_same n (slice_index (set counts place count)) (slice_index counts) (λ k m. next_other k (λ e. omega arith))
+
+  behind_it : (n : ℕ) → place < n → sum_before (set counts place count) n + slice_index counts place ≡ sum_before counts n + count
+  behind_it n l = omega (arith, next_here, sum_at n (slice_index counts) (slice_index (set counts place count)) place l (λ k d. sym (next_other k d)))
+
+  -- a sum that is exchanged is that of all
+  pub total_next : (sum old new : ℕ) → sum ≡ total counts → old ≡ slice_index counts place → (old ≤ sum → sum + count < 2 ^ 32 → new ≡ sum - old + count) → new ≡ total (set counts place count)
+  total_next sum old new all was exchanged =
+      let length_is : length (set counts place count) ≡ length counts = length-set counts place count in
+      let there : old ≤ sum = omega (arith, all, was, sum_more counts place, sum_up counts (place + 1) (length counts) (omega arith)) in
+      omega (arith, exchanged there (omega (arith, all, total_small counts few small)), there, all, was, behind_it (length counts) here, ap (sum_before (set counts place count)) length_is)
+
+  module _ (width : ℕ) (sums : List ℕ) (are : AreSumsBy width counts sums) (mine : ℕ) (room : mine < length sums) (from : width * mine ≤ place) (to : place < width * (mine + 1))
+      (less : (part : ℕ) → part < mine → width * (part + 1) ≤ place) (more : (part : ℕ) → mine < part → place < width * part) where
+    part_has : slice_index counts place ≤ slice_index sums mine
+    part_has = omega (arith, are mine, sum_up counts (width * mine) place from, sum_more counts place, sum_up counts (place + 1) (width * (mine + 1)) (omega arith))
+
+    part_small : slice_index sums mine + count < 2 ^ 32
+    part_small = omega (arith, are mine, sum_most counts (width * (mine + 1)), total_small counts few small)
+
+    pub resummed_by : (old new : ℕ) → old ≡ slice_index counts place → (old ≤ slice_index sums mine → slice_index sums mine + count < 2 ^ 32 → new ≡ slice_index sums mine - old + count)
+        → AreSumsBy width (set counts place count) (set sums mine new)
+    resummed_by old new was exchanged part = is_node _ part mine
+        (λ same.
+        let is : slice_index (set sums mine new) part ≡ new = ap (slice_index (set sums mine new)) same ∙ get_or-set_same sums mine new 0 room in
+        let low : width * part ≡ width * mine = ap (λ n. width * n) same in
+        let high : width * (part + 1) ≡ width * (mine + 1) = ap (λ n. width * (n + 1)) same in
         omega (
           arith,
-          here,
-          summed.grouped group,
-          sum_most (slice_index tail) (length tail) 16 (beyond tail),
-          sum_same 16 (slice_index tail) (λ j. slice_index counts (16 * group + j)) (λ j m. get_or-drop (16 * group) counts j 0),
-        )
-
-    pub place_is : (k place left : ℕ) → sum_before groups group + number ≡ k → IsPlace (drop (16 * group) counts) number place left → IsPlace counts k (16 * group + place) left
-    place_is k place left before found = record {
-      before = omega (
-        arith,
-        before,
-        front_is group,
-        found.before,
-        sum_cat (16 * group) place (slice_index counts),
-        sum_same place (slice_index (drop (16 * group) counts)) (λ j. slice_index counts (16 * group + j)) (λ j m. get_or-drop (16 * group) counts j 0),
-      );
-      below = omega (arith, found.below, get_or-drop (16 * group) counts place 0);
-    }
-
-  -- ---- a change of one count
-
-  module _ (place count old : ℕ) (here : place < length counts) (small : count < 65536) (old_is : old ≡ slice_index counts place) where
-    abbrev next : List ℕ
-    next = set counts place count
-
-    next_here : slice_index next place ≡ count
-    next_here = get_or-set_same counts place count 0 here
-
-    next_other : (k : ℕ) → k ≢ place → slice_index next k ≡ slice_index counts k
-    next_other k other = get_or-set_other counts place k count 0 other
-
-    -- the count is part of its group's sum, and of all
-    pub old_in_group : old ≤ slice_index groups (place / 16)
-    old_in_group =
-        let at : 16 * (place / 16) + place % 16 ≡ place = omega arith in
-        omega (arith, summed.grouped (place / 16), ap (slice_index counts) at, le_sum 16 (λ j. slice_index counts (16 * (place / 16) + j)) (place % 16) (omega arith))
-
-    pub old_in_all : old ≤ sum
-    old_in_all = omega (arith, summed.all, le_sum (length counts) (slice_index counts) place here)
-
-    -- the sums are small
-    sum_small : (n : ℕ) (f : ℕ → ℕ) → ((k : ℕ) → f k < 65536) → sum_below n f ≤ 65535 * n
-    sum_small n f few = omega (arith, sum_le n f (λ k. 65535 * 1) (λ k l. omega (arith, few k)), sum_scale n 65535 (λ k. 1), sum_ones n)
-
-    pub all_small : sum ≤ 16776960
-    all_small = omega (arith, summed.all, summed.few, sum_small (length counts) (slice_index counts) summed.small)
-
-    regrouped : length groups ≡ 16 → (g : ℕ) → slice_index (set groups (place / 16) (slice_index groups (place / 16) - old + count)) g ≡ sum_below 16 (λ j. slice_index next (16 * g + j))
-    regrouped sixteen g = is_node _ g (place / 16)
-        (λ same. same_group same)
-        (λ other. get_or-set_other groups (place / 16) g _ 0 other ∙ (summed.grouped g
-        ∙ sum_same 16 (λ j. slice_index counts (16 * g + j)) (λ j. slice_index next (16 * g + j)) (λ j l. sym (next_other (16 * g + j) (λ e. other (omega arith))))))
+          is,
+          was,
+          part_has,
+          exchanged (omega (arith, was, part_has)) part_small,
+          are mine,
+          ap (sum_before (set counts place count)) low,
+          ap (sum_before (set counts place count)) high,
+          before_it (width * mine) from,
+          behind_it (width * (mine + 1)) to,
+        ))
+        (λ other. cases_lt_then mine part
+        (λ l. omega (arith, are part, get_or-set_other sums mine part new 0 other, before_it (width * part) (omega (arith, less part l, under part)), before_it (width * (part + 1)) (less part l)))
+        (λ l. omega (arith, are part, get_or-set_other sums mine part new 0 other, behind_it (width * part) (more part (omega arith)), behind_it (width * (part + 1)) (more (part + 1) (omega arith)))))
       where
-        same_group : g ≡ place / 16 → slice_index (set groups (place / 16) (slice_index groups (place / 16) - old + count)) g ≡ sum_below 16 (λ j. slice_index next (16 * g + j))
-        same_group same =
-            let at : 16 * g + place % 16 ≡ place = omega arith in
-            let fits : place / 16 < length groups = omega arith in
-            let changed = sum_at 16 (λ j. slice_index counts (16 * g + j)) (λ j. slice_index next (16 * g + j)) (place % 16) (omega arith) (λ j d. sym (next_other (16 * g + j) (λ e. d (omega arith)))) in
-            let new : slice_index next (16 * g + place % 16) ≡ count = ap (slice_index next) at ∙ next_here in
-            let was : slice_index counts (16 * g + place % 16) ≡ old = ap (slice_index counts) at ∙ sym old_is in
-            let group : slice_index groups g ≡ slice_index groups (place / 16) = ap (slice_index groups) same in
-            ap (slice_index (set groups (place / 16) (slice_index groups (place / 16) - old + count))) same
-            ∙ (get_or-set_same groups (place / 16) (slice_index groups (place / 16) - old + count) 0 fits
-            ∙ omega (arith, old_in_group, summed.grouped g, changed, new, was, group))
+        under : (part : ℕ) → width * part ≤ width * (part + 1)
+        under part = rw mul-add (omega arith)
 
-    pub resummed : length groups ≡ 16 → AreSummed next (set groups (place / 16) (slice_index groups (place / 16) - old + count)) (sum - old + count)
-    resummed sixteen = record {
-      few = omega (arith, summed.few, length-set counts place count);
+-- a count and its sums are exchanged
+pub resummed : (places : ℕ) (counts ones fours sixteens quarters : List ℕ) (sum : ℕ) → AreSummed places counts ones fours sixteens quarters sum
+    → length fours ≡ 64 → length sixteens ≡ 16 → length quarters ≡ 4
+    → (place count old : ℕ) → place < length counts → count < 65536 → old ≡ slice_index ones place
+    → (four sixteen quarter all : ℕ)
+    → (old ≤ slice_index fours (place / 4) → slice_index fours (place / 4) + count < 2 ^ 32 → four ≡ slice_index fours (place / 4) - old + count)
+    → (old ≤ slice_index sixteens (place / 16) → slice_index sixteens (place / 16) + count < 2 ^ 32 → sixteen ≡ slice_index sixteens (place / 16) - old + count)
+    → (old ≤ slice_index quarters (place / 64) → slice_index quarters (place / 64) + count < 2 ^ 32 → quarter ≡ slice_index quarters (place / 64) - old + count)
+    → (old ≤ sum → sum + count < 2 ^ 32 → all ≡ sum - old + count)
+    → AreSummed places (set counts place count) (set ones place count) (set fours (place / 4) four) (set sixteens (place / 16) sixteen) (set quarters (place / 64) quarter) all
+resummed places counts ones fours sixteens quarters sum are four_is sixteen_is quarter_is place count old here new_small was four sixteen quarter all in_four in_sixteen in_quarter in_all =
+    let few : length counts ≤ 256 = omega (arith, are.counted, are.few) in
+    let in_ones = ones_are counts ones are.by_one place in
+    let old_is : old ≡ slice_index counts place = was ∙ in_ones in
+    record {
+      counted = length-set counts place count ∙ are.counted;
+      few = are.few;
+      room = length-set ones place count ∙ are.room;
       small = λ k. is_node _ k place
-          (λ same. omega (arith, ap (slice_index next) same, next_here))
-          (λ other. omega (arith, next_other k other, summed.small k));
-      grouped = regrouped sixteen;
-      all =
-          let same_length = length-set counts place count in
-          let changed = sum_at (length counts) (slice_index counts) (slice_index next) place here (λ k d. sym (next_other k d)) in
-          omega (arith, old_in_all, summed.all, changed, next_here, ap (sum_before next) same_length);
+          (λ same. omega (arith, ap (slice_index (set counts place count)) same, get_or-set_same counts place count 0 here))
+          (λ other. omega (arith, get_or-set_other counts place k count 0 other, are.small k));
+      by_one = resummed_by counts place count here few are.small new_small 1 ones are.by_one place (omega (arith, are.room)) (omega arith) (omega arith) (λ part l. omega arith) (λ part l. omega arith) old count old_is (λ l m. omega (arith, was));
+      by_four = resummed_by counts place count here few are.small new_small 4 fours are.by_four (place / 4) (omega arith) (omega arith) (omega arith) (λ part l. omega arith) (λ part l. omega arith) old four old_is in_four;
+      by_sixteen =
+          resummed_by counts place count here few are.small new_small 16 sixteens are.by_sixteen (place / 16) (omega arith) (omega arith) (omega arith) (λ part l. omega arith) (λ part l. omega arith) old sixteen old_is in_sixteen;
+      by_quarter =
+          resummed_by counts place count here few are.small new_small 64 quarters are.by_quarter (place / 64) (omega arith) (omega arith) (omega arith) (λ part l. omega arith) (λ part l. omega arith) old quarter old_is in_quarter;
+      all = total_next counts place count here few are.small new_small sum old all are.all old_is in_all;
     }
 
--- zeros in 16 groups
-abbrev pub zeros : List ℕ
-zeros = 0 ∷ 0 ∷ 0 ∷ 0 ∷ 0 ∷ 0 ∷ 0 ∷ 0 ∷ 0 ∷ 0 ∷ 0 ∷ 0 ∷ 0 ∷ 0 ∷ 0 ∷ 0 ∷ []
+-- a front of a list in which one member is exchanged
+pub take_set : (n : ℕ) (xs : List ℕ) (place x : ℕ) → take n (set xs place x) ≡ set (take n xs) place x
+take_set zero xs place x = refl
+take_set (suc n) [] place x = refl
+take_set (suc n) (y ∷ ys) zero x = refl
+take_set (suc n) (y ∷ ys) (suc place) x = ap (λ zs. y ∷ zs) (take_set n ys place x)
+
+-- ---- no counts but zeros
 
 no_count : (n k : ℕ) → slice_index (replicate n 0) k ≡ 0
-no_count n k = ⊎_elim
+no_count n k = cases_lt_then n k
     (λ l. get_or-replicate n k 0 0 l)
     (λ l. get_or_past (replicate n 0) k 0 (omega (arith, length-replicate {A = ℕ} n 0)))
-    (cases_lt k n)
 
-no_group : (g : ℕ) → slice_index zeros g ≡ 0
-no_group g = no_count 16 g
+no_sums : (width places n : ℕ) → AreSumsBy width (replicate places 0) (replicate n 0)
+no_sums width places n part = omega (
+  arith,
+  no_count n part,
+  sum_none (width * part) (slice_index (replicate places 0)) (λ k l. no_count places k),
+  sum_none (width * (part + 1)) (slice_index (replicate places 0)) (λ k l. no_count places k),
+)
 
--- no counts but zeros
-pub zeros_summed : (n : ℕ) → n ≤ 256 → AreSummed (replicate n 0) zeros 0
-zeros_summed n few = record {
-  few = omega (arith, length-replicate {A = ℕ} n 0);
-  small = λ k. omega (arith, no_count n k);
-  grouped = λ g. no_group g ∙ sym (sum_none 16 (λ j. slice_index (replicate n 0) (16 * g + j)) (λ j l. no_count n (16 * g + j)));
-  all = sym (sum_none (length (replicate n 0)) (slice_index (replicate n 0)) (λ k l. no_count n k));
+pub zeros_summed : (places n : ℕ) → places ≤ 256 → n ≡ 256 → AreSummed places (replicate places 0) (replicate n 0) (replicate 64 0) (replicate 16 0) (replicate 4 0) 0
+zeros_summed places n few all = record {
+  counted = length-replicate {A = ℕ} places 0;
+  few = few;
+  room = length-replicate {A = ℕ} n 0 ∙ all;
+  small = λ k. omega (arith, no_count places k);
+  by_one = no_sums 1 places n;
+  by_four = no_sums 4 places 64;
+  by_sixteen = no_sums 16 places 16;
+  by_quarter = no_sums 64 places 4;
+  all = sym (sum_none (length (replicate places 0)) (slice_index (replicate places 0)) (λ k l. no_count places k));
 }

@@ -15,9 +15,23 @@ pub record IsPlace (counts : List ℕ) (k place number : ℕ) : Type 0 where
   pub before : sum_before counts place + number ≡ k
   pub below : number < slice_index counts place
 
--- at most 256 small counts, with their sums by groups of 16 places, and of all
-pub record AreSummed (counts groups : List ℕ) (sum : ℕ) : Type 0 where
-  pub few : length counts ≤ 256
+-- number k of what the counts count is this number among what they count in a part, where parts have so many places each
+pub record IsInPart (width : ℕ) (counts : List ℕ) (k part number : ℕ) : Type 0 where
+  pub before : sum_before counts (width * part) + number ≡ k
+  pub below : k < sum_before counts (width * (part + 1))
+
+-- sums of the counts by parts of so many places
+abbrev pub AreSumsBy : ℕ → List ℕ → List ℕ → Type 0
+AreSumsBy width counts sums = (part : ℕ) → sum_before counts (width * part) + slice_index sums part ≡ sum_before counts (width * (part + 1))
+
+-- so many small counts, at most 256, with the list that they stand in front of, their sums by 4, 16 and 64 places, and the sum of all
+pub record AreSummed (places : ℕ) (counts ones fours sixteens quarters : List ℕ) (sum : ℕ) : Type 0 where
+  pub counted : length counts ≡ places
+  pub few : places ≤ 256
+  pub room : length ones ≡ 256
   pub small : (place : ℕ) → slice_index counts place < 65536
-  pub grouped : (group : ℕ) → slice_index groups group ≡ sum_below 16 (λ k. slice_index counts (16 * group + k))
+  pub by_one : AreSumsBy 1 counts ones
+  pub by_four : AreSumsBy 4 counts fours
+  pub by_sixteen : AreSumsBy 16 counts sixteens
+  pub by_quarter : AreSumsBy 64 counts quarters
   pub all : sum ≡ total counts

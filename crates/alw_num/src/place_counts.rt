@@ -1,32 +1,32 @@
-ghost use Rattle.std.specs.Prelude.{◌≡◌, ◌<◌, ◌≤◌, length, replicate, slice_index, slice_set, IfOk};
-ghost use Rattle.alw_num.specs.PlaceCounts.{total, IsPlace};
+ghost use Rattle.std.specs.Prelude.{◌≡◌, ◌<◌, ◌≤◌, ◌+◌, ◌-◌, ◌*◌, ◌^◌, length, replicate, slice_index, slice_set, IfOk};
+ghost use Rattle.alw_num.specs.PlaceCounts.{sum_before, total, IsPlace, IsInPart};
 
 use crate::memory::NoMemory;
 use crate::node_sets::MOST_NODES;
 use std::alloc::Global;
 use std::marker::Model;
 
-// The number of counts in a group, and of groups.
-const GROUP: usize = 16;
-
-/// Counts by place, at most 256, with their sums by groups of 16 places and in all: a number of what
-/// they count is found by two short scans.
+/// Counts by place, at most 256, with the sums of each 4, 16 and 64 places and of all. A number of what
+/// they count is found from the largest parts down: two comparisons say which of four parts has it.
 #[derive(Debug, Drop)]
 pub struct PlaceCounts {
+    places: u32,
     counts: Vec<u32>,
-    groups: [u32; 16],
+    fours: [u32; 64],
+    sixteens: [u32; 16],
+    quarters: [u32; 4],
     total: u32,
 }
 
 impl Model for PlaceCounts {
-    ghost use Rattle.std.specs.Prelude.{List, ℕ};
+    ghost use Rattle.std.specs.Prelude.{List, ℕ, take};
     ghost use Rattle.alw_num.specs.PlaceCounts.{AreSummed};
 
     ghost Value = { List ℕ };
 
-    ghost view = { λ t. t.counts.items };
+    ghost view = { λ t. take t.places t.counts.items };
 
-    ghost invariant = { λ t. AreSummed t.counts.items t.groups t.total };
+    ghost invariant = { λ t. AreSummed t.places (take t.places t.counts.items) t.counts.items t.fours t.sixteens t.quarters t.total };
 }
 
 impl PlaceCounts {
@@ -35,13 +35,16 @@ impl PlaceCounts {
         requires { places ≤ MOST_NODES }
         ensures { IfOk result (λ counts. counts ≡ replicate places 0) }
     {
-        let mut counts = Vec::with_capacity(alloc, places as usize)?;
-        for _place in 0..places {
+        let mut counts = Vec::with_capacity(alloc, usize::from(MOST_NODES))?;
+        for _place in 0..MOST_NODES {
             counts.push_reserved(0);
         }
         Ok(PlaceCounts {
+            places,
             counts,
-            groups: [0; 16],
+            fours: [0; 64],
+            sixteens: [0; 16],
+            quarters: [0; 4],
             total: 0,
         })
     }
@@ -54,44 +57,105 @@ impl PlaceCounts {
     }
 
     /// The count at a place becomes this one.
+    #[inline(always)]
     pub fn set(&mut self, place: usize, count: u16)
         requires { place < length self.old }
         ensures { self.new ≡ slice_set self.old place count }
     {
         let count = u32::from(count);
         let old = self.counts[place];
-        let group = place / GROUP;
-        self.groups[group] = self.groups[group] - old + count;
-        self.total = self.total - old + count;
         self.counts[place] = count;
+        self.fours[place / 4] = exchanged(self.fours[place / 4], old, count);
+        self.sixteens[place / 16] = exchanged(self.sixteens[place / 16], old, count);
+        self.quarters[place / 64] = exchanged(self.quarters[place / 64], old, count);
+        self.total = exchanged(self.total, old, count);
     }
 
     /// The place of number k of what is counted, and its number among those that the place counts.
+    #[inline(always)]
     pub fn find(&self, k: u32) -> (usize, u32)
         requires { k < total self.now }
         ensures place { IsPlace self.now k result.0 result.1 }
         ensures within { result.0 < length self.now }
     {
-        let (group, number) = scan(&self.groups, k);
-        let start = GROUP * group;
-        let (_, rest) = self.counts.split_at(start);
-        let (place, number) = scan(rest, number);
-        (start + place, number)
+        if self.places == 1 {
+            return (0, k);
+        }
+        let (four, left) = self.four(k);
+        one_of_four(&self.counts, 4 * four, left)
+    }
+
+    // Which 4 places have number k of what is counted, and its number among what they count.
+    #[inline(always)]
+    fn four(&self, k: u32) -> (usize, u32)
+        requires { k < total self.now }
+        ensures part { IsInPart 4 self.now k result.0 result.1 }
+        ensures within { result.0 < 64 }
+    {
+        if self.places <= 4 {
+            return (0, k);
+        }
+        let (sixteen, left) = self.sixteen(k);
+        one_of_four(&self.fours, 4 * sixteen, left)
+    }
+
+    // Which 16 places have it.
+    #[inline(always)]
+    fn sixteen(&self, k: u32) -> (usize, u32)
+        requires { k < total self.now }
+        ensures part { IsInPart 16 self.now k result.0 result.1 }
+        ensures within { result.0 < 16 }
+    {
+        if self.places <= 16 {
+            return (0, k);
+        }
+        let (quarter, left) = self.quarter(k);
+        one_of_four(&self.sixteens, 4 * quarter, left)
+    }
+
+    // Which 64 places have it.
+    #[inline(always)]
+    fn quarter(&self, k: u32) -> (usize, u32)
+        requires { k < total self.now }
+        ensures part { IsInPart 64 self.now k result.0 result.1 }
+        ensures within { result.0 < 4 }
+    {
+        if self.places <= 64 {
+            return (0, k);
+        }
+        one_of_four(&self.quarters, 0, k)
     }
 }
 
-// The first place in front of which less than k stands, and what is left of k there.
-fn scan(counts: &[u32], k: u32) -> (usize, u32)
-    requires { k < total counts.now }
-    ensures place { IsPlace counts.now k result.0 result.1 }
-    ensures within { result.0 < length counts.now }
+// Which of the four sums from a place on has number k, and what is left of k there. The second
+// comparison reads its sum by a computed index, so that the compiler makes no branch of it.
+#[inline(always)]
+fn one_of_four(sums: &[u32], at: usize, k: u32) -> (usize, u32)
+    requires within { at + 4 ≤ length sums.now }
+    requires small { sum_before sums.now (at + 4) < 2 ^ 32 }
+    requires below { sum_before sums.now at + k < sum_before sums.now (at + 4) }
+    ensures place { IsPlace sums.now (sum_before sums.now at + k) result.0 result.1 }
+    ensures within { result.0 < at + 4 }
 {
-    let mut left = k;
-    for (place, count) in counts.iter().enumerate() {
-        if left < *count {
-            return (place, left);
-        }
-        left -= *count;
-    }
-    unreachable!()
+    let (half, left) = half_of(sums[at] + sums[at + 1], k);
+    let (odd, left) = half_of(sums[at + 2 * half], left);
+    (at + 2 * half + odd, left)
+}
+
+// Which of two has number k, 0 or 1, where the first counts so many, and what is left of k there.
+#[inline(always)]
+fn half_of(first: u32, k: u32) -> (usize, u32)
+    ensures two { result.0 ≤ 1 }
+    ensures first { k < first → (result.0 ≡ 0) × (result.1 ≡ k) }
+    ensures second { first ≤ k → (result.0 ≡ 1) × (first + result.1 ≡ k) }
+{
+    if k < first { (0, k) } else { (1, k - first) }
+}
+
+// A sum after one of what it sums up was exchanged for another.
+#[inline(always)]
+fn exchanged(sum: u32, old: u32, new: u32) -> u32
+    ensures { old ≤ sum → sum + new < 2 ^ 32 → result ≡ sum - old + new }
+{
+    sum.wrapping_add(new.wrapping_sub(old))
 }
