@@ -56,6 +56,15 @@ impl PlaceCounts {
         self.total
     }
 
+    /// The count at a place.
+    #[inline(always)]
+    pub fn at(&self, place: usize) -> u16
+        requires { place < length self.now }
+        ensures { result ≡ slice_index self.now place }
+    {
+        self.counts[place] as u16
+    }
+
     /// The count at a place becomes this one.
     #[inline(always)]
     pub fn set(&mut self, place: usize, count: u16)
