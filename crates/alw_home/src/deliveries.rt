@@ -26,7 +26,6 @@ pub enum Acted {
 /// 1991, section 4). What hardware sends is appended to `sent`.
 pub fn deliver(entry: &mut HomeEntry, pointers: u8, msg: &Msg, sent: &mut Sends) -> Acted
     requires to_memory { IsTrue (to_memory msg.now.kind) }
-    requires node { msg.now.src.0 < MOST_NODES }
     requires some { 1 ≤ pointers }
     requires most { pointers ≤ MOST_POINTERS }
     requires few { count_nodes entry.old.pointers ≤ pointers }
@@ -34,6 +33,7 @@ pub fn deliver(entry: &mut HomeEntry, pointers: u8, msg: &Msg, sent: &mut Sends)
     ensures { (software : Nodes) → (always : Bool) →
         Delivers pointers (directory_of entry.old software always) (directory_of entry.new software always) sent.old sent.new result msg.now }
 {
+    let _fits = sent.free(); // for its clause
     if entry.meta == Meta::Progress {
         return Acted::Blocked;
     }

@@ -1,4 +1,4 @@
-ghost use Rattle.std.specs.Prelude.{◌≡◌, ◌<◌, IsTrue};
+ghost use Rattle.std.specs.Prelude.{◌≡◌, IsTrue};
 ghost use Rattle.alw_num.specs.NodeSets.{nodes_of};
 ghost use Rattle.alw_msg.specs.Kinds.{to_memory};
 ghost use Rattle.alw_msg.specs.Contents.{content};
@@ -7,7 +7,7 @@ ghost use Rattle.alw_home.specs.Entries.{home_of, with_home};
 
 use alw_model::Keeping;
 use alw_msg::{Msg, Sends};
-use alw_num::{MOST_NODES, NodeSet};
+use alw_num::NodeSet;
 use dir_full::FullMap;
 use dir_hw::HomeEntry;
 
@@ -16,7 +16,6 @@ use dir_hw::HomeEntry;
 /// appended to `sent`, and the answer says what becomes of P.
 pub fn react(entry: &mut HomeEntry, pointers: NodeSet, msg: &Msg, sent: &mut Sends) -> Keeping
     requires to_memory { IsTrue (to_memory msg.now.kind) }
-    requires node { msg.now.src.0 < MOST_NODES }
     requires room { HasRoom (nodes_of pointers) msg.now.src.0 sent.old }
     ensures entry { entry.new ≡ with_home entry.old (reaction (home_of entry.old (nodes_of pointers)) msg.now.src.0 (content msg.now)).0 }
     ensures sends { sent.new ≡ with_sends sent.old msg.now.line.0 (reaction (home_of entry.old (nodes_of pointers)) msg.now.src.0 (content msg.now)).1 }

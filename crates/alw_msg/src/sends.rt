@@ -82,7 +82,8 @@ impl Sends {
 
     /// The number of messages that there is still room for.
     pub fn free(&self) -> u32
-        ensures { result + length self.now.messages ≡ self.now.room }
+        ensures left { result + length self.now.messages ≡ self.now.room }
+        ensures most { self.now.room ≤ MOST_NODES }
     {
         self.nodes - self.messages.len() as u32
     }

@@ -27,12 +27,12 @@ pub fn handle(
 )
     requires progress { entry.old.meta ≡ Meta.Progress }
     requires to_memory { IsTrue (to_memory packet.now.kind) }
-    requires node { packet.now.src.0 < MOST_NODES }
     requires free { value_at soft.old.sets packet.now.line.0 ≡ None → used_lines soft.old < soft.old.lines }
     requires room { HasRoom (join_nodes entry.old.pointers (set_of_line soft.old packet.now.line.0)) packet.now.src.0 sent.old }
     ensures { Handles (directory_of entry.old (set_of_line soft.old packet.now.line.0) always) (directory_of entry.new (set_of_line soft.new packet.now.line.0) always)
         soft.old soft.new sent.old sent.new packet.now }
 {
+    let _fits = sent.free(); // for its clause
     let pointers = entry.pointers().union(soft.set(packet.line));
     let keeping = react(entry, pointers, packet, sent);
     let meta = keep(entry, soft, packet.line, packet.src, keeping);

@@ -8,7 +8,7 @@ ghost use Rattle.dir_full.specs.Reactions.{Acts, HasRoom, ended, with_sends};
 use crate::sets::{invalidate, sole_member};
 use alw_model::Keeping;
 use alw_msg::{Kind, Msg, Sends};
-use alw_num::{Line, MOST_NODES, NodeSet, State};
+use alw_num::{Line, NodeSet, State};
 use std::marker::Model;
 
 /// A full-map entry of one line (ASPLOS 1991, the memory-side states and transitions): its state,
@@ -88,10 +88,10 @@ impl FullMap {
     /// `sent`; the answer says what becomes of P.
     pub fn act(&mut self, msg: &Msg, sent: &mut Sends) -> Keeping
         requires to_memory { IsTrue (to_memory msg.now.kind) }
-        requires node { msg.now.src.0 < MOST_NODES }
         requires room { HasRoom self.old.pointers msg.now.src.0 sent.old }
         ensures { Acts self.old self.new sent.old sent.new result msg.now }
     {
+        let _fits = sent.free(); // for its clause
         match (self.state, msg.kind) {
             (State::RO, Kind::RREQ) => {
                 self.pointers = self.pointers.with(msg.src);
@@ -127,11 +127,11 @@ impl FullMap {
 
     // Read-Only, WREQ: the sender is alone, or an INV goes to each other member.
     fn write_shared(&mut self, msg: &Msg, sent: &mut Sends)
-        requires node { msg.now.src.0 < MOST_NODES }
         requires room { HasRoom self.old.pointers msg.now.src.0 sent.old }
         ensures entry { self.new ≡ (write_shared self.old msg.now.src.0 (others self.old.pointers msg.now.src.0)).0 }
         ensures sends { sent.new ≡ with_sends sent.old msg.now.line.0 (write_shared self.old msg.now.src.0 (others self.old.pointers msg.now.src.0)).1 }
     {
+        let _fits = sent.free(); // for its clause
         let others = self.pointers.without(msg.src);
         self.pointers = NodeSet::empty().with(msg.src);
         if others.is_empty() {
@@ -146,12 +146,12 @@ impl FullMap {
 
     // Read-Write, a request: an INV goes to the owner, where that is another node.
     fn recall(&mut self, state: State, msg: &Msg, sent: &mut Sends) -> Keeping
-        requires node { msg.now.src.0 < MOST_NODES }
         requires room { HasRoom self.old.pointers msg.now.src.0 sent.old }
         ensures entry { self.new ≡ (recall self.old msg.now.src.0 state (sole self.old.pointers)).0 }
         ensures sends { sent.new ≡ with_sends sent.old msg.now.line.0 (recall self.old msg.now.src.0 state (sole self.old.pointers)).1 }
         ensures keeping { result ≡ keeping_request msg.now.src.0 (sole self.old.pointers) }
     {
+        let _fits = sent.free(); // for its clause
         match sole_member(self.pointers) {
             Some(owner) if owner != msg.src => {
                 self.state = state;

@@ -104,7 +104,7 @@ push-requires-clause-record c =
     (subst (λ (cell : Cell). may_happen cell c.args.event ≡ true) (sym c.self.view_is) c.requires.may) c.take-taken.ensures.message c.take-taken.ensures.plain
     c.local-did.ensures c.clock.ensures
     (ap (λ (w : Written). w.number) c.in_ok-reserve.ensures.ok ∙ c.self.invariant.own)
-    (omega (arith, same, c.free-fits.ensures, c.self.invariant.kept.room, c.self.invariant.kept.few, c.self.invariant.kept.replayed.ins))
+    (omega (arith, same, c.free-fits.ensures.left, c.self.invariant.kept.room, c.self.invariant.kept.few, c.self.invariant.kept.replayed.ins))
 
 pub push-requires-clause-stamp : goal.push-requires-clause-stamp
 push-requires-clause-stamp c =

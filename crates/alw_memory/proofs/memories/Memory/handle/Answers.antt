@@ -11,11 +11,6 @@ handle-requires-clause-progress c =
 pub handle-requires-clause-to_memory : goal.handle-requires-clause-to_memory
 handle-requires-clause-to_memory c = (front_is c.self.inside _ c.self.view_is c.self.invariant c.in-Some.packet _ c.in-Some.ensures.items).to_memory
 
-pub handle-requires-clause-node : goal.handle-requires-clause-node
-handle-requires-clause-node c =
-    let one = front_is c.self.inside _ refl c.self.invariant c.in-Some.packet _ c.in-Some.ensures.items in
-    omega (arith, one.from, c.self.invariant.memory.nodes)
-
 pub handle-requires-clause-free : goal.handle-requires-clause-free
 handle-requires-clause-free c =
     set_has_room c.self.inside _ c.self.view_is c.self.invariant _ c.from.ensures c.in-Some.packet _ c.in-Some.ensures.items _ c.index_mut-home.ensures.value
