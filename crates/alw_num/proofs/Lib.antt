@@ -5,4 +5,5 @@ pub mod Words
 pub mod MapLaws
 pub mod Ranks
 pub mod MapLengths
+pub mod Lists
 mod Sums
