@@ -108,11 +108,13 @@ impl NodeCell {
     /// One event of the node: of its main events that may happen on what has come, the one that the
     /// number picks, or an eviction that it asks for. Idle exactly where no main event may happen, and
     /// then and where memory is refused all is as it was.
+    #[inline(always)]
     pub fn step(&mut self, pick: u32) -> Result<Stepped, NoMemory>
         ensures { StepsCell self.old pick self.new result }
     {
         match self.pick(pick) {
-            Some(event) => self.happen(event),
+            Some(Event::Instr { node }) => self.happen(Event::Instr { node }),
+            Some(event) => self.happen_apart(event),
             None => Ok(self.idle()),
         }
     }
@@ -218,7 +220,8 @@ impl NodeCell {
         false
     }
 
-    // The event that a number picks.
+    // The event that a number picks. Mostly it is the only one, an instruction.
+    #[inline(always)]
     fn pick(&self, number: u32) -> Option<Event>
         ensures { result ≡ picked_event self.now number }
     {
@@ -230,8 +233,11 @@ impl NodeCell {
         if let Some(eviction) = self.asked_eviction(number) {
             return Some(eviction);
         }
-        let place = if count == 1 { 0 } else { number % count };
-        Some(row.nth(self.node.number(), place))
+        let node = self.node.number();
+        if count == 1 && row.instr {
+            return Some(Event::Instr { node });
+        }
+        Some(row.nth(node, number % count))
     }
 
     // No main event may happen, so that the node is spent.
@@ -247,6 +253,7 @@ impl NodeCell {
     }
 
     // The eviction that a number asks for, where it is made.
+    #[inline(always)]
     fn asked_eviction(&self, number: u32) -> Option<Event>
         ensures { result ≡ cond (is_evicted self.now number) (Some (asked_eviction self.now number)) None }
     {
@@ -267,6 +274,7 @@ impl NodeCell {
     }
 
     // The main events that may happen.
+    #[inline(always)]
     fn row(&self) -> Row
         ensures in_time { result.in_time ≡ true }
         ensures instr { result.instr ≡ may_happen self.now (instr_at self.now.node.number) }
@@ -283,6 +291,7 @@ impl NodeCell {
     }
 
     // The nodes from which a delivery may happen. It looks at those alone from which something has come.
+    #[inline(always)]
     fn deliverable(&self) -> NodeSet
         ensures { (from : ℕ) → has_node (nodes_of result) from ≡ may_happen self.now (delivery from self.now.node.number) }
     {
@@ -308,6 +317,7 @@ impl NodeCell {
     }
 
     // An event may happen.
+    #[inline(always)]
     fn may(&self, event: Event) -> bool
         ensures { result ≡ may_happen self.now event }
     {
@@ -317,6 +327,7 @@ impl NodeCell {
     }
 
     // An event that may happen. All growth comes first.
+    #[inline(always)]
     fn happen(&mut self, event: Event) -> Result<Stepped, NoMemory>
         requires may { may_happen self.old event ≡ true }
         requires evicts { self.old.node.parameters.evict ≡ 0 → is_evict event ≡ false }
@@ -338,9 +349,21 @@ impl NodeCell {
         self.dids.push(did);
         Ok(Stepped::Did { entry, did })
     }
+
+    // The same of an event that is no instruction, compiled apart: what an instruction can't do falls out of
+    // its way.
+    #[inline(never)]
+    fn happen_apart(&mut self, event: Event) -> Result<Stepped, NoMemory>
+        requires may { may_happen self.old event ≡ true }
+        requires evicts { self.old.node.parameters.evict ≡ 0 → is_evict event ≡ false }
+        ensures { Happens self.old event self.new result }
+    {
+        self.happen(event)
+    }
 }
 
 // The number of a row's events. Nearly always nothing may be delivered, and then no bits are counted.
+#[inline(always)]
 fn count_of(row: &Row) -> u32
     requires { row.now.in_time ≡ true }
     ensures { result ≡ row_count row.now }
@@ -356,6 +379,7 @@ fn count_of(row: &Row) -> u32
 }
 
 // The message that an event takes, where it stays: the head of the in list that a delivery names.
+#[inline(always)]
 fn head(come: &Vec<InList>, event: Event) -> Option<&Msg>
     ensures { option_copied result ≡ taken_by come.now.items event }
 {
@@ -366,6 +390,7 @@ fn head(come: &Vec<InList>, event: Event) -> Option<&Msg>
 }
 
 // The message that an event takes, off its in list.
+#[inline(always)]
 fn take(come: &mut Vec<InList>, senders: &mut NodeSet, event: Event) -> Option<Msg>
     requires { AreSenders come.old.items senders.old }
     ensures message { result ≡ taken_by come.old.items event }
@@ -388,6 +413,7 @@ fn take(come: &mut Vec<InList>, senders: &mut NodeSet, event: Event) -> Option<M
 }
 
 // The stamp of an event that takes this message, at this clock, is within a limit.
+#[inline(always)]
 fn is_in_time(clock: u32, head: Option<&Msg>, limit: u32) -> bool
     ensures { result ≡ nat_le (stamp_of clock (option_copied head.entry)) limit }
 {

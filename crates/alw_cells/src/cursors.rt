@@ -47,6 +47,7 @@ impl<'a> Cursor<'a> {
     }
 
     /// The next event's entry. None exactly at the end.
+    #[inline(always)]
     pub fn next(&mut self) -> Option<Entry>
         ensures entry { result ≡ option_map entry_of (front self.old.left) }
         ensures reading { self.new ≡ after_next self.old }
@@ -64,6 +65,7 @@ impl<'a> Cursor<'a> {
 
     /// The entry of the event given last. None exactly where the last `next` gave no event or none was asked
     /// for yet.
+    #[inline(always)]
     pub fn entry(&self) -> Option<Entry>
         ensures { result ≡ option_map entry_of self.now.given }
     {
@@ -76,6 +78,7 @@ impl<'a> Cursor<'a> {
 
     /// The message that the event given last took. None exactly where it took none, or where the last
     /// `next` gave no event or none was asked for yet.
+    #[inline(always)]
     pub fn taken(&self) -> Option<Msg>
         ensures { result ≡ taken_of self.now.given }
     {
@@ -88,6 +91,7 @@ impl<'a> Cursor<'a> {
 
     /// Message i of those that the event given last sent, with its receiver. None exactly where i is at
     /// or past their number, or where the last `next` gave no event or none was asked for yet.
+    #[inline(always)]
     pub fn sent(&self, i: u32) -> Option<(NodeNo, Msg)>
         ensures sent { option_map (λ send. (send.0.0, send.1)) result ≡ slice_get (sent_of self.now.given) i }
         ensures few { IfSome result (λ send. i < 2 ^ 16) }

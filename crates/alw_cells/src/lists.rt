@@ -104,6 +104,7 @@ pub fn take_first(pending: &mut VecDeque<(u16, Msg)>, to: NodeNo) -> Option<Msg>
 }
 
 /// What an event sent goes behind other messages, for which there is room.
+#[inline(always)]
 pub fn append(pending: &mut VecDeque<(u16, Msg)>, sent: &Sends)
     requires { deque_len pending.old + length sent.now.messages ≤ deque_capacity pending.old }
     ensures { pending.new.items ≡ pending.old.items ++ sent.now.messages }

@@ -103,6 +103,7 @@ impl Log {
 
     /// Makes room for one event more with up to so many messages, or leaves all as it was. A log of
     /// 2^32 - 1 events is refused too.
+    #[inline(always)]
     pub fn reserve(&mut self, sends: u32) -> Result<(), NoMemory>
         requires { sends < 4294967295 }
         ensures ok { OnOk result (self.new ≡ record self.old { room = sends + 1 }) }
@@ -120,6 +121,7 @@ impl Log {
 
     /// One event more of the node, of a greater stamp than those before it, with the message that it took
     /// and those that it sent. It takes no memory.
+    #[inline(always)]
     pub fn push(&mut self, entry: Entry, taken: Option<Msg>, sent: &Sends)
         requires record { IsRecord self.old.number (record { entry = entry; taken = taken; sent = sent.now.messages }) }
         requires stamp { AreBelow entry.stamp self.old.entries }

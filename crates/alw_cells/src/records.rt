@@ -8,6 +8,7 @@ use byteorder::{BigEndian, ByteOrder};
 
 /// The entry of the record at the front of the bytes of a node's log.
 #[tactic(auto, unfolding(crate::specs::Records::entry_in))]
+#[inline(always)]
 pub fn entry_at(node: NodeNo, bytes: &[u8]) -> Entry
     requires { 11 ≤ length bytes.now }
     ensures { result ≡ entry_in node.0 bytes.now }
@@ -20,6 +21,7 @@ pub fn entry_at(node: NodeNo, bytes: &[u8]) -> Entry
 
 /// The number of messages that the event of the record at the front sent.
 #[tactic(auto, unfolding(crate::specs::Records::count_in))]
+#[inline(always)]
 pub fn count_at(bytes: &[u8]) -> u16
     requires { 11 + taken_size bytes.now ≤ length bytes.now }
     ensures { result ≡ count_in bytes.now }
@@ -29,6 +31,7 @@ pub fn count_at(bytes: &[u8]) -> u16
 
 /// The messages that the event of the record at the front sent, and the bytes behind them.
 #[tactic(auto, unfolding(crate::specs::Records::sends_at))]
+#[inline(always)]
 pub fn sends_of(bytes: &[u8]) -> &[u8]
     requires { 11 + taken_size bytes.now ≤ length bytes.now }
     ensures { result.now ≡ sends_at bytes.now }
@@ -54,6 +57,7 @@ pub fn sent_at(node: NodeNo, stamp: u32, bytes: &[u8]) -> (u16, Msg)
 }
 
 /// What stands behind so many messages that were sent.
+#[inline(always)]
 pub fn skip(bytes: &[u8], count: u16) -> &[u8]
     requires { HasSends count bytes.now }
     ensures { result.now ≡ behind_sends count bytes.now }
@@ -78,6 +82,7 @@ fn behind(bytes: &[u8]) -> &[u8]
 
 // The event of the record at the front of the bytes of a node's log.
 #[tactic(auto, unfolding(crate::specs::Records::event_in, crate::specs::Records::event_by))]
+#[inline(always)]
 fn event_at(node: NodeNo, bytes: &[u8]) -> Event
     requires { 9 ≤ length bytes.now }
     ensures { result ≡ event_in node.0 bytes.now }
@@ -98,6 +103,7 @@ fn event_at(node: NodeNo, bytes: &[u8]) -> Event
 
 /// The message that the event of the record at the front took. Only a delivery takes one.
 #[tactic(auto, unfolding(crate::specs::Records::taken_in, crate::specs::Records::taken_size))]
+#[inline(always)]
 pub fn taken_at(bytes: &[u8]) -> Option<Msg>
     requires { 11 + taken_size bytes.now ≤ length bytes.now }
     ensures { result ≡ taken_in bytes.now }
@@ -111,6 +117,7 @@ pub fn taken_at(bytes: &[u8]) -> Option<Msg>
 
 // In how many bytes it stands.
 #[tactic(auto, unfolding(crate::specs::Records::taken_size, crate::specs::Records::msg_size))]
+#[inline(always)]
 fn size_taken(bytes: &[u8]) -> usize
     requires { 11 ≤ length bytes.now }
     ensures { result ≡ taken_size bytes.now }
@@ -184,6 +191,7 @@ fn kind_of(number: u8) -> Kind
 
 // The number in the first four bytes.
 #[tactic(auto, unfolding(crate::specs::Records::word_in))]
+#[inline(always)]
 fn word_at(bytes: &[u8]) -> u32
     requires { 4 ≤ length bytes.now }
     ensures { result ≡ word_in bytes.now }
@@ -193,6 +201,7 @@ fn word_at(bytes: &[u8]) -> u32
 
 // The number in the first two bytes.
 #[tactic(auto, unfolding(crate::specs::Records::half_in))]
+#[inline(always)]
 fn half_at(bytes: &[u8]) -> u16
     requires { 2 ≤ length bytes.now }
     ensures { result ≡ half_in bytes.now }

@@ -6,10 +6,10 @@ ghost use Rattle.alw_cells.specs.Records.{FitsLine, FitsMsg, FitsSend, FitsEvent
 
 use alw_msg::{Entry, Event, Kind, Msg, Sends};
 use alw_num::Line;
-use byteorder::{BigEndian, ByteOrder};
 
 /// The event of a record, with its stamp, goes behind bytes.
 #[tactic(auto, unfolding(crate::specs::Layout::front_bytes))]
+#[inline(always)]
 pub fn put_entry(bytes: &mut Vec<u8>, entry: Entry)
     requires { length bytes.old.items + 9 ≤ vec_capacity bytes.old }
     ensures items { bytes.new.items ≡ bytes.old.items ++ front_bytes entry }
@@ -25,6 +25,7 @@ pub fn put_entry(bytes: &mut Vec<u8>, entry: Entry)
 
 /// The message that an event took goes behind bytes, where it took one.
 #[tactic(auto, unfolding(crate::specs::Layout::taken_bytes))]
+#[inline(always)]
 pub fn put_taken(bytes: &mut Vec<u8>, taken: Option<Msg>)
     requires { length bytes.old.items + 27 ≤ vec_capacity bytes.old }
     ensures items { bytes.new.items ≡ bytes.old.items ++ taken_bytes taken }
@@ -42,6 +43,7 @@ pub fn put_taken(bytes: &mut Vec<u8>, taken: Option<Msg>)
 }
 
 /// The messages that an event sent go behind bytes, and their number before them.
+#[inline(always)]
 pub fn put_sends(bytes: &mut Vec<u8>, sent: &Sends)
     requires room { length bytes.old.items + 2 + 23 * length sent.now.messages ≤ vec_capacity bytes.old }
     requires few { length sent.now.messages < 2 ^ 16 }
@@ -90,6 +92,7 @@ fn put_body(bytes: &mut Vec<u8>, kind: Kind, body: Line)
 }
 
 // Which event it is.
+#[inline(always)]
 fn tag(event: Event) -> u8
     ensures { result ≡ tag_of event }
 {
@@ -102,6 +105,7 @@ fn tag(event: Event) -> u8
 }
 
 // The sender of a delivery, the set of an eviction, and else 0.
+#[inline(always)]
 fn argument(event: Event) -> u32
     ensures argument { result ≡ argument_of event }
     ensures fits { FitsEvent event }
@@ -132,33 +136,36 @@ fn number_of(kind: Kind) -> u8
 
 // A number in four bytes goes behind others.
 #[tactic(auto, unfolding(crate::specs::Layout::word))]
+#[inline(always)]
 fn put_word(bytes: &mut Vec<u8>, number: u32)
     requires { length bytes.old.items + 4 ≤ vec_capacity bytes.old }
     ensures items { bytes.new.items ≡ bytes.old.items ++ word number }
     ensures len { length bytes.new.items ≡ length bytes.old.items + 4 }
     ensures room { vec_capacity bytes.old ≤ vec_capacity bytes.new }
 {
-    let mut four = [0; 4];
-    let field: &mut [u8] = &mut four;
-    BigEndian::write_u32(field, number);
-    put(bytes, field);
+    let [first, second, third, fourth] = number.to_be_bytes();
+    put_byte(bytes, first);
+    put_byte(bytes, second);
+    put_byte(bytes, third);
+    put_byte(bytes, fourth);
 }
 
 // A number in two bytes goes behind others.
 #[tactic(auto, unfolding(crate::specs::Layout::half))]
+#[inline(always)]
 fn put_half(bytes: &mut Vec<u8>, number: u16)
     requires { length bytes.old.items + 2 ≤ vec_capacity bytes.old }
     ensures items { bytes.new.items ≡ bytes.old.items ++ half number }
     ensures len { length bytes.new.items ≡ length bytes.old.items + 2 }
     ensures room { vec_capacity bytes.old ≤ vec_capacity bytes.new }
 {
-    let mut two = [0; 2];
-    let field: &mut [u8] = &mut two;
-    BigEndian::write_u16(field, number);
-    put(bytes, field);
+    let [first, second] = number.to_be_bytes();
+    put_byte(bytes, first);
+    put_byte(bytes, second);
 }
 
 // A byte goes behind others.
+#[inline(always)]
 fn put_byte(bytes: &mut Vec<u8>, byte: u8)
     requires { length bytes.old.items + 1 ≤ vec_capacity bytes.old }
     ensures items { bytes.new.items ≡ bytes.old.items ++ byte ∷ [] }
@@ -166,17 +173,4 @@ fn put_byte(bytes: &mut Vec<u8>, byte: u8)
     ensures room { vec_capacity bytes.old ≤ vec_capacity bytes.new }
 {
     bytes.push_reserved(byte);
-}
-
-// Bytes go behind others, for which there is room.
-fn put(bytes: &mut Vec<u8>, more: &[u8])
-    requires { length bytes.old.items + length more.now ≤ vec_capacity bytes.old }
-    ensures items { bytes.new.items ≡ bytes.old.items ++ more.now }
-    ensures len { length bytes.new.items ≡ length bytes.old.items + length more.now }
-    ensures room { vec_capacity bytes.old ≤ vec_capacity bytes.new }
-{
-    match bytes.extend_from_slice(more) {
-        Ok(()) => {}
-        Err(_) => unreachable!(),
-    }
 }

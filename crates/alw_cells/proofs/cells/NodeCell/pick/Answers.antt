@@ -1,9 +1,9 @@
-use Rattle.std.proofs.Common.{◌≡◌, ℕ, ◌%◌, ◌<◌, slice_get, sym, ap, ◌∙◌, arith}
-use Rattle.alw_ready.specs.Rows.{row_events, row_count}
+use Rattle.std.proofs.Common.{◌≡◌, ℕ, ◌%◌, ◌<◌, true, Some, slice_get, refl, sym, ap, ◌∙◌, arith}
+use Rattle.alw_ready.specs.declared.rows.Row.{Row}
+use Rattle.alw_ready.specs.Rows.{instr_at, row_events, row_count}
 use Rattle.alw_cells.specs.Cells.{Cell}
 use Rattle.alw_cells.proofs.Choosing.{IsRow, row_counts, picks_none, picks_evicted, picks_nth}
 use Rattle.alw_cells.proofs.cells.NodeCell.pick.Goals as goal
-use Rattle.alw_cells.proofs.cells.NodeCell.pick.Goals.{then-count-eq1, else-count-eq1}
 
 pub returns-then-count-eq0 : goal.returns-then-count-eq0
 returns-then-count-eq0 c =
@@ -16,16 +16,27 @@ returns-in-Some c =
     let some : 0 < row_count c.row-row.result = omega arith in
     sym (picks_evicted c.args.self.now c.row-row.result c.args.number c.in-Some.eviction is some (sym c.asked_eviction.ensures ∙ c.in-Some.is))
 
+pub returns-then-row : goal.returns-then-row
+returns-then-row c =
+    let row = c.row-row.result in
+    let is : IsRow c.args.self.now row = record { in_time = c.row-row.ensures.in_time; instr = c.row-row.ensures.instr; handle = c.row-row.ensures.handle; senders = c.row-row.ensures.senders } in
+    let some : 0 < c.count_of-count.result = omega arith in
+    let first : c.args.number % c.count_of-count.result ≡ 0 = only c.args.number c.count_of-count.result c.if-count-eq1.true in
+    sym (picks_nth c.args.self.now row c.args.number c.number-node.result.0 c.count_of-count.result (instr_at c.number-node.result.0) is
+    (c.number-node.ensures.number ∙ ap (λ (v : Cell). v.node.number) c.self.view_is)
+    c.count_of-count.ensures some (λ asked e. c.in_default.not-Some asked (c.asked_eviction.ensures ∙ e))
+    (ap (slice_get (row_events c.number-node.result.0 row)) first ∙ front_instr c.number-node.result.0 row c.row-row.ensures.in_time c.if-row.true))
+  where
+    only : (number count : ℕ) → count ≡ 1 → number % count ≡ 0
+    only number count one = rw one (omega arith)
+
+    front_instr : (at : ℕ) (row : Row) → row.in_time ≡ true → row.instr ≡ true → slice_get (row_events at row) 0 ≡ Some (instr_at at)
+    front_instr at row in_time instr = rw (in_time, instr) refl
+
 pub returns : goal.returns
 returns c =
     let is : IsRow c.args.self.now c.row-row.result = record { in_time = c.row-row.ensures.in_time; instr = c.row-row.ensures.instr; handle = c.row-row.ensures.handle; senders = c.row-row.ensures.senders } in
-    let count : ℕ = c.count_of-count.result in
-    let some : 0 < count = omega arith in
-    let place : c.if-count-eq1.place ≡ c.args.number % count =
-    elim c.if-count-eq1.branch [ then-count-eq1 w ↦ w.place-is ∙ first c.args.number count w.if-count-eq1.true | else-count-eq1 w ↦ w.place-is ] in
-    sym (picks_nth c.args.self.now c.row-row.result c.args.number c.number.result.0 count c.nth.result is (c.number.ensures.number ∙ ap (λ (v : Cell). v.node.number) c.self.view_is)
+    let some : 0 < c.count_of-count.result = omega arith in
+    sym (picks_nth c.args.self.now c.row-row.result c.args.number c.number-node.result.0 c.count_of-count.result c.nth.result is (c.number-node.ensures.number ∙ ap (λ (v : Cell). v.node.number) c.self.view_is)
     c.count_of-count.ensures some (λ asked e. c.in_default.not-Some asked (c.asked_eviction.ensures ∙ e))
-    (ap (slice_get (row_events c.number.result.0 c.row-row.result)) (sym place) ∙ c.nth.ensures))
-  where
-    first : (number count : ℕ) → count ≡ 1 → 0 ≡ number % count
-    first number count one = rw one (omega arith)
+    c.nth.ensures)

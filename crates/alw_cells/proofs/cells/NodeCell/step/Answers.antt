@@ -1,17 +1,18 @@
-use Rattle.std.proofs.Common.{Ok, refl, sym, subst, ◌∙◌}
+use Rattle.std.proofs.Common.{Ok, Some, refl, sym, subst, ap, ◌∙◌}
+use Rattle.alw_ready.specs.Rows.{instr_at}
 use Rattle.alw_cells.specs.declared.cells.Stepped.{Stepped}
 use Rattle.alw_cells.specs.Choice.{StepsCell}
-use Rattle.alw_cells.proofs.Choosing.{picked_may, nothing_picked, steps_by}
+use Rattle.alw_cells.proofs.Choosing.{picked_may, nothing_picked}
 use Rattle.alw_cells.proofs.cells.NodeCell.step.Goals as goal
 
 pub happen-requires-clause-may : goal.happen-requires-clause-may
-happen-requires-clause-may c = (picked_may c.args.self.now c.args.pick c.in-Some.event (sym c.pick.ensures ∙ c.in-Some.is)).0
+happen-requires-clause-may c =
+    (picked_may c.args.self.now c.args.pick (instr_at c.in-Some-Instr.node.0) (sym c.pick.ensures ∙ (c.in-Some-Instr.is ∙ ap Some c.in-Some-Instr.field-0-is))).0
 
-pub happen-requires-clause-evicts : goal.happen-requires-clause-evicts
-happen-requires-clause-evicts c = (picked_may c.args.self.now c.args.pick c.in-Some.event (sym c.pick.ensures ∙ c.in-Some.is)).1
-
-pub returns-in-Some : goal.returns-in-Some
-returns-in-Some c = steps_by c.args.self.now c.happen.new.self c.args.pick c.in-Some.event c.happen.result (sym c.pick.ensures ∙ c.in-Some.is) c.happen.ensures
+pub happen_apart-requires : goal.happen_apart-requires
+happen_apart-requires c =
+    let may = picked_may c.args.self.now c.args.pick c.in-Some.event (sym c.pick.ensures ∙ c.in-Some.is) in
+    record { may = may.0; evicts = may.1 }
 
 pub returns-in-None : goal.returns-in-None
 returns-in-None c =
