@@ -1,9 +1,10 @@
 -- Places as slots: what is read of one, and what a change does.
-use Rattle.std.proofs.Common.{◌≡◌, ℕ, ◌+◌, ◌<◌, ◌≤◌, None, List, [], ◌∷◌, ◌++◌, length, map, take, slice_set, slice_index_or, sym, ap, ◌∙◌, arith}
-use Rattle.std.proofs.lemmas.List.{get_or-take, get_or-map, get_or-set_same, length-take-le, length-map, map-set, take-map, take_more, take_more_set}
+use Rattle.std.proofs.Common.{◌≡◌, ℕ, ◌+◌, ◌<◌, ◌≤◌, Bool, true, false, None, List, [], ◌∷◌, ◌++◌, length, map, take, slice_set, slice_index_or, refl, sym, ap, ◌∙◌, arith}
+use Rattle.std.proofs.lemmas.List.{get_or-take, get_or-map, get_or-set_same, length-take-le, length-map, length-set, map-append, map-set, take_all, take_more_set}
 use Rattle.std.proofs.lemmas.List.FromFn.{map-range_with_len_more}
 use Rattle.std.specs.List.{range_with_len}
-use Rattle.std.proofs.Math.Seq.{take-set-lt}
+use Rattle.std.proofs.Math.Seq.{take-set-lt, map-set_same}
+use Rattle.alw_msg.specs.Statuses.{waits_on}
 use Rattle.alw_model.specs.Contexts.{Slot, no_slot, slot_at, ran, woken, wake}
 use Rattle.alw_ctx.specs.declared.residents.Resident.{Resident}
 use Rattle.sparc_table.specs.declared.registers.Regs.{Regs}
@@ -49,19 +50,40 @@ turned n places slot after outcome l m left =
     let is = ap (λ (s : Slot). s.regs) (slot_written n places slot after l m) in
     slots_set n places slot after l ∙ (ap (slice_set (slots_of n places) slot) left ∙ sym (ap (λ (r : Regs). ran (slots_of n places) slot r (left_by r outcome)) is))
 
--- each slot that waits on a line becomes Ready
-pub slots_woken : (n line : ℕ) (places : List Resident) (o a b c d : Resident) → length places ≡ 4
-    → slot_of a ≡ woken line (slot_of (slice_index_or places 0 o)) → slot_of b ≡ woken line (slot_of (slice_index_or places 1 o))
-    → slot_of c ≡ woken line (slot_of (slice_index_or places 2 o)) → slot_of d ≡ woken line (slot_of (slice_index_or places 3 o))
-    → slots_of n (a ∷ b ∷ c ∷ d ∷ []) ≡ wake line (slots_of n places)
-slots_woken n line (p ∷ q ∷ r ∷ s ∷ []) o a b c d four ea eb ec ed =
-    let same : map slot_of (a ∷ b ∷ c ∷ d ∷ []) ≡ map (woken line) (map slot_of (p ∷ q ∷ r ∷ s ∷ [])) = cc in
-    ap (take n) same ∙ take-map (woken line) n (map slot_of (p ∷ q ∷ r ∷ s ∷ []))
-slots_woken n line [] o a b c d four ea eb ec ed = absurd (omega arith)
-slots_woken n line (p ∷ []) o a b c d four ea eb ec ed = absurd (omega arith)
-slots_woken n line (p ∷ q ∷ []) o a b c d four ea eb ec ed = absurd (omega arith)
-slots_woken n line (p ∷ q ∷ r ∷ []) o a b c d four ea eb ec ed = absurd (omega arith)
-slots_woken n line (p ∷ q ∷ r ∷ s ∷ t ∷ rest) o a b c d four ea eb ec ed = absurd (omega arith)
+-- ---- each slot that waits on a line becomes Ready
+
+-- those below k of the first n have been woken, and nothing else has changed
+pub record AreWoken (line k n : ℕ) (before after : List Resident) : Type 0 where
+  pub four : length after ≡ 4
+  pub awake : take k (slots_of n after) ≡ wake line (take k (slots_of n after))
+  pub same : wake line (slots_of n after) ≡ wake line (slots_of n before)
+
+woken_twice : (line : ℕ) (slot : Slot) → woken line (woken line slot) ≡ woken line slot
+woken_twice line slot = go (waits_on line slot.status) refl
+  where
+    go : (b : Bool) → waits_on line slot.status ≡ b → woken line (woken line slot) ≡ woken line slot
+    go true e = rw e refl
+    go false e = rw (e, e) refl
+
+pub woken_more : (line k n : ℕ) (before after : List Resident) (d place : Resident) → AreWoken line k n before after → k < n → n ≤ 4
+    → slot_of place ≡ woken line (slot_of (slice_index_or after k d)) → AreWoken line (k + 1) n before (slice_set after k place)
+woken_more line k n before after d place is l m e =
+    let fits : n ≤ length after = omega (arith, is.four) in
+    let now = slots_of n after in
+    let size : k < length now = omega (arith, length_slots n after fits) in
+    let here : slot_of place ≡ woken line (slot_at now k) = e ∙ sym (ap (woken line) (slot_read n after k d l fits)) in
+    let twice : woken line (slot_of place) ≡ slot_of place = ap (woken line) here ∙ (woken_twice line (slot_at now k) ∙ sym here) in
+    let set = slots_set n after k place l in
+    record {
+      four = length-set after k place ∙ is.four;
+      awake = rw (set, take_more_set now k (slot_of place) size, map-append (woken line) (take k now) (slot_of place ∷ [])) (λ i. is.awake i ++ sym twice i ∷ []);
+      same = ap (wake line) set ∙ (map-set_same (woken line) now k (slot_of place) no_slot (twice ∙ here) ∙ is.same);
+    }
+
+pub all_woken : (line n : ℕ) (before after : List Resident) → AreWoken line n n before after → n ≤ 4 → slots_of n after ≡ wake line (slots_of n before)
+all_woken line n before after is m =
+    let all = take_all n (slots_of n after) (omega (arith, is.four, length_slots n after (omega (arith, is.four)))) in
+    sym all ∙ (is.awake ∙ (ap (wake line) all ∙ is.same))
 
 -- one place more is filled
 pub filled_more : (f : ℕ → Slot) (k : ℕ) (places : List Resident) (place : Resident) → k < length places → slots_of k places ≡ map f (range_with_len 0 k) → slot_of place ≡ f k

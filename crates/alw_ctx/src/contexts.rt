@@ -7,7 +7,7 @@ ghost use Rattle.sparc_table.specs.Turns.{need_of, turn_of};
 ghost use Rattle.sparc_exec.specs.Runs.{seen, IsRun, CopyIsMissing};
 ghost use Rattle.alw_image.specs.Images.{node_count};
 ghost use Rattle.alw_model.specs.Contexts.{slots_start, slot_at, running, ran, wake, give_hold, is_held, all_halted};
-ghost use Rattle.alw_ctx.specs.Residents.{number_of, left_by};
+ghost use Rattle.alw_ctx.specs.Residents.{number_of, slots_of, left_by};
 
 use crate::residents::Resident;
 use crate::starts::residents;
@@ -184,13 +184,19 @@ impl Contexts {
     pub fn wake(&mut self, line: LineNo)
         ensures { self.new ≡ record self.old { slots = wake line.0 self.old.slots } }
     {
-        let [first, second, third, fourth] = &self.places;
-        self.places = [
-            first.woken(line),
-            second.woken(line),
-            third.woken(line),
-            fourth.woken(line),
-        ];
+        wake(&mut self.places, self.count, line);
+    }
+}
+
+// Wakes those of the first so many contexts that wait on a line.
+fn wake(places: &mut [Resident; 4], count: u8, line: LineNo)
+    requires places { length places.old ≡ 4 }
+    requires count { count ≤ 4 }
+    ensures places { length places.new ≡ 4 }
+    ensures slots { slots_of count places.new ≡ wake line.0 (slots_of count places.old) }
+{
+    for slot in 0..count {
+        places[slot as usize].wake(line);
     }
 }
 

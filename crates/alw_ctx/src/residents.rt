@@ -37,15 +37,13 @@ impl Resident {
         matches!(self.status, Status::Halted)
     }
 
-    /// The context once a transaction on a line has ended: Ready, where it waits on that line.
-    pub fn woken(&self, line: LineNo) -> Resident
-        ensures { slot_of result ≡ woken line.0 (slot_of self.now) }
+    /// A transaction on a line has ended: the context becomes Ready, where it waits on that line.
+    pub fn wake(&mut self, line: LineNo)
+        ensures { slot_of self.new ≡ woken line.0 (slot_of self.old) }
     {
-        let mut after = *self;
         if self.waits_on(line) {
-            after.status = Status::Ready;
+            self.status = Status::Ready;
         }
-        after
     }
 
     /// The context has a hold on a line.
