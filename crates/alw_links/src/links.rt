@@ -1,7 +1,7 @@
 ghost use Rattle.std.specs.Prelude.{◌≡◌, ◌<◌, ◌≤◌, ◌*◌, ◌+◌, ℕ, nat_lt, not, ◌&&◌, max, [], length, replicate, slice_get, if◌then◌else◌, IfOk, OnOk, OnErr};
 ghost use Rattle.std.specs.Option.{option_copied};
 ghost use Rattle.std.specs.List.{All, list_any};
-ghost use Rattle.alw_num.specs.NodeSets.{has_node, drop_node, nodes_of};
+ghost use Rattle.alw_num.specs.NodeSets.{has_node, add_node, drop_node, nodes_of};
 ghost use Rattle.alw_msg.specs.Lists.{is_nonempty, front};
 ghost use Rattle.alw_links.specs.Traffic.{link_in, in_flight, after_take, after_send, after_sends};
 
@@ -11,6 +11,9 @@ use alw_num::{Line, LineNo, MOST_NODES, NoMemory, NodeNo, NodeSet};
 use std::alloc::Global;
 use std::collections::LinkedList;
 use std::marker::Model;
+
+// The number of nodes in a word of a set.
+const WORD_BITS: u16 = 128;
 
 // More messages than this are never held, on the links and as spare places together.
 const MOST: usize = 1 << 62;
@@ -122,8 +125,7 @@ impl Links {
         let at = place(self.nodes, from, to);
         push(&mut self.links, &mut self.spare, at, msg);
         self.count += 1;
-        let senders = self.senders[to.0 as usize];
-        self.senders[to.0 as usize] = senders.with(from);
+        add(&mut self.senders[to.0 as usize], from);
     }
 
     /// What an event of a node sends goes to the ends of the node's links, in order.
@@ -152,8 +154,7 @@ impl Links {
         let msg = *self.links[at].front()?;
         let more = pop(&mut self.links, &mut self.spare, at);
         self.count -= 1;
-        let senders = self.senders[to.0 as usize];
-        self.senders[to.0 as usize] = senders_left(senders, from, more);
+        leave(&mut self.senders[to.0 as usize], from, more);
         Some(msg)
     }
 
@@ -219,10 +220,34 @@ fn place(nodes: u32, from: NodeNo, to: NodeNo) -> usize
     from.0 as usize * nodes as usize + to.0 as usize
 }
 
-// The senders of a node once a message of one was taken: that one too where it has more on the way.
+// A node comes into a set, of which one word is written.
+#[tactic(auto, using(alw_num::proofs::Words::with_low, alw_num::proofs::Words::with_high))]
 #[inline(always)]
-fn senders_left(senders: NodeSet, from: NodeNo, more: bool) -> NodeSet
-    ensures { nodes_of result ≡ (if more then nodes_of senders else drop_node (nodes_of senders) from.0) }
+fn add(set: &mut NodeSet, node: NodeNo)
+    requires { node.0 < MOST_NODES }
+    ensures { nodes_of set.new ≡ add_node (nodes_of set.old) node.0 }
 {
-    if more { senders } else { senders.without(from) }
+    if node.0 < WORD_BITS {
+        set.low |= 1 << node.0;
+    } else {
+        set.high |= 1 << (node.0 - WORD_BITS);
+    }
+}
+
+// A message of a node was taken: the node leaves the senders, unless it has more on the way. One word
+// is written.
+#[tactic(auto, using(alw_num::proofs::Words::without_low, alw_num::proofs::Words::without_high))]
+#[inline(always)]
+fn leave(senders: &mut NodeSet, from: NodeNo, more: bool)
+    requires { from.0 < MOST_NODES }
+    ensures { nodes_of senders.new ≡ (if more then nodes_of senders.old else drop_node (nodes_of senders.old) from.0) }
+{
+    if more {
+        return;
+    }
+    if from.0 >= WORD_BITS {
+        senders.high &= !(1 << (from.0 - WORD_BITS));
+        return;
+    }
+    senders.low &= !(1 << from.0);
 }

@@ -12,6 +12,6 @@ invariant_of-self c =
     let size = ap (λ (t : Traffic). t.nodes) c.self.view_is in
     let from : c.args.from.0 < c.self.inside.nodes = omega arith in
     let to : c.args.to.0 < c.self.inside.nodes = omega arith in
-    let read = get_or_read c.self.inside.senders.items c.args.to.0 c.index-senders.result.now (omega arith) c.index-senders.ensures nobody in
-    let told = c.with.ensures ∙ ap (λ (s : NodeSet). add_node (nodes_of s) c.args.from.0) read in
+    let read = get_or_read c.self.inside.senders.items c.args.to.0 c.index_mut.result.now (omega arith) c.index_mut.ensures.value nobody in
+    let told = c.add.ensures ∙ ap (λ (s : NodeSet). add_node (nodes_of s) c.args.from.0) read in
     rw (c.push.ensures.links, c.place-at.ensures) (sends _ _ _ c.self.inside.spare _ _ _ c.args.msg _ _ c.self.invariant from to c.push.ensures.spare told)

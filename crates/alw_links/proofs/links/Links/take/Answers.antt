@@ -24,7 +24,7 @@ invariant_of-self c =
     let fits : c.place-at.result < length c.self.inside.links.items = omega
     (arith, c.self.invariant.links_are, place_below c.self.inside.nodes c.args.from.0 c.args.to.0 from to) in
     let some = some_at c.self.inside.links.items c.place-at.result c.index.result.now fits c.index.ensures (c.in_ok-msg.ensures.variant.0 refl) in
-    let read = get_or_read c.self.inside.senders.items c.args.to.0 c.index-senders.result.now (omega arith) c.index-senders.ensures nobody in
-    let told = c.senders_left.ensures ∙ ap (λ (s : NodeSet). cond c.pop-more.result (nodes_of s) (drop_node (nodes_of s) c.args.from.0)) read in
+    let read = get_or_read c.self.inside.senders.items c.args.to.0 c.index_mut.result.now (omega arith) c.index_mut.ensures.value nobody in
+    let told = c.leave.ensures ∙ ap (λ (s : NodeSet). cond c.pop-more.result (nodes_of s) (drop_node (nodes_of s) c.args.from.0)) read in
     rw (c.pop-more.ensures.links, c.place-at.ensures) (takes _ _ _ c.self.inside.spare _ _ _ _ _ _ c.self.invariant from to c.pop-more.ensures.spare
     (rw c.place-at.ensures at some) (rw c.place-at.ensures at c.pop-more.ensures.more) told)
