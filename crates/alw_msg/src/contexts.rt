@@ -1,3 +1,6 @@
+ghost use Rattle.std.specs.Prelude.{◌≡◌};
+ghost use Rattle.alw_msg.specs.Statuses.{is_ready};
+
 use alw_num::LineNo;
 
 /// What a context does: it can run, waits until its node's transaction on a line ends, has halted,
@@ -8,4 +11,13 @@ pub enum Status {
     Waiting { line: LineNo },
     Halted,
     Trapped { pc: u32, tt: u8 },
+}
+
+impl Status {
+    /// The context can run.
+    pub fn is_ready(&self) -> bool
+        ensures { result ≡ is_ready self.now }
+    {
+        matches!(self, Status::Ready)
+    }
 }
