@@ -110,15 +110,16 @@ meta_text Progress = codes "progress"
 meta_text TrapWrite = codes "trap-write"
 meta_text TrapAlways = codes "trap-always"
 
+-- the nodes that hardware and those that software points to, and the answers that are still to come
+unfoldable pub pointers_text : List ℕ → List ℕ → ℕ → List ℕ
+pointers_text hardware software acks = codes " hw " ++ (nodes_text hardware ++ (codes " sw " ++ (nodes_text software ++ (codes " acks " ++ decimal acks))))
+
 -- an entry of the directory: its states; then its pointers and its counter
 unfoldable pub states_text : DirectoryLine → List ℕ
 states_text d = decimal d.line ++ (codes " " ++ (state_text d.state ++ (codes " " ++ meta_text d.meta)))
 
-unfoldable pub pointers_text : DirectoryLine → List ℕ
-pointers_text d = codes " hw " ++ (nodes_text d.hardware ++ (codes " sw " ++ (nodes_text d.software ++ (codes " acks " ++ (decimal d.acks ++ codes "\n")))))
-
 abbrev pub directory_line : DirectoryLine → List ℕ
-directory_line d = states_text d ++ pointers_text d
+directory_line d = states_text d ++ (pointers_text d.hardware d.software d.acks ++ codes "\n")
 
 unfoldable pub runs_text : List (ℕ × ℕ) → List ℕ
 runs_text runs = heading (codes "runs") (length runs) ++ flat_map run_line runs

@@ -1,8 +1,9 @@
 ghost use Rattle.std.specs.Prelude.{◌≡◌, ◌++◌, OnOk};
+ghost use Rattle.alw_num.specs.NodeSets.{members, nodes_of};
 ghost use Rattle.alw_report.specs.Reports.{state_text, meta_text, states_text, pointers_text, directory_line};
 
 use crate::values::DirectoryLine;
-use alw_num::{Meta, NoMemory, State};
+use alw_num::{Meta, NoMemory, NodeSet, State};
 use alw_text::{Spell, Text, put_nodes, put_number};
 
 /// An entry of the directory.
@@ -10,7 +11,8 @@ pub fn put_entry(text: &mut Text, entry: &DirectoryLine) -> Result<(), NoMemory>
     ensures { OnOk result (text.new ≡ text.old ++ directory_line entry.now) }
 {
     put_states(text, entry)?;
-    put_pointers(text, entry)?;
+    put_pointers(text, entry.hardware, entry.software, entry.acks)?;
+    text.put(b"\n")?;
     Ok(())
 }
 
@@ -27,17 +29,21 @@ fn put_states(text: &mut Text, entry: &DirectoryLine) -> Result<(), NoMemory>
     Ok(())
 }
 
-// Its pointers and its counter.
+/// The nodes that hardware and those that software points to, and the answers that are still to come.
 #[tactic(auto, unfolding(crate::specs::Reports::pointers_text))]
-fn put_pointers(text: &mut Text, entry: &DirectoryLine) -> Result<(), NoMemory>
-    ensures { OnOk result (text.new ≡ text.old ++ pointers_text entry.now) }
+pub fn put_pointers(
+    text: &mut Text,
+    hardware: NodeSet,
+    software: NodeSet,
+    acks: u32,
+) -> Result<(), NoMemory>
+    ensures { OnOk result (text.new ≡ text.old ++ pointers_text (members (nodes_of hardware)) (members (nodes_of software)) acks) }
 {
     text.put(b" hw ")?;
-    put_nodes(text, entry.hardware)?;
+    put_nodes(text, hardware)?;
     text.put(b" sw ")?;
-    put_nodes(text, entry.software)?;
-    put_number(text, b" acks ", u64::from(entry.acks))?;
-    text.put(b"\n")?;
+    put_nodes(text, software)?;
+    put_number(text, b" acks ", u64::from(acks))?;
     Ok(())
 }
 

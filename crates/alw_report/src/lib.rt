@@ -11,7 +11,7 @@ mod reports;
 mod values;
 mod worked_runs;
 
-pub use entries::{meta_name, state_name};
+pub use entries::{meta_name, put_pointers, state_name};
 pub use head::{put_ended, put_ended_line, put_params, put_sizes};
 pub use json_text::json;
 pub use lists::{
