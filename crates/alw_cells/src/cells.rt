@@ -338,7 +338,7 @@ impl NodeCell {
         self.pending.reserve(nodes)?;
         self.dids.reserve(1)?;
         let taken = take(&mut self.come, &mut self.senders, event);
-        let did = self.node.local(event, &taken, &mut self.sent);
+        let did = self.node.local(event, taken.as_ref(), &mut self.sent);
         let _fits = self.sent.free(); // for its clause
         let entry = Entry {
             stamp: self.node.clock(),

@@ -151,6 +151,7 @@ impl Memory {
     }
 
     /// A message to memory: it traps, which puts it behind the packets, or hardware acts on it.
+    #[inline(always)]
     pub fn deliver(&mut self, msg: &Msg, sent: &mut Sends) -> Did
         requires begun { SendsAreBegun self.old.number self.old.nodes sent.old }
         requires to_memory { IsTrue (to_memory msg.now.kind) }

@@ -29,10 +29,10 @@ use Rattle.alw_tally.proofs.Following.{remains_are, may_follow}
 use Rattle.alw_node.specs.Nodes.{Whole, MessageIsGiven}
 use Rattle.alw_mesh.specs.declared.stepping.Acted.{Acted}
 use Rattle.alw_mesh.specs.Grids.{Happens}
-use Rattle.alw_mesh.specs.Keeping.{machine_of, no_whole, whole_in, NodeIsOf, AreNodes, IsGrid, taken_from, after_taking, HasTrapPc, may_act, acted_by, Acts}
+use Rattle.alw_mesh.specs.Keeping.{machine_of, no_whole, whole_in, NodeIsOf, AreNodes, IsGrid, NodesAreWithin, taken_from, after_taking, HasTrapPc, may_act, acted_by, Acts}
 use Rattle.alw_mesh.proofs.Turning.{left_step, used_is, pc_is}
 use Rattle.alw_mesh.proofs.OneNode.{state_at, enabled_there, step_there}
-use Rattle.alw_mesh.proofs.Moves.{taken_is, links_are_taken, taking_keeps_nodes, taking_keeps_room, links_are_sent, goes_below, given}
+use Rattle.alw_mesh.proofs.Moves.{taken_is, links_are_taken, taking_keeps_nodes, taking_keeps_room, links_are_sent, goes_below, named, given}
 
 module _ {image : Parts} {parameters : Parameters} {nodes : List Whole} {traffic : Traffic} {remains : Remains} (grid : IsGrid image parameters nodes traffic remains)
     (event : Event) (enabled : IsTrue (is_enabled image parameters (machine_of nodes traffic.links) event)) where
@@ -66,6 +66,9 @@ module _ {image : Parts} {parameters : Parameters} {nodes : List Whole} {traffic
 
   pub node_may : may_act own event head ≡ true
   node_may = enabled_there image parameters at own own_of event head ∙ ((λ i. is_enabled_at image parameters at (own_state i) event (head_is i)) ∙ enabled)
+
+  pub nodes_named : NodesAreWithin traffic.nodes event
+  nodes_named = rw grid.links_are (named image parameters here event enabled)
 
   pub node_given : MessageIsGiven event head
   node_given = subst (MessageIsGiven event) (sym head_is) (given image here event)

@@ -1,18 +1,22 @@
 -- Messages that are taken and sent: the links as they are kept do what the machine's definitions say.
-use Rattle.std.proofs.Common.{◌≡◌, ℕ, zero, suc, ◌<◌, ◌≤◌, Option, Some, None, List, [], ◌∷◌, ◌++◌, ◌+◌, ◌*◌, set, length, get_or, slice_index_or, refl, sym, ap, ◌∙◌, arith}
+use Rattle.std.proofs.Common.{◌≡◌, ℕ, zero, suc, ◌<◌, ◌≤◌, nat_lt, IsTrue, Option, Some, None, List, [], ◌∷◌, ◌++◌, ◌+◌, ◌*◌, set, length, get_or, slice_index_or, refl, sym, ap, ◌∙◌, arith}
 use Rattle.std.proofs.lemmas.List.{get_or_past}
 use Rattle.std.proofs.lemmas.Nat.{mul-le}
+use Rattle.std.proofs.lemmas.Bool.{ltb-true}
 use Rattle.alw_num.specs.declared.addresses.NodeNo.{NodeNo}
 use Rattle.alw_msg.specs.declared.messages.Msg.{Msg}
 use Rattle.alw_msg.specs.declared.events.Event.{Event}
 use Rattle.alw_msg.specs.declared.events.Event.TheVariants.{Instr, Handle, Deliver, Evict}
 use Rattle.alw_image.specs.declared.parts.Parts.{Parts}
 use Rattle.alw_image.specs.Images.{node_count}
-use Rattle.alw_model.specs.Machine.{MachineState, taken_by, links_taken, links_sent}
+use Rattle.alw_image.specs.Parameters.{Parameters}
+use Rattle.alw_model.proofs.Journals.{and_parts}
+use Rattle.alw_model.specs.Machine.{MachineState, is_enabled, taken_by, links_taken, links_sent}
 use Rattle.law_lines.specs.Links.{GoBelow}
+use Rattle.law_lines.proofs.Steps.{enabled_is}
 use Rattle.alw_links.specs.Traffic.{Traffic, links_with_all}
 use Rattle.alw_node.specs.Nodes.{MessageIsGiven}
-use Rattle.alw_mesh.specs.Keeping.{taken_from, after_taking}
+use Rattle.alw_mesh.specs.Keeping.{taken_from, after_taking, NodesAreWithin}
 
 module _ (image : Parts) (machine : MachineState) (traffic : Traffic) (nodes_are : traffic.nodes ≡ node_count image) (links_are : machine.links ≡ traffic.links) where
   pub taken_is : (event : Event) → taken_from traffic event ≡ taken_by image machine event
@@ -52,6 +56,13 @@ pub goes_below : (n : ℕ) (sends : List (ℕ × Msg)) → GoBelow n sends → (
 goes_below n [] below k d l = absurd (omega arith)
 goes_below n (send ∷ rest) below zero d l = below.0
 goes_below n (send ∷ rest) below (suc k) d l = goes_below n rest below.1 k d (omega (arith, l))
+
+-- the nodes that an enabled event names exist
+pub named : (image : Parts) (parameters : Parameters) (machine : MachineState) (event : Event) → IsTrue (is_enabled image parameters machine event) → NodesAreWithin (node_count image) event
+named image parameters machine (Deliver from to) is =
+    let en = enabled_is image parameters machine (Deliver from to) is in
+    (ltb-true from.0 (node_count image) (and_parts (nat_lt from.0 (node_count image)) _ en.may_be).0, en.here)
+named image parameters machine _ is = tt
 
 -- only a delivery takes a message
 pub given : (image : Parts) (machine : MachineState) (event : Event) → MessageIsGiven event (taken_by image machine event)

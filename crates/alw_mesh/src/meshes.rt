@@ -15,7 +15,7 @@ ghost use Rattle.alw_mesh.specs.Keeping.{machine_of, AreNodes};
 ghost use Rattle.alw_mesh.specs.Joins.{IsGridOf};
 
 use crate::joining::{LinkLists, links_of, nodes_of, remains_at};
-use crate::stepping::{Happening, act, is_in_time, nodes_start, take, uses_hold};
+use crate::stepping::{Happening, act, drop_head, head, is_in_time, nodes_start, uses_hold};
 use alw_image::{Image, Params};
 use alw_links::Links;
 use alw_msg::{Event, Msg, Sends};
@@ -229,9 +229,10 @@ impl Mesh {
         ensures { Happens self.old self.new event sent.new result }
     {
         let number = event.node();
-        let mut taken = None;
-        take(&mut self.links, event, &mut taken);
-        let acted = act(&mut self.nodes, usize::from(number.0), event, &taken, sent);
+        let head = head(&self.links, event);
+        let taken = head.copied();
+        let acted = act(&mut self.nodes, usize::from(number.0), event, head, sent);
+        drop_head(&mut self.links, event);
         self.links.send_all(number, sent);
         self.remains.follow(event, acted.did);
         let told = Happened {

@@ -1,4 +1,4 @@
-ghost use Rattle.std.specs.Prelude.{◌≡◌, ◌<◌, ◌≤◌, ◌==◌, ◌&&◌, not, true, length, nat_le, map, option_copied, None, IfOk};
+ghost use Rattle.std.specs.Prelude.{◌≡◌, ◌<◌, ◌≤◌, ◌==◌, ◌&&◌, not, true, length, nat_le, map, option_copied, IfOk};
 ghost use Rattle.std.specs.List.{range_with_len};
 ghost use Rattle.std.specs.Arc.{arc_value};
 ghost use Rattle.alw_image.specs.Images.{node_count};
@@ -38,17 +38,27 @@ pub fn nodes_start(
     Ok(nodes)
 }
 
-/// Takes the message that an event takes off its link: the head for a delivery, and none else. It is
-/// written in place, since a message that is answered is copied at each event.
+/// The message that an event takes, where it stands: the head of its link for a delivery, and none
+/// else.
 #[inline(always)]
-pub fn take(links: &mut Links, event: Event, taken: &mut Option<Msg>)
-    requires within { NodesAreWithin links.old.nodes event }
-    requires none { taken.old ≡ None }
-    ensures message { taken.new ≡ taken_from links.old event }
-    ensures links { links.new ≡ after_taking links.old event }
+pub fn head(links: &Links, event: Event) -> Option<&Msg>
+    requires { NodesAreWithin links.now.nodes event }
+    ensures { option_copied result ≡ taken_from links.now event }
+{
+    match event {
+        Event::Deliver { from, to } => links.head(from, to),
+        _ => None,
+    }
+}
+
+/// Takes that message off its link.
+#[inline(always)]
+pub fn drop_head(links: &mut Links, event: Event)
+    requires { NodesAreWithin links.old.nodes event }
+    ensures { links.new ≡ after_taking links.old event }
 {
     if let Event::Deliver { from, to } = event {
-        *taken = links.take(from, to);
+        let _taken = links.take(from, to);
     }
 }
 
@@ -103,14 +113,14 @@ pub fn act(
     nodes: &mut Vec<Node>,
     at: usize,
     event: Event,
-    taken: &Option<Msg>,
+    taken: Option<&Msg>,
     sent: &mut Sends,
 ) -> Acted
     requires here { at < length nodes.old.items }
-    requires enabled { may_act (whole_in nodes.old.items at) event taken.now ≡ true }
-    requires taken { MessageIsGiven event taken.now }
+    requires enabled { may_act (whole_in nodes.old.items at) event (option_copied taken) ≡ true }
+    requires taken { MessageIsGiven event (option_copied taken) }
     requires room { node_count (whole_in nodes.old.items at).parts ≤ sent.old.room }
-    ensures { Acts nodes.old.items nodes.new.items at event taken.now sent.old sent.new result }
+    ensures { Acts nodes.old.items nodes.new.items at event (option_copied taken.entry) sent.old sent.new result }
 {
     let node = &mut nodes[at];
     let holds = node.holds();

@@ -110,13 +110,14 @@ impl Node {
     }
 
     /// One event of the node, which is enabled, with the message that it takes: none, but for a
-    /// delivery. What is sent is in `sent`, which has room for a message to each node.
+    /// delivery. It is lent where it stands. What is sent is in `sent`, which has room for a message to
+    /// each node.
     #[inline(always)]
-    pub fn local(&mut self, event: Event, taken: &Option<Msg>, sent: &mut Sends) -> Did
-        requires enabled { is_enabled_at self.old.parts self.old.parameters self.old.number self.old.state event taken.now ≡ true }
-        requires taken { MessageIsGiven event taken.now }
+    pub fn local(&mut self, event: Event, taken: Option<&Msg>, sent: &mut Sends) -> Did
+        requires enabled { is_enabled_at self.old.parts self.old.parameters self.old.number self.old.state event (option_copied taken) ≡ true }
+        requires taken { MessageIsGiven event (option_copied taken) }
         requires room { node_count self.old.parts ≤ sent.old.room }
-        ensures { Steps self.old self.new sent.old sent.new result (node_step self.old.parts self.old.parameters self.old.number self.old.state event taken.now) }
+        ensures { Steps self.old self.new sent.old sent.new result (node_step self.old.parts self.old.parameters self.old.number self.old.state event (option_copied taken.entry)) }
     {
         let stamp = next_stamp(self.clock, taken);
         sent.begin(self.proc.number(), stamp);
@@ -132,7 +133,8 @@ impl Node {
                 if msg.kind.is_to_memory() {
                     self.memory.deliver(msg, sent)
                 } else {
-                    self.proc.cache_msg(msg, sent)
+                    self.proc.cache_msg(msg, sent);
+                    Did::Took
                 }
             }
         }
@@ -328,10 +330,10 @@ impl Node {
 
 // The stamp of an event that takes this message, at a clock that isn't the greatest.
 #[inline(always)]
-fn next_stamp(clock: u32, taken: &Option<Msg>) -> u32
+fn next_stamp(clock: u32, taken: Option<&Msg>) -> u32
     requires clock { clock < 4294967295 }
-    requires taken { FitsStamp taken.now }
-    ensures { result ≡ stamp_of clock taken.now }
+    requires taken { FitsStamp (option_copied taken) }
+    ensures { result ≡ stamp_of clock (option_copied taken.entry) }
 {
     match taken {
         Some(msg) => clock.max(msg.stamp) + 1,

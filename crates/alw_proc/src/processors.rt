@@ -6,6 +6,7 @@ ghost use Rattle.alw_msg.specs.Kinds.{to_memory};
 ghost use Rattle.alw_image.specs.Images.{node_count, line_count};
 ghost use Rattle.alw_model.specs.Contexts.{running, slot_at, is_held, all_halted};
 ghost use Rattle.alw_msg.specs.Contents.{content};
+ghost use Rattle.alw_model.specs.declared.steps.Did.TheVariants.{Took};
 ghost use Rattle.alw_model.specs.Sides.{lines_of};
 ghost use Rattle.alw_model.specs.ProcessorSteps.{Steps, instr, takes, evict_from};
 ghost use Rattle.alw_model.specs.NodeStates.{node_start, processor_of};
@@ -97,11 +98,11 @@ impl Proc {
 
     /// A message to a cache: RDATA and WDATA bring a line, BUSY sends the waiters back to try again,
     /// and INV takes the line away.
-    pub fn cache_msg(&mut self, msg: &Msg, sent: &mut Sends) -> Did
+    pub fn cache_msg(&mut self, msg: &Msg, sent: &mut Sends)
         requires begun { SendsAreBegun self.old.number sent.old }
         requires to_cache { to_memory msg.now.kind ≡ false }
         requires line { msg.now.line.0 < lines_of self.old }
-        ensures { Steps self.old self.new sent.old sent.new result (takes sent.old.stamp self.old msg.now.line.0 (content msg.now)) }
+        ensures { Steps self.old self.new sent.old sent.new Took (takes sent.old.stamp self.old msg.now.line.0 (content msg.now)) }
     {
         let (line, homes) = (msg.line, self.homes());
         match msg.kind {
@@ -131,7 +132,6 @@ impl Proc {
             Kind::INV => invalidate(&mut self.shared.cache, line, self.per_node, sent),
             _ => {}
         }
-        Did::Took
     }
 
     /// An eviction empties a set of the cache. A Read-Write copy goes home.

@@ -39,7 +39,7 @@ invariant_of-self-2 c =
       kept = kept v c.args.event c.take-taken.result c.self.inside.sent c.local-did.new.sent c.local-did.new.self c.local-did.result c.clock.result
           c.reserve.new.self.entries c.push.new.self.entries c.take-taken.new.come.items
           c.reserve-2.new.self.items c.append.new.pending.items c.reserve-3.new.self.list c.push-2.new.self.list c.take-taken.ensures.message
-          c.local-did.ensures c.clock.ensures (ap (λ (w : Written). w.entries) c.in_ok-reserve.ensures.ok)
+          (rw c.as_ref.ensures.value at c.local-did.ensures) c.clock.ensures (ap (λ (w : Written). w.entries) c.in_ok-reserve.ensures.ok)
           (ap (λ (w : Written). w.entries) c.push.ensures) c.take-taken.ensures.left c.reserve-2.ensures.items c.append.ensures
           (ap (λ (r : Roomed Did). r.list) c.in_ok-reserve-3.ensures.ok)
           (ap (λ (r : Roomed Did). r.list) c.push-2.ensures) c.self.inside.senders c.take-taken.new.senders c.self.invariant.kept
@@ -72,7 +72,7 @@ returns c =
     (Ok (result.Did (record { stamp = c.clock.result; event = c.args.event }) c.local-did.result))) c.self.view_is
     (happens v c.args.event c.take-taken.result c.self.inside.sent c.local-did.new.sent c.local-did.new.self c.local-did.result c.clock.result
     c.reserve.new.self.entries c.push.new.self.entries c.take-taken.new.come.items
-    c.reserve-2.new.self.items c.append.new.pending.items c.reserve-3.new.self.list c.push-2.new.self.list c.take-taken.ensures.message c.local-did.ensures
+    c.reserve-2.new.self.items c.append.new.pending.items c.reserve-3.new.self.list c.push-2.new.self.list c.take-taken.ensures.message (rw c.as_ref.ensures.value at c.local-did.ensures)
     c.clock.ensures (ap (λ (w : Written). w.entries) c.in_ok-reserve.ensures.ok)
     (ap (λ (w : Written). w.entries) c.push.ensures) c.take-taken.ensures.left c.reserve-2.ensures.items c.append.ensures
     (ap (λ (r : Roomed Did). r.list) c.in_ok-reserve-3.ensures.ok) (ap (λ (r : Roomed Did). r.list) c.push-2.ensures))
@@ -102,7 +102,7 @@ push-requires-clause-record c =
     filed v c.args.event c.take-taken.result c.self.inside.sent c.local-did.new.sent c.local-did.new.self c.local-did.result c.clock.result
     c.reserve.new.self.number
     (subst (λ (cell : Cell). may_happen cell c.args.event ≡ true) (sym c.self.view_is) c.requires.may) c.take-taken.ensures.message c.take-taken.ensures.plain
-    c.local-did.ensures c.clock.ensures
+    (rw c.as_ref.ensures.value at c.local-did.ensures) c.clock.ensures
     (ap (λ (w : Written). w.number) c.in_ok-reserve.ensures.ok ∙ c.self.invariant.own)
     (omega (arith, same, c.free-fits.ensures.left, c.self.invariant.kept.room, c.self.invariant.kept.few, c.self.invariant.kept.replayed.ins))
 
@@ -118,4 +118,4 @@ push-requires-clause-stamp c =
     } in
     rises v c.args.event c.take-taken.result c.self.inside.sent c.local-did.new.sent c.local-did.new.self c.local-did.result c.clock.result
     c.reserve.new.self.entries
-    c.self.invariant.kept.replayed (ap (λ (w : Written). w.entries) c.in_ok-reserve.ensures.ok) c.local-did.ensures c.clock.ensures
+    c.self.invariant.kept.replayed (ap (λ (w : Written). w.entries) c.in_ok-reserve.ensures.ok) (rw c.as_ref.ensures.value at c.local-did.ensures) c.clock.ensures

@@ -1,8 +1,14 @@
 -- By its share a node does what the machine does; nodes and links stay those of the image.
 use Rattle.std.proofs.Common.{◌≡◌, ℕ, ap, ◌∙◌, arith}
 use Rattle.alw_links.specs.Traffic.{after_sends}
-use Rattle.alw_mesh.proofs.Grids.{is_kept, node_may, node_given, nodes_counted, sends_exist, sends_fit, sender_exists, remains_may, grid_kept, happens}
+use Rattle.alw_mesh.proofs.Grids.{is_kept, nodes_named, node_may, node_given, nodes_counted, sends_exist, sends_fit, sender_exists, remains_may, grid_kept, happens}
 use Rattle.alw_mesh.proofs.meshes.Mesh.happen.Goals as goal
+
+pub head-head-requires : goal.head-head-requires
+head-head-requires c = nodes_named c.self.invariant c.args.event (rw (← c.self.view_is) at c.requires.enabled)
+
+pub drop_head-requires : goal.drop_head-requires
+drop_head-requires c = nodes_named c.self.invariant c.args.event (rw (← c.self.view_is) at c.requires.enabled)
 
 pub act-acted-requires-clause-here : goal.act-acted-requires-clause-here
 act-acted-requires-clause-here c =
@@ -14,12 +20,12 @@ pub act-acted-requires-clause-enabled : goal.act-acted-requires-clause-enabled
 act-acted-requires-clause-enabled c =
     let enabled = rw (← c.self.view_is) at c.requires.enabled in
     let place = c.from.ensures ∙ c.node-number.ensures in
-    rw (place, c.take.ensures.message) (node_may c.self.invariant c.args.event enabled)
+    rw (place, c.head-head.ensures) (node_may c.self.invariant c.args.event enabled)
 
 pub act-acted-requires-clause-taken : goal.act-acted-requires-clause-taken
 act-acted-requires-clause-taken c =
     let enabled = rw (← c.self.view_is) at c.requires.enabled in
-    rw c.take.ensures.message (node_given c.self.invariant c.args.event enabled)
+    rw c.head-head.ensures (node_given c.self.invariant c.args.event enabled)
 
 pub act-acted-requires-clause-room : goal.act-acted-requires-clause-room
 act-acted-requires-clause-room c =
@@ -31,13 +37,13 @@ pub send_all-requires-clause-from : goal.send_all-requires-clause-from
 send_all-requires-clause-from c =
     let enabled = rw (← c.self.view_is) at c.requires.enabled in
     let place = c.from.ensures ∙ c.node-number.ensures in
-    rw c.node-number.ensures (sender_exists c.self.invariant c.args.event enabled place c.take.ensures.message c.take.ensures.links c.act-acted.ensures)
+    rw c.node-number.ensures (sender_exists c.self.invariant c.args.event enabled place c.head-head.ensures c.drop_head.ensures c.act-acted.ensures)
 
 pub send_all-requires-clause-to : goal.send_all-requires-clause-to
 send_all-requires-clause-to c =
     let enabled = rw (← c.self.view_is) at c.requires.enabled in
     let place = c.from.ensures ∙ c.node-number.ensures in
-    sends_exist c.self.invariant c.args.event enabled place c.take.ensures.message c.take.ensures.links c.act-acted.ensures
+    sends_exist c.self.invariant c.args.event enabled place c.head-head.ensures c.drop_head.ensures c.act-acted.ensures
 
 pub send_all-requires-clause-room : goal.send_all-requires-clause-room
 send_all-requires-clause-room c =
@@ -45,27 +51,27 @@ send_all-requires-clause-room c =
     let place = c.from.ensures ∙ c.node-number.ensures in
     let links = rw (← c.self.view_is) at c.requires.links in
     let room = rw (← c.self.view_is) at c.requires.sends in
-    sends_fit c.self.invariant c.args.event enabled place c.take.ensures.message c.take.ensures.links c.act-acted.ensures (omega arith)
+    sends_fit c.self.invariant c.args.event enabled place c.head-head.ensures c.drop_head.ensures c.act-acted.ensures (omega arith)
 
 pub follow-requires : goal.follow-requires
 follow-requires c =
     let enabled = rw (← c.self.view_is) at c.requires.enabled in
     let place = c.from.ensures ∙ c.node-number.ensures in
     let few = rw (← c.self.view_is) at c.requires.few in
-    remains_may c.self.invariant c.args.event enabled place c.take.ensures.message c.take.ensures.links c.act-acted.ensures few
+    remains_may c.self.invariant c.args.event enabled place c.head-head.ensures c.drop_head.ensures c.act-acted.ensures few
 
 pub invariant_of-self : goal.invariant_of-self
 invariant_of-self c =
     let enabled = rw (← c.self.view_is) at c.requires.enabled in
     let place = c.from.ensures ∙ c.node-number.ensures in
-    let moved = c.send_all.ensures ∙ ap (λ (n : ℕ). after_sends c.take.new.links n c.act-acted.new.sent.messages) c.node-number.ensures in
-    grid_kept c.self.invariant c.args.event enabled place c.take.ensures.message c.take.ensures.links c.act-acted.ensures moved c.follow.ensures
+    let moved = c.send_all.ensures ∙ ap (λ (n : ℕ). after_sends c.drop_head.new.links n c.act-acted.new.sent.messages) c.node-number.ensures in
+    grid_kept c.self.invariant c.args.event enabled place c.head-head.ensures c.drop_head.ensures c.act-acted.ensures moved c.follow.ensures
 
 pub returns : goal.returns
 returns c =
     let enabled = rw (← c.self.view_is) at c.requires.enabled in
     let place = c.from.ensures ∙ c.node-number.ensures in
-    let moved = c.send_all.ensures ∙ ap (λ (n : ℕ). after_sends c.take.new.links n c.act-acted.new.sent.messages) c.node-number.ensures in
+    let moved = c.send_all.ensures ∙ ap (λ (n : ℕ). after_sends c.drop_head.new.links n c.act-acted.new.sent.messages) c.node-number.ensures in
     let room = rw (← c.self.view_is) at c.requires.sends in
-    rw (← c.self.view_is)
-    (happens c.self.invariant c.args.event enabled place c.take.ensures.message c.take.ensures.links c.act-acted.ensures moved c.node-number.result c.uses_hold.result room c.node-number.ensures c.uses_hold.ensures)
+    rw (← c.self.view_is, c.copied-taken.ensures)
+    (happens c.self.invariant c.args.event enabled place c.head-head.ensures c.drop_head.ensures c.act-acted.ensures moved c.node-number.result c.uses_hold.result room c.node-number.ensures c.uses_hold.ensures)
