@@ -5,14 +5,15 @@ ghost use Rattle.alw_work.specs.Ties.{AreTiedOuts, AreTiedIns, IsSameButCome, Is
 use crate::ends::{In, Out};
 use crate::signs::Signs;
 use alw_cells::NodeCell;
-use alw_num::{MOST_NODES, NoMemory, NodeNo};
+use alw_num::{MOST_NODES, NoMemory, NodeNo, NodeSet};
 use alw_ruled::Link;
 use std::sync::Wait;
 
 // The most messages of a link that a turn takes in.
 const MOST_TAKEN: u32 = 16;
 
-/// Takes in what the marked links to a node have, up to so many messages of each.
+/// Takes in what the links to a node from some senders have, up to so many messages of each. Where there
+/// may be more of one, it is marked again.
 pub fn fetch<R: Wait>(
     rt: &R,
     links: &[Link],
@@ -20,6 +21,7 @@ pub fn fetch<R: Wait>(
     nodes: u16,
     cell: &mut NodeCell,
     ins: &mut Vec<In>,
+    mut senders: NodeSet,
     signs: &Signs,
 ) -> Result<(), NoMemory>
     requires nodes { nodes ≡ node_count cell.old.node.parts }
@@ -27,7 +29,6 @@ pub fn fetch<R: Wait>(
     ensures same { IsSameButCome cell.old cell.new }
     ensures tied { AreTiedIns links.now nodes number.0 cell.new ins.new.items }
 {
-    let mut senders = signs.take(number);
     for _ in 0..MOST_NODES {
         let Some(from) = senders.lowest() else {
             break;

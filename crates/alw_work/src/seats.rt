@@ -93,6 +93,7 @@ impl<I: Naming> Locked<I> {
     /// onto the links. So the log grows by at most one event, which the step took. Answers whether the cell
     /// did anything: it didn't where no main event might happen on what had come (`NodeCell::step`). A
     /// trapping turn stops all workers.
+    #[inline(always)]
     pub fn turn<R: Wait>(
         &mut self,
         rt: &R,
@@ -112,13 +113,18 @@ impl<I: Naming> Locked<I> {
         Ok(has_acted)
     }
 
-    // Takes in what has come.
+    // Takes in what has come. Mostly no link is marked.
+    #[inline(always)]
     fn take_in<R: Wait>(&mut self, rt: &R, links: &[Link], signs: &Signs) -> Result<(), NoMemory>
         requires { links.now ≡ I.links }
         ensures come { IsSameButCome self.old.cell self.new.cell }
         ensures rest { IsSameButCell self.old self.new }
     {
         let (number, nodes) = (self.number, self.nodes);
+        let senders = signs.take(number);
+        if senders.is_empty() {
+            return Ok(());
+        }
         fetch(
             rt,
             links,
@@ -126,23 +132,29 @@ impl<I: Naming> Locked<I> {
             nodes,
             &mut self.cell,
             &mut self.ins,
+            senders,
             signs,
         )
     }
 
     // Takes one step.
+    #[inline(always)]
     fn act(&mut self, pick: u32) -> Result<bool, NoMemory>
         ensures { Acts pick self.old self.new result }
     {
         step(&mut self.cell, &mut self.trapped, pick)
     }
 
-    // Gives out what was sent.
+    // Gives out what was sent. Mostly nothing waits.
+    #[inline(always)]
     fn give_out<R: Wait>(&mut self, rt: &R, links: &[Link], signs: &Signs)
         requires { links.now ≡ I.links }
         ensures given { IsSameButGiven self.old.cell self.new.cell }
         ensures rest { IsSameButCell self.old self.new }
     {
+        if self.late.is_none() && self.cell.first_out().is_none() {
+            return;
+        }
         let (number, nodes) = (self.number, self.nodes);
         self.late = offer(
             rt,
@@ -180,6 +192,7 @@ impl<I: Naming> Locked<I> {
 }
 
 // A trapping turn.
+#[inline(always)]
 fn is_trap(did: Did) -> bool
     ensures { result ≡ works.is_trap did }
 {
@@ -193,6 +206,7 @@ fn is_trap(did: Did) -> bool
 }
 
 // One step, which is marked where it is a trapping turn. Answers whether the cell did anything.
+#[inline(always)]
 fn step(cell: &mut NodeCell, trapped: &mut bool, pick: u32) -> Result<bool, NoMemory>
     ensures same { CellIsOfNode cell.old cell.new }
     ensures marked { TrapIsMarked trapped.old cell.old → TrapIsMarked trapped.new cell.new }

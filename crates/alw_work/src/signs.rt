@@ -19,7 +19,7 @@ pub struct Signs {
 impl Signs {
     /// No mark for any of so many nodes, and nobody is to stop.
     pub fn none(alloc: Global, nodes: u16) -> Result<Signs, NoMemory> {
-        let words = nodes / WORD_NODES + 1;
+        let words = nodes / WORD_NODES + u16::from(nodes % WORD_NODES != 0);
         let mut marks = Vec::new(alloc);
         for _ in 0..u32::from(nodes) * u32::from(words) {
             marks.push(AtomicU64::new(0))?;
@@ -40,15 +40,14 @@ impl Signs {
     }
 
     /// The nodes whose links to a node are marked, and marks them no longer.
+    #[inline(always)]
     pub fn take(&self, node: NodeNo) -> NodeSet {
         let first = self.first(node) as usize;
         let mut set = NodeSet::empty();
         for word in 0..self.words.min(NODE_WORDS) {
-            let bits = u128::from(self.word(first + usize::from(word))) << (word % 2 * WORD_NODES);
-            if word < 2 {
-                set.low |= bits;
-            } else {
-                set.high |= bits;
+            let marks = self.word(first + usize::from(word));
+            if marks != 0 {
+                add(&mut set, word, marks);
             }
         }
         set
@@ -60,20 +59,33 @@ impl Signs {
     }
 
     /// Whether all workers are to stop.
+    #[inline(always)]
     pub fn has_stopped(&self) -> bool {
         self.stop.load(Ordering::SeqCst)
     }
 
     // The place of the first word of a node.
+    #[inline(always)]
     fn first(&self, node: NodeNo) -> u32 {
         u32::from(node.0) * u32::from(self.words)
     }
 
     // A word of marks, which is then empty. It is written only where it isn't.
+    #[inline(always)]
     fn word(&self, at: usize) -> u64 {
         match self.marks.get(at) {
             Some(marks) if marks.load(Ordering::SeqCst) != 0 => marks.swap(0, Ordering::SeqCst),
             _ => 0,
         }
+    }
+}
+
+// The nodes of a word of marks go into a set.
+fn add(set: &mut NodeSet, word: u16, marks: u64) {
+    let bits = u128::from(marks) << (word % 2 * WORD_NODES);
+    if word < 2 {
+        set.low |= bits;
+    } else {
+        set.high |= bits;
     }
 }

@@ -122,6 +122,7 @@ fn visit<I: Naming, R: Wait, G: Gate>(
 }
 
 // One turn at a node. Answers whether the node did anything. Want of memory stops all workers.
+#[inline(always)]
 fn turn<I: Naming, R: Wait>(
     rt: &R,
     seat: &mut Locked<I>,
