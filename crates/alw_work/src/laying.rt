@@ -2,10 +2,12 @@ ghost use Rattle.std.specs.Prelude.{◌≡◌, ◌<◌, ◌*◌, vec_len, [], If
 ghost use Rattle.alw_work.specs.Ties.{LinksAreColumns, LinksAreLaid, LaysRow};
 
 use crate::ends::{In, Out};
+use crate::spares::Spares;
 use alw_num::NoMemory;
 use alw_ruled::{Ends, Link};
 use std::alloc::Global;
 use std::sync::Wait;
+use std::thread::Threads;
 
 /// The links between nodes, that from node a to node b at place a * N + b, and their ends: of each node the
 /// sender's to all nodes, in order, and the receiver's from all nodes.
@@ -16,15 +18,22 @@ pub struct Laid {
     pub ins: Vec<Vec<In>>,
 }
 
-/// The links between so many nodes, on which nothing was sent.
-pub fn lay_links<R: Wait>(rt: &R, alloc: Global, nodes: u16) -> Result<Laid, NoMemory>
+/// The links between so many nodes, on which nothing was sent. So many threads make them.
+pub fn lay_links<R: Threads + Wait + Sync>(
+    rt: &R,
+    alloc: Global,
+    nodes: u16,
+    workers: u32,
+) -> Result<Laid, NoMemory>
     ensures { IfOk result (λ laid. LinksAreLaid nodes laid) }
 {
+    let count = u32::from(nodes) * u32::from(nodes);
+    let mut spares = Spares::made(rt, alloc, count, workers)?;
     let mut links = Vec::new(alloc);
     let mut outs = Vec::new(alloc);
     let mut ins = columns(alloc, nodes)?;
     for from in 0..nodes {
-        let row = lay_row(rt, alloc, nodes, from, &mut links, &mut ins)?;
+        let row = lay_row(rt, alloc, nodes, from, &mut spares, &mut links, &mut ins)?;
         outs.push(row)?;
     }
     Ok(Laid { links, outs, ins })
@@ -47,6 +56,7 @@ fn lay_row<R: Wait>(
     alloc: Global,
     nodes: u16,
     from: u16,
+    spares: &mut Spares,
     links: &mut Vec<Link>,
     ins: &mut Vec<Vec<In>>,
 ) -> Result<Vec<Out>, NoMemory>
@@ -60,7 +70,7 @@ fn lay_row<R: Wait>(
             link,
             sender,
             receiver,
-        } = Link::start(rt, alloc)?;
+        } = spares.next(rt, alloc)?;
         links.push(link)?;
         row.push(Out {
             end: sender,

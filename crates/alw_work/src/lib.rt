@@ -12,6 +12,7 @@ mod ready;
 mod runs;
 mod seats;
 mod signs;
+mod spares;
 mod workers;
 
 pub use gates::{Gate, OpenGate};

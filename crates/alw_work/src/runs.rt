@@ -38,7 +38,7 @@ pub fn run_workers<R: Threads + Wait + Sync, G: Gate>(
     ensures worked { IfOk result (λ worked. LogsAreWorked image.now params.now worked) }
     ensures spent { IfOk result (λ worked. AreSpent image.now params.now (logged worked.logs)) }
 {
-    let laid = lay_links(rt, alloc, image.nodes())?;
+    let laid = lay_links(rt, alloc, image.nodes(), workers)?;
     run_named::<Brand, R, G>(rt, alloc, image, params, laid, workers, gate)
 }
 
