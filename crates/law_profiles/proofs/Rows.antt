@@ -4,11 +4,11 @@ use Rattle.std.specs.List.{AllByRecursion, range_with_len}
 use Rattle.std.proofs.lemmas.Bool.{false≢true, eqb-true, ltb-true, lt-ltb, ne_eqb, eq-eqb}
 use Rattle.std.proofs.lemmas.List.FromFn.{get_or-map-range_with_len}
 use Rattle.alw_num.specs.Weights.{weigh, sum_below}
+use Rattle.alw_num.proofs.Lists.{number_more}
 use Rattle.alw_num.proofs.Weigh.{is_node, weigh-append, sum_same, sum_none, sum_both}
 use Rattle.alw_model.specs.Runs.{Moment}
 use Rattle.alw_profile.specs.declared.tables.Mark.{Mark}
 use Rattle.alw_profile.specs.Marks.{weight_at, counted, row_of, has_count}
-use Rattle.alw_profile.proofs.Lists.{listed_more}
 
 -- what a mark adds to a column, and what it adds to that of a table with n rows
 abbrev pub in_column : ℕ → Mark → ℕ
@@ -106,8 +106,7 @@ weigh_rows pick own value is zero = refl
 weigh_rows {Row = Row} pick own value is (suc n) =
     let one_more : suc n ≡ n + 1 = omega arith in
     let listed : ℕ → List Row = λ k. flat_map own (range_with_len 0 k) in
-    let next : listed (suc n) ≡ listed n ++ own n
-    = ap (λ (k : ℕ). flat_map own (range_with_len 0 k)) one_more ∙ sym (listed_more own n (listed n) (listed n ++ own n) refl refl) in
+    let next : listed (suc n) ≡ listed n ++ own n = ap listed one_more ∙ number_more own n in
     ap (weigh pick) next ∙ omega (arith, weigh-append pick (listed n) (own n), is n, weigh_rows pick own value is n)
 
 row_cell : (marks : List Mark) (columns row column : ℕ) → column < columns → slice_index (row_of marks columns row) column ≡ counted marks row column

@@ -3,7 +3,7 @@ use Rattle.std.proofs.Common.{◌≡◌, ℕ, List, ◌++◌, sym, ap, ◌∙◌
 use Rattle.alw_model.specs.Counts.{DirectoryLine, directory_line}
 use Rattle.alw_model.specs.Lines.{entry_of}
 use Rattle.alw_mesh.specs.Histories.{state_of}
-use Rattle.alw_told.proofs.Lists.{flat_more}
+use Rattle.alw_num.proofs.Lists.{number_more}
 use Rattle.alw_told.proofs.telling.directory_of.Goals as goal
 
 pub loop-line-preserved : goal.loop-line-preserved
@@ -15,6 +15,6 @@ loop-line-preserved c =
     record {
       lines = c.in_ok-put_entry.ensures.lines (entry_of machine.image (state_of machine) c.loop-line.line) c.home.ensures
           ∙ ap (λ (lines : List DirectoryLine). lines ++ here) c.loop-line.invariant.lines
-          ∙ sym (flat_more (λ line. directory_line line (entry_of machine.image (state_of machine) line)) c.loop-line.line);
+          ∙ sym (number_more (λ line. directory_line line (entry_of machine.image (state_of machine) line)) c.loop-line.line);
       few = omega arith;
     }

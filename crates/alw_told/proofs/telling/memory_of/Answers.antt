@@ -5,7 +5,7 @@ use Rattle.alw_model.specs.Counts.{words_of}
 use Rattle.alw_model.specs.Lines.{current_value}
 use Rattle.alw_mesh.specs.Histories.{state_of}
 use Rattle.alw_told.specs.Lines.{words_below}
-use Rattle.alw_told.proofs.Lists.{flat_more}
+use Rattle.alw_num.proofs.Lists.{number_more}
 use Rattle.alw_told.proofs.telling.memory_of.Goals as goal
 
 pub loop-line-preserved : goal.loop-line-preserved
@@ -17,6 +17,6 @@ loop-line-preserved c =
       words = c.in_ok-put_line.ensures.words
           ∙ ap (λ (words : List (ℕ × ℕ)). words ++ words_of c.loop-line.line c.value.result) c.loop-line.invariant.words
           ∙ ap (λ (body : Line). words_below machine c.loop-line.line ++ words_of c.loop-line.line body) c.value.ensures.value
-          ∙ sym (flat_more (λ line. words_of line (current_value machine.image machine.parameters (state_of machine) line)) c.loop-line.line);
+          ∙ sym (number_more (λ line. words_of line (current_value machine.image machine.parameters (state_of machine) line)) c.loop-line.line);
       few = omega arith;
     }
