@@ -1,4 +1,3 @@
-pub mod Ranges
 pub mod Keys
 pub mod Waits
 pub mod Held

@@ -11,8 +11,7 @@ use Rattle.alw_msg.specs.declared.messages.Msg.{Msg}
 use Rattle.alw_model.specs.Caches.{Copy, Transaction}
 use Rattle.alw_model.specs.LimitLess.{Directory}
 use Rattle.alw_report.specs.Names.{mode_text, kind_text, status_text}
-use Rattle.alw_report.specs.Reports.{state_text, meta_text}
-use Rattle.alw_text.specs.Pieces.{nodes_text}
+use Rattle.alw_report.specs.Reports.{state_text, meta_text, pointers_text}
 
 -- ---- pieces
 
@@ -67,12 +66,8 @@ cache_line entry =
 unfoldable pub home_states : ℕ → Directory → List ℕ
 home_states line entry = codes "home " ++ (decimal line ++ (codes " " ++ (state_text entry.state ++ (codes " " ++ meta_text entry.meta))))
 
-unfoldable pub home_pointers : Directory → List ℕ
-home_pointers entry =
-    codes " hw " ++ (nodes_text (members entry.hardware) ++ (codes " sw " ++ (nodes_text (members entry.software) ++ (codes " acks " ++ decimal entry.acks))))
-
 abbrev pub home_line : ℕ → Directory → List ℕ
-home_line line entry = home_states line entry ++ (home_pointers entry ++ (body_text entry.body ++ codes "\n"))
+home_line line entry = home_states line entry ++ (pointers_text (members entry.hardware) (members entry.software) entry.acks ++ (body_text entry.body ++ codes "\n"))
 
 -- ---- messages
 

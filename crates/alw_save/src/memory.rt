@@ -4,15 +4,15 @@ ghost use Rattle.alw_memory.specs.Views.{IsViewOf};
 ghost use Rattle.alw_model.specs.LimitLess.{Directory};
 ghost use Rattle.alw_model.specs.LineInvariant.{same_line};
 ghost use Rattle.alw_mesh.specs.Histories.{state_of};
-ghost use Rattle.alw_save.specs.Lines.{home_states, home_pointers, home_line};
+ghost use Rattle.alw_save.specs.Lines.{home_states, home_line};
 ghost use Rattle.alw_save.specs.States.{begins_so, is_read_only, is_as_begun, home_text, homes_text};
 
 use crate::pieces::put_body;
 use alw_memory::HomeView;
 use alw_mesh::Machine;
 use alw_num::{Line, LineNo, Meta, NoMemory, NodeNo, State};
-use alw_report::{meta_name, state_name};
-use alw_text::{Text, put_nodes, put_number};
+use alw_report::{meta_name, put_pointers, state_name};
+use alw_text::{Text, put_number};
 
 /// The home lines of a node that differ from their start, ascending.
 pub fn put_homes(text: &mut Text, machine: &Machine, n: NodeNo) -> Result<(), NoMemory>
@@ -80,7 +80,7 @@ fn put_home(text: &mut Text, line: LineNo, home: &HomeView) -> Result<(), NoMemo
     ensures { OnOk result ((entry : Directory) → IsViewOf home.now entry → text.new ≡ text.old ++ home_line line.0 entry) }
 {
     put_states(text, line, home)?;
-    put_pointers(text, home)?;
+    put_pointers(text, home.hw, home.sw, home.acks)?;
     put_body(text, &home.body)?;
     text.put(b"\n")?;
     Ok(())
@@ -96,18 +96,5 @@ fn put_states(text: &mut Text, line: LineNo, home: &HomeView) -> Result<(), NoMe
     text.put(state_name(home.state).as_bytes())?;
     text.put(b" ")?;
     text.put(meta_name(home.meta).as_bytes())?;
-    Ok(())
-}
-
-// Its pointers and its counter.
-#[tactic(auto, unfolding(crate::specs::Lines::home_pointers))]
-fn put_pointers(text: &mut Text, home: &HomeView) -> Result<(), NoMemory>
-    ensures { OnOk result ((entry : Directory) → IsViewOf home.now entry → text.new ≡ text.old ++ home_pointers entry) }
-{
-    text.put(b" hw ")?;
-    put_nodes(text, home.hw)?;
-    text.put(b" sw ")?;
-    put_nodes(text, home.sw)?;
-    put_number(text, b" acks ", u64::from(home.acks))?;
     Ok(())
 }

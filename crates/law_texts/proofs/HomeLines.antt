@@ -12,7 +12,8 @@ use Rattle.alw_text.specs.Pieces.{nodes_text}
 use Rattle.alw_model.specs.LimitLess.{Directory}
 use Rattle.alw_trace.specs.Lines.{IsNumber}
 use Rattle.law_texts.specs.Words.{AreWords}
-use Rattle.alw_save.specs.Lines.{body_text, home_states, home_pointers, home_line}
+use Rattle.alw_report.specs.Reports.{pointers_text}
+use Rattle.alw_save.specs.Lines.{body_text, home_states, home_line}
 use Rattle.law_texts.proofs.Readings.{Tells, fixed, both, behind, written, number}
 use Rattle.law_texts.proofs.Runs.{rank}
 use Rattle.law_texts.proofs.Choices.{one_state, one_meta}
@@ -36,10 +37,13 @@ pub record IsHome (listed : Bool) (entry : Directory) : Type 0 where
   pub body : AreWords entry.body
   pub always : entry.always ≡ listed
 
+abbrev pointers : Directory → List ℕ
+pointers entry = pointers_text (members entry.hardware) (members entry.software) entry.acks
+
 pointers-is : (entry : Directory) (more : List ℕ)
-    → home_pointers entry ++ more ≡ codes " hw " ++
+    → pointers entry ++ more ≡ codes " hw " ++
     (nodes_text (members entry.hardware) ++ (codes " sw " ++ (nodes_text (members entry.software) ++ (codes " acks " ++ (decimal entry.acks ++ more)))))
-unfolding home_pointers
+unfolding pointers_text
 pointers-is entry more =
     let soft = nodes_text (members entry.software) in
     let hard = nodes_text (members entry.hardware) in
@@ -51,7 +55,7 @@ Pointed one other = (members one.hardware ≡ members other.hardware) × ((membe
     × ((one.acks ≡ other.acks) × ((one.body ≡ other.body) × Unit {0})))
 
 one_pointers : (listed : Bool) (one other : Directory) → IsHome listed one → IsHome listed other
-    → Tells (Pointed one other) (home_pointers one ++ (body_text one.body ++ codes "\n")) (home_pointers other ++ (body_text other.body ++ codes "\n"))
+    → Tells (Pointed one other) (pointers one ++ (body_text one.body ++ codes "\n")) (pointers other ++ (body_text other.body ++ codes "\n"))
 one_pointers listed one other is also =
     written (pointers-is one (body_text one.body ++ codes "\n")) (pointers-is other (body_text other.body ++ codes "\n"))
     (behind (codes " hw ") (one_nodes (members one.hardware) (members other.hardware) is.hardware also.hardware
@@ -87,7 +91,7 @@ abbrev pub IsRow : (ℕ → Bool) → ℕ × Directory → Type 0
 IsRow listed row = IsNumber row.0 × IsHome (listed row.0) row.1
 
 abbrev rest_of : Directory → List ℕ
-rest_of entry = home_pointers entry ++ (body_text entry.body ++ codes "\n")
+rest_of entry = pointers entry ++ (body_text entry.body ++ codes "\n")
 
 pub one_home : (listed : ℕ → Bool) (one other : ℕ × Directory) → IsRow listed one → IsRow listed other
     → Tells (one ≡ other) (home_line one.0 one.1) (home_line other.0 other.1)

@@ -5,7 +5,7 @@ use Rattle.alw_image.specs.declared.parts.Parts.{Parts}
 use Rattle.alw_image.specs.Images.{node_count}
 use Rattle.alw_mesh.specs.Histories.{state_of}
 use Rattle.alw_save.specs.States.{slot_in, slot_text, context_text}
-use Rattle.alw_save.proofs.Ranges.{grows}
+use Rattle.alw_num.proofs.Lists.{grows_by_number}
 use Rattle.alw_save.proofs.contexts.put_contexts.Goals as goal
 
 pub put_slot-requires : goal.put_slot-requires
@@ -21,5 +21,5 @@ loop-slot-preserved c =
     let h = c.args.machine.now in
     let count : c.from-contexts.result ≡ h.image.contexts = c.from-contexts.ensures ∙ (c.contexts.ensures ∙ ap (λ (p : Parts). p.contexts) c.image.ensures) in
     let at : c.from.result * c.from-contexts.result + c.loop-slot.slot ≡ c.args.n.0 * h.image.contexts + c.loop-slot.slot = rw (c.from.ensures, count) refl in
-    grows (context_text h.image (state_of h) c.args.n.0) c.loop-slot.slot _ _ _ c.loop-slot.invariant
+    grows_by_number (context_text h.image (state_of h) c.args.n.0) c.loop-slot.slot _ _ _ c.loop-slot.invariant
     (c.in_ok-put_slot.ensures ∙ ap (λ (k : ℕ). c.loop-slot.text ++ slot_text k (slot_in h.image (state_of h) k)) at)

@@ -6,12 +6,12 @@ use Rattle.alw_msg.specs.declared.messages.Msg.{Msg}
 use Rattle.alw_mesh.specs.Readings.{node_in}
 use Rattle.alw_save.specs.Lines.{packet_line}
 use Rattle.alw_save.specs.States.{member_line}
-use Rattle.alw_save.proofs.Ranges.{takes_member}
+use Rattle.alw_num.proofs.Lists.{grows_by_member}
 use Rattle.alw_save.proofs.messages.put_packets.Goals as goal
 
 pub loop-place-preserved : goal.loop-place-preserved
 loop-place-preserved c =
-    takes_member packet_line c.loop-place.place (node_in c.args.machine.now c.args.n.0).packets _ _ _ _ c.loop-place.invariant c.in_ok-put_packet.ensures
+    grows_by_member packet_line c.loop-place.place (node_in c.args.machine.now c.args.n.0).packets _ _ _ _ c.loop-place.invariant c.in_ok-put_packet.ensures
     (ap (member_line packet_line) c.packet.ensures)
 
 pub returns : goal.returns
