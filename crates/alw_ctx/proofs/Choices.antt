@@ -1,5 +1,6 @@
 -- The first number of a range that passes a test, and which slot runs.
-use Rattle.std.proofs.Common.{◌≡◌, ℕ, zero, suc, ◌+◌, ◌<◌, ◌≤◌, ◌%◌, Bool, true, false, ◌==◌, Some, None, find, List, length, map, take, refl, sym, ap, ◌∙◌, ◌⊎◌, inl, inr, arith}
+use Rattle.std.proofs.Common.{◌≡◌, ℕ, zero, suc, ◌+◌, ◌<◌, ◌≤◌, ◌%◌, Bool, true, false, ◌==◌, Some, None, find, List, length, map, take, refl, sym, ap, subst, ◌∙◌, ◌⊎◌, inl, inr, arith}
+use Rattle.std.proofs.Math.Nat.{mod-eq_of_lt}
 use Rattle.std.proofs.lemmas.Bool.{cases_lt}
 use Rattle.std.specs.List.{range_with_len, list_all}
 use Rattle.std.proofs.lemmas.List.{get_or_default, take_all}
@@ -32,6 +33,17 @@ runs slots current n k size l before here =
 pub runs_none : (slots : List Slot) (current n : ℕ) → length slots ≡ n → ((j : ℕ) → j < n → ready_at slots ((current + j) % n) ≡ false) → None ≡ running slots current
 runs_none slots current n size none =
     sym (ap (λ m. find (ready_at slots) (turn_order current m)) size ∙ find_none (ready_at slots) (λ j. (current + j) % n) 0 n (λ j _ m. none j (omega arith)))
+
+-- the current slot is the first in the turn's order
+pub first_is : (slots : List Slot) (current n : ℕ) (b : Bool) → current < n → ready_at slots current ≡ b → (j : ℕ) → j < 1 → ready_at slots ((current + j) % n) ≡ b
+first_is slots current n b l here j m =
+    let at : (current + j) % n ≡ current = ap (λ k. k % n) (omega arith) ∙ mod-eq_of_lt l in
+    ap (ready_at slots) at ∙ here
+
+pub runs_first : (slots : List Slot) (current n : ℕ) → length slots ≡ n → current < n → ready_at slots current ≡ true → Some current ≡ running slots current
+runs_first slots current n size l here =
+    let at : (current + 0) % n ≡ current = ap (λ k. k % n) (omega arith) ∙ mod-eq_of_lt l in
+    subst (λ k. Some k ≡ running slots current) at (runs slots current n 0 size (omega arith) (λ j m. absurd (omega arith)) (first_is slots current n true l here 0 (omega arith)))
 
 -- the slot has a hold on the line
 abbrev pub holds_on : ℕ → Slot → Bool

@@ -68,7 +68,10 @@ impl Contexts {
     pub fn current(&self) -> Option<u8>
         ensures { result ≡ running self.now.slots self.now.current }
     {
-        for k in 0..self.count {
+        if self.places[self.current as usize].is_ready() {
+            return Some(self.current);
+        }
+        for k in 1..self.count {
             let slot = wrapped(self.current + k, self.count);
             if self.places[slot as usize].is_ready() {
                 return Some(slot);
