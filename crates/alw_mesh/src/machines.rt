@@ -97,22 +97,20 @@ impl Machine {
         self.journal.push(Entry { stamp, event })?;
         let had_halted = self.mesh.has_halted();
         let happening = self.mesh.happen(event, &mut self.sent);
-        self.tally
-            .add(self.mesh.image(), &happening.told, &self.sent);
-        if is_quiet(event, &happening) && stamp < self.mesh.params().limit() {
-            return Ok(happening.told.did);
+        let told = happening.told;
+        self.tally.add(self.mesh.image(), &told, &self.sent);
+        if is_quiet(event, told.did, happening.changes_holds)
+            && stamp < self.mesh.params().limit()
+        {
+            return Ok(told.did);
         }
         let changes = Changes {
             event,
-            wide: is_wide(
-                happening.told.did,
-                happening.told.taken,
-                happening.changes_holds,
-            ),
+            wide: is_wide(told.did, told.taken, happening.changes_holds),
             halted: flips(had_halted, self.mesh.has_halted()),
         };
         self.ready.renew(&self.mesh, &changes, &self.sent);
-        Ok(happening.told.did)
+        Ok(told.did)
     }
 
     /// The image, the parameters and the journal, with its turns and its prints.

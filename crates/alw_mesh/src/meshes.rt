@@ -235,15 +235,14 @@ impl Mesh {
         drop_head(&mut self.links, event);
         self.links.send_all(number, sent);
         self.remains.follow(event, acted.did);
-        let told = Happened {
-            node: number,
-            did: acted.did,
-            taken,
-            used: uses_hold(acted.did, acted.changes_holds),
-            pc: acted.pc,
-        };
         Happening {
-            told,
+            told: Happened {
+                node: number,
+                did: acted.did,
+                taken,
+                used: uses_hold(acted.did, acted.changes_holds),
+                pc: acted.pc,
+            },
             changes_holds: acted.changes_holds,
         }
     }

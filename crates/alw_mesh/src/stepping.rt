@@ -38,8 +38,7 @@ pub fn nodes_start(
     Ok(nodes)
 }
 
-/// The message that an event takes, where it stands: the head of its link for a delivery, and none
-/// else.
+/// The message that an event takes, on its link: a delivery takes the head, and nothing else one.
 #[inline(always)]
 pub fn head(links: &Links, event: Event) -> Option<&Msg>
     requires { NodesAreWithin links.now.nodes event }
@@ -152,17 +151,11 @@ pub struct Happening {
 /// An event was a quiet turn: it was Done, and ended no hold. Behind it, before the limit, the same main
 /// events may happen as before it.
 #[inline(always)]
-pub fn is_quiet(event: Event, happening: &Happening) -> bool
-    ensures { result ≡ is_quiet event happening.now.told.did happening.now.changes_holds }
+pub fn is_quiet(event: Event, did: Did, changes_holds: bool) -> bool
+    ensures { result ≡ is_quiet event did changes_holds }
 {
-    match (event, happening.told.did) {
-        (
-            Event::Instr { .. },
-            Did::Turn {
-                outcome: Outcome::Done,
-                ..
-            },
-        ) => !happening.changes_holds,
-        _ => false,
-    }
+    let (Event::Instr { .. }, Did::Turn { outcome, .. }) = (event, did) else {
+        return false;
+    };
+    outcome == Outcome::Done && !changes_holds
 }

@@ -110,8 +110,7 @@ impl Node {
     }
 
     /// One event of the node, which is enabled, with the message that it takes: none, but for a
-    /// delivery. It is lent where it stands. What is sent is in `sent`, which has room for a message to
-    /// each node.
+    /// delivery. What is sent is in `sent`, which has room for a message to each node.
     #[inline(always)]
     pub fn local(&mut self, event: Event, taken: Option<&Msg>, sent: &mut Sends) -> Did
         requires enabled { is_enabled_at self.old.parts self.old.parameters self.old.number self.old.state event (option_copied taken) ≡ true }
