@@ -1,12 +1,15 @@
 -- The events of rows: how many they are, and which is number k.
-use Rattle.std.proofs.Common.{◌≡◌, ℕ, zero, suc, add-zero, ◌+◌, ◌-◌, ◌<◌, ◌≤◌, ◌==◌, Bool, true, false, cond, ◌&&◌, List, [], ◌∷◌, ◌++◌, length, map, replicate, get_or, set, slice_get, slice_index, Some, refl, sym, ap, ◌∙◌, arith}
-use Rattle.std.proofs.lemmas.List.{length-append, length-map, length-set, length-replicate, map-set, set-get_or, get_or_read}
-use Rattle.std.proofs.lemmas.Bool.{eqb-true}
+use Rattle.std.proofs.Common.{◌≡◌, ◌≢◌, ℕ, zero, suc, add-zero, ◌+◌, ◌-◌, ◌*◌, ◌%◌, ◌^◌, ◌<◌, ◌≤◌, ◌==◌, Bool, true, false, cond, not, ◌&&◌, List, [], ◌∷◌, ◌++◌, length, map, replicate, get_or, set, slice_get, slice_index, Some, refl, sym, ap, ◌∙◌, arith}
+use Rattle.std.proofs.lemmas.List.{length-append, length-map, length-set, length-replicate, map-set, set-get_or, get_or_read, get_or-map}
+use Rattle.std.proofs.lemmas.Bool.{true≢false, and_from, eqb-true, eq-eqb, ne_eqb, false_from_ne_true, true_from_ne_false}
 use Rattle.std.proofs.Math.Bool.{beq}
 use Rattle.std.proofs.lemmas.Option.{slice_get-map}
 use Rattle.std.specs.Option.{option_map}
-use Rattle.alw_num.specs.NodeSets.{members, count_nodes, nodes_of}
+use Rattle.alw_num.specs.declared.node_sets.NodeSet.{NodeSet}
+use Rattle.alw_num.specs.NodeSets.{Nodes, has_node, add_node, members, count_nodes, nodes_of}
 use Rattle.alw_num.specs.Weights.{digit, sum_below}
+use Rattle.alw_num.proofs.Sets.{same_nodes, has-add, count-add}
+use Rattle.alw_num.proofs.Weigh.{is_node, digit_le}
 use Rattle.alw_num.proofs.Words.{count_at_most}
 use Rattle.alw_msg.specs.declared.events.Event.{Event}
 use Rattle.alw_model.proofs.Journals.{and_parts}
@@ -120,6 +123,9 @@ module _ (rows : List Row) (counts : List ℕ) (are : RowsAreCounted rows counts
       ∙ (nth_event 0 rows k place left (rw (← are.counted) found)
       ∙ (λ x. slice_get (row_events (e x) (sym (get_or_read rows place row here read no_row) x)) left))
 
+  pub at_counted : (place count : ℕ) (row : Row) → place < length rows → row ≡ get_or rows place row → count ≡ slice_index counts place → count ≡ row_count row
+  at_counted place count row here read is = is ∙ (ap (λ (all : List ℕ). slice_index all place) are.counted ∙ (get_or-map row_count rows place row 0 here ∙ ap row_count (sym read)))
+
   pub set_counted : (place count : ℕ) (row : Row) (next : List ℕ) → next ≡ set counts place count → count ≡ row_count row → RowsAreCounted (set rows place row) next
   set_counted place count row next next_is count_is = record {
     few = omega (arith, are.few, length-set rows place row);
@@ -149,3 +155,85 @@ same_row a b is =
 -- a row that stands there already changes nothing
 pub set_again : (rows : List Row) (at : ℕ) (old row : Row) → old ≡ get_or rows at old → old ≡ row → rows ≡ set rows at row
 set_again rows at old row here is = sym (set-get_or rows at old) ∙ ap (set rows at) (sym here ∙ is)
+
+-- ---- a sender that comes or goes
+
+-- sets of two words in range are one where they have the same nodes
+pub same_set : (one other : NodeSet) → one.low < 2 ^ 128 → other.low < 2 ^ 128 → one.high < 2 ^ 128 → other.high < 2 ^ 128 → nodes_of one ≡ nodes_of other → one ≡ other
+unfolding nodes_of
+same_set one other a b c d same =
+    let bits : one.high % 2 ^ 128 * 2 ^ 128 + one.low % 2 ^ 128 ≡ other.high % 2 ^ 128 * 2 ^ 128 + other.low % 2 ^ 128 = ap (λ (set : Nodes). set.bits) same in
+    let low : one.low ≡ other.low = omega (arith, a, b, c, d, bits) in
+    let high : one.high ≡ other.high = omega (arith, a, b, c, d, bits) in
+    λ x. record { low = low x; high = high x }
+
+pub different_sets : (one other : NodeSet) → one.low < 2 ^ 128 → other.low < 2 ^ 128 → one.high < 2 ^ 128 → other.high < 2 ^ 128 → (one.low == other.low && (one.high == other.high)) ≡ false → nodes_of one ≢ nodes_of other
+different_sets one other a b c d differ same =
+    let is : one ≡ other = same_set one other a b c d same in
+    true≢false (sym (and_from (one.low == other.low) (one.high == other.high) (eq-eqb one.low other.low (ap (λ (set : NodeSet). set.low) is)) (eq-eqb one.high other.high (ap (λ (set : NodeSet). set.high) is))) ∙ differ)
+
+-- a sender more or less, where it wasn't so already
+pub sender_counted : (P Q : Nodes) (n : ℕ) (may : Bool) → ((k : ℕ) → has_node Q k ≡ cond (k == n) may (has_node P k)) → Q ≢ P → count_nodes Q + digit (not may) ≡ count_nodes P + digit may
+sender_counted P Q n true put other =
+    let more : Q ≡ add_node P n = same_nodes Q (add_node P n) (λ k. put k ∙ sym (has-add P n k)) in
+    let new : has_node P n ≡ false = false_from_ne_true (has_node P n) (λ here. other (same_nodes Q P (λ k. put k ∙ stays k here))) in
+    omega (arith, ap count_nodes more, count-add P n, ap digit new)
+  where
+    stays : (k : ℕ) → has_node P n ≡ true → cond (k == n) true (has_node P k) ≡ has_node P k
+    stays k here = is_node _ k n
+        (λ same. ap (λ b. cond b true (has_node P k)) (eq-eqb k n same) ∙ sym (ap (has_node P) same ∙ here))
+        (λ apart. ap (λ b. cond b true (has_node P k)) (ne_eqb k n apart))
+sender_counted P Q n false put other =
+    let gone : has_node Q n ≡ false = put n ∙ ap (λ b. cond b false (has_node P n)) (eq-eqb n n refl) in
+    let was : has_node P n ≡ true = true_from_ne_false (has_node P n) (λ none. other (same_nodes Q P (λ k. put k ∙ stays k none))) in
+    let more : P ≡ add_node Q n = same_nodes P (add_node Q n) (λ k. back k was ∙ sym (has-add Q n k)) in
+    omega (arith, ap count_nodes more, count-add Q n, ap digit gone)
+  where
+    stays : (k : ℕ) → has_node P n ≡ false → cond (k == n) false (has_node P k) ≡ has_node P k
+    stays k none = is_node _ k n
+        (λ same. ap (λ b. cond b false (has_node P k)) (eq-eqb k n same) ∙ sym (ap (has_node P) same ∙ none))
+        (λ apart. ap (λ b. cond b false (has_node P k)) (ne_eqb k n apart))
+
+    back : (k : ℕ) → has_node P n ≡ true → has_node P k ≡ cond (k == n) true (has_node Q k)
+    back k was = is_node _ k n
+        (λ same. ap (has_node P) same ∙ was ∙ sym (ap (λ b. cond b true (has_node Q k)) (eq-eqb k n same)))
+        (λ apart. sym (put k ∙ ap (λ b. cond b false (has_node P k)) (ne_eqb k n apart)) ∙ sym (ap (λ b. cond b true (has_node Q k)) (ne_eqb k n apart)))
+
+-- the count of a row with a sender more or less
+module _ (row : Row) (senders : NodeSet) (from : ℕ) (may : Bool) (count : ℕ) (count_is : count ≡ row_count row) where
+  pub counts_few : count < 2 ^ 16 - 1
+  counts_few = go row.in_time count_is
+    where
+      go : (b : Bool) → count ≡ cond b (digit row.instr + (digit row.handle + count_nodes (nodes_of row.senders))) 0 → count < 2 ^ 16 - 1
+      go true is = omega (arith, few_senders row, digit_le row.instr, digit_le row.handle)
+      go false is = omega arith
+
+  module _ (put : (k : ℕ) → has_node (nodes_of senders) k ≡ cond (k == from) may (has_node (nodes_of row.senders) k)) (other : nodes_of senders ≢ nodes_of row.senders) where
+    pub counts_some : row.in_time ≡ true → may ≡ false → 0 < count
+    counts_some timely gone =
+        let is : count ≡ digit row.instr + (digit row.handle + count_nodes (nodes_of row.senders)) = count_is ∙ ap (λ b. cond b (digit row.instr + (digit row.handle + count_nodes (nodes_of row.senders))) 0) timely in
+        omega (arith, sender_counted (nodes_of row.senders) (nodes_of senders) from may put other, ap digit gone, ap (λ b. digit (not b)) gone)
+
+    pub counted_on : (next : ℕ) → next ≡ cond row.in_time (cond may (count + 1) (count - 1)) 0 → next ≡ row_count (record row { senders = senders })
+    counted_on next is = go row.in_time count_is is
+      where
+        step : (b : Bool) → count_nodes (nodes_of senders) + digit (not b) ≡ count_nodes (nodes_of row.senders) + digit b → count ≡ digit row.instr + (digit row.handle + count_nodes (nodes_of row.senders))
+            → next ≡ cond b (count + 1) (count - 1) → next ≡ digit row.instr + (digit row.handle + count_nodes (nodes_of senders))
+        step true more before after = omega arith
+        step false less before after = omega arith
+
+        go : (b : Bool) → count ≡ cond b (digit row.instr + (digit row.handle + count_nodes (nodes_of row.senders))) 0 → next ≡ cond b (cond may (count + 1) (count - 1)) 0
+            → next ≡ cond b (digit row.instr + (digit row.handle + count_nodes (nodes_of senders))) 0
+        go true before after = step may (sender_counted (nodes_of row.senders) (nodes_of senders) from may put other) before after
+        go false before after = after
+
+-- a row whose sender came or went, in its place
+pub sender_set : (rows : List Row) (counts : List ℕ) → RowsAreCounted rows counts → (place count next from : ℕ) (may : Bool) (read write : Row) (senders : NodeSet) (after : List ℕ) → place < length rows
+    → read ≡ get_or rows place read → write ≡ get_or rows place write → count ≡ slice_index counts place
+    → ((k : ℕ) → has_node (nodes_of senders) k ≡ cond (k == from) may (has_node (nodes_of read.senders) k)) → nodes_of senders ≢ nodes_of read.senders
+    → next ≡ cond read.in_time (cond may (count + 1) (count - 1)) 0 → after ≡ set counts place next → RowsAreCounted (set rows place (record write { senders = senders })) after
+sender_set rows counts are place count next from may read write senders after here reads writes was put other next_is after_is =
+    let same : read ≡ write = get_or_read rows place read here reads no_row ∙ sym (get_or_read rows place write here writes no_row) in
+    let count_is : count ≡ row_count read = at_counted rows counts are place count read here reads was in
+    let more : next ≡ row_count (record read { senders = senders }) = counted_on read senders from may count count_is put other next next_is in
+    set_counted rows counts are place next (record write { senders = senders }) after after_is (more ∙ ap (λ (row : Row). row_count (record row { senders = senders })) same)

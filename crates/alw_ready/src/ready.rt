@@ -1,7 +1,8 @@
-ghost use Rattle.std.specs.Prelude.{◌≡◌, ◌<◌, ◌≤◌, length, replicate, slice_get, slice_set, Some, IfOk};
+ghost use Rattle.std.specs.Prelude.{◌≡◌, ◌<◌, ◌≤◌, length, replicate, slice_get, slice_set, Some, IfOk, IsTrue};
 ghost use Rattle.alw_ready.specs.Rows.{events_of, no_row, row_at};
+ghost use Rattle.alw_ready.specs.Changes.{SenderIsLookedAt};
 
-use crate::rows::Row;
+use crate::rows::{Row, are_same, count_with, put};
 use alw_msg::Event;
 use alw_num::{MOST_NODES, NoMemory, NodeNo, PlaceCounts};
 use std::alloc::Global;
@@ -95,5 +96,23 @@ impl Ready {
     {
         let senders = self.rows[usize::from(node.0)].senders;
         self.set(node, Row { senders, ..own });
+    }
+    /// A delivery from a sender may happen or not. All else of the row stays, and its events are counted
+    /// on from their number.
+    #[inline(always)]
+    pub(crate) fn set_sender(&mut self, to: NodeNo, from: NodeNo, may: bool)
+        requires here { to.0 < length self.old }
+        requires below { IsTrue may → from.0 < MOST_NODES }
+        ensures { SenderIsLookedAt (λ event. may) from.0 to.0 self.old self.new }
+    {
+        let place = usize::from(to.0);
+        let row = self.rows[place];
+        let senders = put(row.senders, from, may);
+        if are_same(senders, row.senders) {
+            return;
+        }
+        let count = count_with(&row, self.tally.at(place), may);
+        self.tally.set(place, count);
+        self.rows[place].senders = senders;
     }
 }

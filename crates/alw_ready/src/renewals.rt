@@ -11,7 +11,7 @@ ghost use Rattle.alw_ready.specs.Changes.{SenderIsLookedAt, OwnRowIsRenewed, Row
 
 use crate::changes::Happened;
 use crate::ready::Ready;
-use crate::rows::Row;
+use crate::rows::{Row, put};
 use crate::views::View;
 use alw_msg::{Event, Sends};
 use alw_num::{MOST_NODES, NodeNo, NodeSet};
@@ -93,9 +93,7 @@ impl Ready {
         requires here { to.0 < length self.old }
         ensures { SenderIsLookedAt (may_happen (V.image view.now) (V.parameters view.now) (V.state view.now)) from.0 to.0 self.old self.new }
     {
-        let row = self.row(to);
-        let senders = looked_at(view, row.senders, from, to);
-        self.set(to, Row { senders, ..row });
+        self.set_sender(to, from, view.may(Event::Deliver { from, to }));
     }
 }
 
@@ -134,9 +132,5 @@ fn looked_at<V: View>(view: &V, senders: NodeSet, from: NodeNo, to: NodeNo) -> N
     ensures { (k : ℕ) → has_node (nodes_of result) k ≡ cond (k == from.0)
         (may_happen (V.image view.now) (V.parameters view.now) (V.state view.now) (delivery from.0 to.0)) (has_node (nodes_of senders) k) }
 {
-    if view.may(Event::Deliver { from, to }) {
-        senders.with(from)
-    } else {
-        senders.without(from)
-    }
+    put(senders, from, view.may(Event::Deliver { from, to }))
 }

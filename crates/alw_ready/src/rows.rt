@@ -1,10 +1,10 @@
-ghost use Rattle.std.specs.Prelude.{◌≡◌, ◌<◌, ◌≤◌, slice_get, Some};
-ghost use Rattle.alw_num.specs.NodeSets.{nodes_of, members, count_nodes};
+ghost use Rattle.std.specs.Prelude.{◌≡◌, ◌≢◌, ℕ, ◌+◌, ◌-◌, ◌^◌, ◌<◌, ◌==◌, cond, slice_get, Some, IsTrue, IsFalse};
+ghost use Rattle.alw_num.specs.NodeSets.{has_node, nodes_of, members, count_nodes};
 ghost use Rattle.alw_num.specs.Weights.{digit};
 ghost use Rattle.alw_ready.specs.Rows.{row_events, row_count, no_row};
 
 use alw_msg::Event;
-use alw_num::{NodeNo, NodeSet};
+use alw_num::{MOST_NODES, NodeNo, NodeSet};
 
 /// What is kept of a node: which of its main events are enabled within the limit.
 #[derive(Clone, Copy, Debug, PartialEq, Eq)]
@@ -63,6 +63,44 @@ impl Row {
             }
         }
     }
+}
+
+// The number of a row's events once a sender came or went, from the number before.
+#[inline(always)]
+pub(crate) fn count_with(row: &Row, count: u16, came: bool) -> u16
+    requires few { count < 2 ^ 16 - 1 }
+    requires some { IsTrue row.now.in_time → IsFalse came → 0 < count }
+    ensures { result ≡ cond row.now.in_time (cond came (count + 1) (count - 1)) 0 }
+{
+    if !row.in_time {
+        0
+    } else if came {
+        count + 1
+    } else {
+        count - 1
+    }
+}
+
+// The senders with one of them, or without it.
+#[inline(always)]
+pub(crate) fn put(senders: NodeSet, from: NodeNo, may: bool) -> NodeSet
+    requires { IsTrue may → from.0 < MOST_NODES }
+    ensures { (k : ℕ) → has_node (nodes_of result) k ≡ cond (k == from.0) may (has_node (nodes_of senders) k) }
+{
+    if may {
+        senders.with(from)
+    } else {
+        senders.without(from)
+    }
+}
+
+// Two sets have the same senders.
+#[inline(always)]
+pub(crate) fn are_same(one: NodeSet, other: NodeSet) -> bool
+    ensures same { IsTrue result → one ≡ other }
+    ensures different { IsFalse result → nodes_of one ≢ nodes_of other }
+{
+    one == other
 }
 
 // 1 where a test holds, and else 0.
