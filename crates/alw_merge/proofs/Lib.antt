@@ -1,4 +1,5 @@
 pub mod Whole
+pub mod Leasts
 pub mod Merging
 pub mod Stepping
 pub mod Courses

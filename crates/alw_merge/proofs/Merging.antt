@@ -1,20 +1,13 @@
 -- The first of what is left of logs whose stamps ascend is the least head, and without it the rest is left.
 use Rattle.std.proofs.Common.{◌≡◌, ℕ, zero, suc, ◌+◌, ◌*◌, ◌≤◌, ◌<◌, ◌==◌, ◌&&◌, ◌||◌, nat_lt, Bool, true, false, cond, Option, Some, None, option_to_list, List}
 use Rattle.std.proofs.Common.{[], ◌∷◌, ◌++◌, map, flat_map, length, take, slice_get, set, refl, sym, subst, ap, ◌∙◌, append_assoc, arith}
-use Rattle.std.specs.List.{AllByRecursion, sum_by}
-use Rattle.std.specs.List.Sorted.{IsPermutation}
+use Rattle.std.specs.List.{AllByRecursion}
 use Rattle.std.specs.Prelude.{IfSome}
 use Rattle.std.specs.Option.{option_map}
-use Rattle.std.specs.BinaryHeap.{IsHeap, IsUpperBound, KeepsHeap}
-use Rattle.std.specs.Ordering.{is_lt}
-use Rattle.std.specs.declared.cmp.Ordering.TheVariants.{Less, Equal, Greater}
-use Rattle.std.specs.declared.cmp.Reverse.{Reverse}
-use Rattle.std.proofs.lemmas.List.Sums.{sum_by-cons}
 use Rattle.std.proofs.lemmas.List.{length-set, length-append, map-append, take_all}
-use Rattle.std.proofs.lemmas.List.Sorted.{sum_by_popped, sum_by_pushed}
 use Rattle.alw_num.specs.Weights.{digit, weigh}
-use Rattle.alw_num.proofs.Weigh.{weigh-append}
-use Rattle.std.proofs.lemmas.Bool.{eqb-true, eq-eqb}
+use Rattle.alw_num.proofs.Weigh.{weigh-append, weigh-one}
+use Rattle.std.proofs.lemmas.Bool.{eqb-true}
 use Rattle.std.proofs.lemmas.Bool.Decides.{nat_tests}
 use Rattle.std.proofs.lemmas.Option.{same_Some}
 use Rattle.alw_msg.specs.declared.events.Entry.{Entry}
@@ -23,7 +16,8 @@ use Rattle.alw_model.specs.Threads.{Logged, is_before, placed, in_order, merged}
 use Rattle.alw_msg.specs.Lists.{front, behind}
 use Rattle.alw_cells.specs.Logs.{Written, logged, Reading, reading_of, after_next, entry_of}
 use Rattle.alw_cells.specs.Records.{Ascends}
-use Rattle.alw_merge.specs.Streams.{left_of, all_left, key_of, head_in, heads_from, heap_cmp, LogIsRead, AreHeads, StreamIsUnderWay, heads_of, Joins, GoesOn}
+use Rattle.alw_merge.specs.Heads.{Waiting, NoneBefore, IsLeast, HaveJoined}
+use Rattle.alw_merge.specs.Streams.{left_of, all_left, key_of, head_in, heads_from, LogIsRead, AreHeads, StreamIsUnderWay, heads_of, GoesOn}
 
 -- ---- one entry taken out of others
 
@@ -54,25 +48,11 @@ pulled (first ∷ before) after one early late =
 
 -- ---- the least head
 
-compares : (p q : Bool) → is_lt (cond p Less (cond q Equal Greater)) ≡ p
-compares true q = refl
-compares false true = refl
-compares false false = refl
-
-heap_says : (one other : Reverse ℕ) → is_lt (heap_cmp one other) ≡ nat_lt other.0 one.0
-heap_says one other = compares (nat_lt other.0 one.0) (other.0 == one.0)
-
-none_counted : (least : Reverse ℕ) (heap : List (Reverse ℕ)) → IsUpperBound heap_cmp least heap
-    → sum_by (λ (reverse : Reverse ℕ). digit (nat_lt reverse.0 least.0)) heap ≡ 0
-none_counted least [] all = refl
-none_counted least (first ∷ rest) all =
-    let f : Reverse ℕ → ℕ = λ reverse. digit (nat_lt reverse.0 least.0) in
-    let here : f first ≡ 0 = ap digit (sym (heap_says least first) ∙ all.0) in
-    omega (arith, sum_by-cons f first rest, none_counted least rest all.1, here)
-
--- none of some heads comes before the least
-abbrev pub NoneBefore : ℕ → List ℕ → Type 0
-NoneBefore least heads = AllByRecursion (λ (head : ℕ). nat_lt head least ≡ false) heads
+none_counted : (least : ℕ) (heads : List ℕ) → NoneBefore least heads → weigh (λ (head : ℕ). digit (nat_lt head least)) heads ≡ 0
+none_counted least [] none = refl
+none_counted least (first ∷ rest) none =
+    let here : digit (nat_lt first least) ≡ 0 = ap digit none.0 in
+    omega (arith, none_counted least rest none.1, here)
 
 not_counted : (least : ℕ) (heads : List ℕ) → weigh (λ (head : ℕ). digit (nat_lt head least)) heads ≡ 0 → NoneBefore least heads
 not_counted least [] none = tt
@@ -82,10 +62,9 @@ not_counted least (first ∷ rest) none = (go (nat_lt first least) (omega (arith
     go true is = absurd (omega (arith, is))
     go false is = refl
 
-pub least_is : (readings : List Reading) (heap : List (Reverse ℕ)) (least : Reverse ℕ) → AreHeads readings heap → IsUpperBound heap_cmp least heap
-    → NoneBefore least.0 (heads_from 0 readings)
-least_is readings heap least heads bound = not_counted least.0 (heads_from 0 readings)
-    (sym (heads (λ (head : ℕ). digit (nat_lt head least.0))) ∙ none_counted least heap bound)
+least_is : (readings : List Reading) (heads : List ℕ) (least : ℕ) → AreHeads readings heads → NoneBefore least heads → NoneBefore least (heads_from 0 readings)
+least_is readings heads least are none = not_counted least (heads_from 0 readings)
+    (sym (are (λ (head : ℕ). digit (nat_lt head least))) ∙ none_counted least heads none)
 
 -- ---- it is a log's
 
@@ -139,12 +118,8 @@ found head (reading ∷ rest) at some = by_given reading.given refl (λ more. de
     by_given None given later some = later some
     by_given (Some logged) given later some = by_test logged given (key_of at logged.entry == head) refl later some
 
-pub head_found : (readings : List Reading) (heap rest : List (Reverse ℕ)) (head : Reverse ℕ) → AreHeads readings heap → IsPermutation heap (head ∷ rest)
-    → HasOf head.0 readings 0
-head_found readings heap rest head heads popped =
-    let f : ℕ → ℕ = λ one. digit (one == head.0) in
-    let one : f head.0 ≡ 1 = ap digit (eq-eqb head.0 head.0 refl) in
-    found head.0 readings 0 (omega (arith, heads f, sum_by_popped (λ (reverse : Reverse ℕ). f reverse.0) head heap rest popped, one))
+head_found : (readings : List Reading) (heads : List ℕ) (head : ℕ) → AreHeads readings heads → 1 ≤ weigh (λ (one : ℕ). digit (one == head)) heads → HasOf head readings 0
+head_found readings heads head are among = found head readings 0 (omega (arith, are (λ one. digit (one == head)), among))
 
 -- ---- what is left without it
 
@@ -294,15 +269,15 @@ module _ (one : Logged) (log : ℕ) where
       }
 
 -- the merge without its first
-goes_on : (readings : List Reading) (heap : List (Reverse ℕ)) (head : Reverse ℕ) (k : ℕ) (reading : Reading) (one : Logged)
-    → IsOf head.0 readings 0 k reading one → AreHeads readings heap → IsUpperBound heap_cmp head heap → AllByRecursion LogIsRead readings → length readings ≤ 65536
+goes_on : (readings : List Reading) (heads : List ℕ) (head : ℕ) (k : ℕ) (reading : Reading) (one : Logged)
+    → IsOf head readings 0 k reading one → AreHeads readings heads → NoneBefore head heads → AllByRecursion LogIsRead readings → length readings ≤ 65536
     → all_left readings ≡ one.entry ∷ all_left (set readings k (after_next reading))
-goes_on readings heap head k reading one is heads bound are few =
+goes_on readings heads head k reading one is are bound read few =
     let place : 0 + k ≡ k = omega arith in
-    let key : head.0 ≡ key_of k one.entry = is.key ∙ ap (λ (n : ℕ). key_of n one.entry) place in
+    let key : head ≡ key_of k one.entry = is.key ∙ ap (λ (n : ℕ). key_of n one.entry) place in
     let none : NoneBefore (key_of k one.entry) (heads_from 0 readings) =
-    subst (λ (h : ℕ). NoneBefore h (heads_from 0 readings)) key (least_is readings heap head heads bound) in
-    let out = taken_out one k readings 0 k reading (omega arith) (omega (arith, few)) is.there is.given are none in
+    subst (λ (h : ℕ). NoneBefore h (heads_from 0 readings)) key (least_is readings heads head are bound) in
+    let out = taken_out one k readings 0 k reading (omega arith) (omega (arith, few)) is.there is.given read none in
     ap in_order out.whole ∙ (pulled out.before out.behind one.entry out.early out.late
     ∙ ap (λ (entries : List Entry). one.entry ∷ in_order entries) (sym out.rest))
 
@@ -385,51 +360,37 @@ pub record Stands (readings : List Reading) (head : ℕ) : Type 0 where
   pub key : head ≡ key_of k one.entry
   pub few : k < 65536
 
-pub stands : (readings : List Reading) (heap rest : List (Reverse ℕ)) (head : Reverse ℕ) (size capacity : ℕ) → StreamIsUnderWay readings heap size capacity
-    → IsPermutation heap (head ∷ rest) → IsUpperBound heap_cmp head heap → Stands readings head.0
-stands readings heap rest head size capacity under popped bound =
-    let has = head_found readings heap rest head under.heads popped in
+pub stands : (readings : List Reading) (waiting : Waiting) (head : ℕ) → StreamIsUnderWay readings waiting → IsLeast head waiting.heads → Stands readings head
+stands readings waiting head under least =
+    let has = head_found readings waiting.heads head under.heads least.among in
     record {
       k = has.k;
       reading = has.reading;
       one = has.logged;
       there = has.is.there;
       given = has.is.given;
-      first = goes_on readings heap head has.k has.reading has.logged has.is under.heads bound under.read under.few;
+      first = goes_on readings waiting.heads head has.k has.reading has.logged has.is under.heads least.first under.read under.few;
       key = has.is.key ∙ ap (λ (n : ℕ). key_of n has.logged.entry) (let e : 0 + has.k ≡ has.k = omega arith in e);
       few = omega (arith, below readings has.k has.reading has.is.there, under.few);
     }
 
 -- without the head of a log, which goes on, and with its next one
-pub goes_to_next : (readings : List Reading) (heap rest again : List (Reverse ℕ)) (head : Reverse ℕ) (after : Reading)
-    (size now capacity grown : ℕ) (at : Stands readings head.0) → StreamIsUnderWay readings heap size capacity
-    → IsPermutation heap (head ∷ rest) → IsHeap heap_cmp rest → GoesOn at.k at.reading after rest again → now ≤ size → capacity ≤ grown
-    → StreamIsUnderWay (set readings at.k after) again now grown
-goes_to_next readings heap rest again head after size now capacity grown at under popped order goes fewer more =
+pub goes_to_next : (readings : List Reading) (waiting rest again : Waiting) (head : ℕ) (after : Reading) (at : Stands readings head) → StreamIsUnderWay readings waiting
+    → HaveJoined rest.heads (head ∷ []) waiting.heads → rest.most ≡ waiting.most → GoesOn at.k at.reading after rest again → StreamIsUnderWay (set readings at.k after) again
+goes_to_next readings waiting rest again head after at under popped most goes =
     let same = length-set readings at.k after in
     record {
       heads = λ f.
           let moved = heads_set f readings 0 at.k at.reading after at.there in
-          let gone : weigh f (head_in (0 + at.k) at.reading.given) ≡ f head.0 + 0 = own f in
+          let gone : weigh f (head_in (0 + at.k) at.reading.given) ≡ f head + 0 = own f in
           let come : weigh f (head_in (0 + at.k) after.given) ≡ weigh f (head_in at.k (front at.reading.left)) = its f in
-          omega (
-            arith,
-            moved,
-            gone,
-            come,
-            under.heads f,
-            goes.joins.counts f,
-            sum_by_popped
-                (λ (reverse : Reverse ℕ). f reverse.0) head heap rest popped,
-          );
-      order = goes.joins.order order;
+          omega (arith, moved, gone, come, under.heads f, goes.joins f, popped f);
       read = read_set readings at.k after under.read (subst LogIsRead (sym goes.reading_is) (read_next at.reading (read_at readings at.k at.reading at.there under.read) goes.node));
-      count = omega (arith, fewer, under.count, same);
-      room = omega (arith, under.room, more, same);
+      room = omega (arith, under.room, most, goes.most, same);
       few = omega (arith, under.few, same);
     }
   where
-    own : (f : ℕ → ℕ) → weigh f (head_in (0 + at.k) at.reading.given) ≡ f head.0 + 0
+    own : (f : ℕ → ℕ) → weigh f (head_in (0 + at.k) at.reading.given) ≡ f head + 0
     own f =
         let place : 0 + at.k ≡ at.k = omega arith in
         (λ x. weigh f (head_in (place x) (at.given x))) ∙ ap (λ (h : ℕ). f h + 0) (sym at.key)
@@ -447,22 +408,22 @@ node_of_front left entry is node = by_front (front left) (subst (λ (o : Option 
     by_front None node = node
     by_front (Some logged) node = node
 
-heads_by : (log : ℕ) (o : Option Logged) → heads_of log (option_map entry_of o) ≡ head_in log o
-heads_by log None = refl
-heads_by log (Some logged) = refl
-
-pub goes : (log : ℕ) (reading after : Reading) (heap again : List (Reverse ℕ)) (entry : Option Entry) → after ≡ after_next reading → entry ≡ option_map entry_of (front reading.left)
-    → Joins heap (heads_of log entry) again → IfSome entry (λ e. node_of e.event < 65536) → GoesOn log reading after heap again
-goes log reading after heap again entry reading_is entry_is joins node = record {
-  reading_is = reading_is;
-  joins = subst (λ (heads : List ℕ). Joins heap heads again) (ap (heads_of log) entry_is ∙ heads_by log (front reading.left)) joins;
-  node = node_of_front reading.left entry entry_is node;
-}
+-- there are no more heads than logs
+pub heads_few : (readings : List Reading) (heads : List ℕ) → AreHeads readings heads → length heads ≤ length readings
+heads_few readings heads are = omega (arith, weigh-one (λ (head : ℕ). 1) (λ head. refl) heads, are (λ (head : ℕ). 1), at_most readings 0)
+  where
+    at_most : (readings : List Reading) (at : ℕ) → weigh (λ (head : ℕ). 1) (heads_from at readings) ≤ length readings
+    at_most [] at = omega arith
+    at_most (reading ∷ rest) at = go reading.given (at_most rest (suc at))
+      where
+        go : (given : Option Logged) → weigh (λ (head : ℕ). 1) (heads_from (suc at) rest) ≤ length rest
+            → weigh (λ (head : ℕ). 1) (head_in at given ++ heads_from (suc at) rest) ≤ length (reading ∷ rest)
+        go None deeper = omega (arith, deeper)
+        go (Some logged) deeper = omega (arith, deeper)
 
 -- without a head nothing is left
-pub nothing_left : (readings : List Reading) (heap : List (Reverse ℕ)) → AllByRecursion LogIsRead readings → AreHeads readings heap → length heap ≡ 0
-    → all_left readings ≡ []
-nothing_left readings [] are heads none = ap in_order (nothing readings 0 are (sym (heads (λ (head : ℕ). 1))))
+pub nothing_left : (readings : List Reading) (heads : List ℕ) → AllByRecursion LogIsRead readings → AreHeads readings heads → heads ≡ [] → all_left readings ≡ []
+nothing_left readings heads read are none = ap in_order (nothing readings 0 read (sym (are (λ (head : ℕ). 1)) ∙ ap (weigh (λ (head : ℕ). 1)) none))
   where
     nothing : (readings : List Reading) (at : ℕ) → AllByRecursion LogIsRead readings → weigh (λ (head : ℕ). 1) (heads_from at readings) ≡ 0
         → entries_left readings ≡ []
@@ -475,20 +436,8 @@ nothing_left readings [] are heads none = ap in_order (nothing readings 0 are (s
             → option_to_list given ++ first.left ≡ []
         own None ends none = ends refl
         own (Some logged) ends none = absurd (omega (arith, none))
-nothing_left readings (head ∷ heap) are heads none = absurd (omega (arith, none))
 
 -- ---- at the beginning
-
-pub joins_one : (before after : List (Reverse ℕ)) (log : ℕ) (entry : Entry) (fresh : Reverse ℕ) → fresh.0 ≡ key_of log entry
-    → IsPermutation (fresh ∷ before) after → KeepsHeap heap_cmp before after → Joins before (heads_of log (Some entry)) after
-joins_one before after log entry fresh is pushed keeps = record {
-  counts = λ f. let same : f fresh.0 ≡ f (key_of log entry) = ap f is in omega
-      (arith, same, sum_by_pushed (λ (reverse : Reverse ℕ). f reverse.0) fresh before after pushed);
-  order = keeps;
-}
-
-pub joins_none : (before : List (Reverse ℕ)) (log : ℕ) → Joins before (heads_of log None) before
-joins_none before log = record { counts = λ f. omega arith; order = λ order. order }
 
 heads_push : (f : ℕ → ℕ) (readings : List Reading) (at : ℕ) (reading : Reading)
     → weigh f (heads_from at (readings ++ reading ∷ [])) ≡ weigh f (heads_from at readings) + weigh f (head_in (at + length readings) reading.given)
@@ -518,21 +467,18 @@ head_there f log None = refl
 head_there f log (Some logged) = refl
 
 -- one log more, of which the first entry has been read
-pub one_more : (readings : List Reading) (heap again : List (Reverse ℕ)) (size now capacity grown : ℕ) (log : List Logged) (reading : Reading)
-    (entry : Option Entry) → StreamIsUnderWay readings heap size capacity → Ascends log
-    → reading ≡ after_next (reading_of log) → entry ≡ option_map entry_of (front log) → Joins heap (heads_of (length readings) entry) again → now ≤ size + 1
-    → length readings + 1 ≤ grown → length readings + 1 ≤ 65536 → HasNode (front log)
-    → StreamIsUnderWay (readings ++ reading ∷ []) again now grown
-one_more readings heap again size now capacity grown log reading entry under ascends reading_is entry_is joins one room few node =
+pub one_more : (readings : List Reading) (waiting again : Waiting) (log : List Logged) (reading : Reading) (entry : Option Entry) → StreamIsUnderWay readings waiting → Ascends log
+    → reading ≡ after_next (reading_of log) → entry ≡ option_map entry_of (front log) → HaveJoined waiting.heads (heads_of (length readings) entry) again.heads → again.most ≡ waiting.most
+    → length readings + 1 ≤ waiting.most → length readings + 1 ≤ 65536 → HasNode (front log)
+    → StreamIsUnderWay (readings ++ reading ∷ []) again
+one_more readings waiting again log reading entry under ascends reading_is entry_is joins most room few node =
     let same = length-append readings (reading ∷ []) in
     record {
       heads = λ f.
           let given : weigh f (head_in (0 + length readings) reading.given) ≡ weigh f (heads_of (length readings) entry) = own f log reading_is entry_is in
-          omega (arith, heads_push f readings 0 reading, given, under.heads f, joins.counts f);
-      order = joins.order under.order;
+          omega (arith, heads_push f readings 0 reading, given, under.heads f, joins f);
       read = read_push readings reading under.read (subst LogIsRead (sym reading_is) (read_first None log ascends node));
-      count = omega (arith, same, one, under.count);
-      room = omega (arith, same, room);
+      room = omega (arith, same, room, most);
       few = omega (arith, same, few);
     }
   where
@@ -575,13 +521,3 @@ left_merged readings = ap in_order (entries_by readings)
 pub all_there : (readings : List Reading) (logs : List Written) (at : ℕ) → length logs ≤ at
     → map left_of readings ≡ map (λ (one : Written). one.entries) (take at logs) → map left_of readings ≡ logged logs
 all_there readings logs at all so_far = so_far ∙ ap (map (λ (one : Written). one.entries)) (take_all at logs all)
-
-pub under_start : (heap : List (Reverse ℕ)) (size capacity : ℕ) → heap ≡ [] → size ≡ 0 → IsHeap heap_cmp heap → StreamIsUnderWay [] heap size capacity
-under_start heap size capacity none no_size order = record {
-  heads = λ f. ap (sum_by (λ (reverse : Reverse ℕ). f reverse.0)) none;
-  order = order;
-  read = tt;
-  count = omega (arith, no_size);
-  room = omega arith;
-  few = omega arith;
-}

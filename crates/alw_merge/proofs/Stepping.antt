@@ -1,11 +1,6 @@
 -- A step of logs that are read side by side: the log of the least head goes on.
-use Rattle.std.proofs.Common.{◌≡◌, ℕ, ◌+◌, ◌*◌, ◌≤◌, ◌<◌, Option, Some, None, option_to_list, List, [], ◌∷◌, ◌++◌, map, length, drop, slice_get, get_or, set, refl, sym, subst, ap, ◌∙◌, arith}
-use Rattle.std.specs.Prelude.{IfSome, IfNone, OnSome}
+use Rattle.std.proofs.Common.{◌≡◌, ℕ, ◌+◌, ◌*◌, ◌<◌, Option, Some, None, option_to_list, List, [], ◌∷◌, ◌++◌, map, length, slice_get, get_or, set, refl, sym, subst, ap, ◌∙◌, arith}
 use Rattle.std.specs.Option.{option_map}
-use Rattle.std.specs.List.Sorted.{IsPermutation}
-use Rattle.std.specs.BinaryHeap.{IsHeap, IsUpperBound, PopsGreatest}
-use Rattle.std.specs.declared.cmp.Reverse.{Reverse}
-use Rattle.std.proofs.lemmas.List.Sorted.{IsPermutation-refl}
 use Rattle.std.proofs.lemmas.List.{map-set, length-map, get_or-map}
 use Rattle.std.proofs.lemmas.Option.{get_or_from_slice_get, same_Some}
 use Rattle.alw_msg.specs.declared.messages.Msg.{Msg}
@@ -14,36 +9,15 @@ use Rattle.alw_msg.specs.Events.{node_of}
 use Rattle.alw_msg.specs.Lists.{front, behind}
 use Rattle.alw_model.specs.Threads.{Logged, Logs, log_at, merged}
 use Rattle.alw_cells.specs.Logs.{Reading, after_next, taken_of, sent_of, entry_of}
-use Rattle.alw_merge.specs.Streams.{left_of, all_left, heap_cmp, StreamIsUnderWay, GoesOn, EventIsReadOff}
-use Rattle.alw_merge.proofs.Merging.{Stands, stands, below, goes_to_next, left_merged, nothing_left}
+use Rattle.alw_merge.specs.Heads.{Waiting, IsLeast, HaveJoined}
+use Rattle.alw_merge.specs.Streams.{left_of, all_left, StreamIsUnderWay, GoesOn, EventIsReadOff}
+use Rattle.alw_merge.proofs.Leasts.{joined_length}
+use Rattle.alw_merge.proofs.Merging.{Stands, stands, below, goes_to_next, heads_few, left_merged, nothing_left}
 
--- the head that is looked at is the first of the heap
-pub is_first : (heap : List (Reverse ℕ)) (head : Reverse ℕ) → 0 < length heap → head ≡ get_or heap 0 head → slice_get heap 0 ≡ Some head
-is_first [] head some is = absurd (omega (arith, some))
-is_first (first ∷ rest) head some is = ap Some (sym is)
-
-pub looked_at : (heap : List (Reverse ℕ)) (head : Reverse ℕ) → slice_get heap 0 ≡ Some head → IsPermutation heap (head ∷ drop 1 heap)
-looked_at [] head there = absurd (cc)
-looked_at (first ∷ rest) head there = subst (λ (h : Reverse ℕ). IsPermutation (first ∷ rest) (h ∷ rest)) (same_Some first head there) (IsPermutation-refl (first ∷ rest))
-
--- and is the one that is taken
-pub taken_head : (heap rest : List (Reverse ℕ)) (head : Reverse ℕ) (popped : Option (Reverse ℕ)) (size : ℕ) → slice_get heap 0 ≡ Some head → 0 < size
-    → IfSome popped (λ x. x ≡ get_or heap 0 x) → IfSome popped (λ x. IsPermutation heap (x ∷ rest)) → IfSome popped (λ x. PopsGreatest heap_cmp heap x rest)
-    → IfNone popped (size ≡ 0) → IsPermutation heap (head ∷ rest) × PopsGreatest heap_cmp heap head rest
-taken_head heap rest head None size there some top permutation greatest none = absurd (omega (arith, some, none))
-taken_head heap rest head (Some x) size there some top permutation greatest none =
-    let same : x ≡ head = top ∙ get_or_from_slice_get heap 0 head x there in
-    (subst (λ (h : Reverse ℕ). IsPermutation heap (h ∷ rest)) same permutation, subst (λ (h : Reverse ℕ). PopsGreatest heap_cmp heap h rest) same greatest)
-
-pub taken_size : (popped : Option (Reverse ℕ)) (before after : ℕ) → 0 < before → OnSome popped (after + 1 ≡ before) → IfNone popped (before ≡ 0) → after + 1 ≡ before
-taken_size None before after some size none = absurd (omega (arith, some, none))
-taken_size (Some x) before after some size none = size
-
-module _ {readings : List Reading} {heap rest : List (Reverse ℕ)} {head : Reverse ℕ} {size capacity place : ℕ} (under : StreamIsUnderWay readings heap size capacity)
-    (popped : IsPermutation heap (head ∷ rest)) (bound : IsUpperBound heap_cmp head heap)
-    (place_is : (others log : ℕ) → log < 65536 → head.0 ≡ others * 65536 + log → place ≡ log) where
-  at : Stands readings head.0
-  at = stands readings heap rest head size capacity under popped bound
+module _ {readings : List Reading} {waiting : Waiting} {head place : ℕ} (under : StreamIsUnderWay readings waiting) (least : IsLeast head waiting.heads)
+    (place_is : (others log : ℕ) → log < 65536 → head ≡ others * 65536 + log → place ≡ log) where
+  at : Stands readings head
+  at = stands readings waiting head under least
 
   same : place ≡ at.k
   same = place_is (at.one.entry.stamp * 65536 + node_of at.one.entry.event) at.k at.few at.key
@@ -85,12 +59,12 @@ module _ {readings : List Reading} {heap rest : List (Reverse ℕ)} {head : Reve
     pub entry_is : option_map entry_of reading.given ≡ front (merged (map left_of readings))
     entry_is = ap (option_map entry_of) given ∙ sym (ap front first)
 
-    module _ {after : Reading} {again : List (Reverse ℕ)} (goes : GoesOn place reading after rest again) where
-      pub goes_on : {now grown : ℕ} → IsHeap heap_cmp rest → now ≤ size → capacity ≤ grown → StreamIsUnderWay (set readings place after) again now grown
-      goes_on {now} {grown} order fewer more =
+    module _ {rest again : Waiting} {after : Reading} (popped : HaveJoined rest.heads (head ∷ []) waiting.heads) (most : rest.most ≡ waiting.most)
+        (goes : GoesOn place reading after rest again) where
+      pub goes_on : StreamIsUnderWay (set readings place after) again
+      goes_on =
           let moved : GoesOn at.k at.reading after rest again = subst (λ (k : ℕ). GoesOn k at.reading after rest again) same (subst (λ (r : Reading). GoesOn place r after rest again) is goes) in
-          subst (λ (k : ℕ). StreamIsUnderWay (set readings k after) again now grown) (sym same)
-          (goes_to_next readings heap rest again head after size now capacity grown at under popped order moved fewer more)
+          subst (λ (k : ℕ). StreamIsUnderWay (set readings k after) again) (sym same) (goes_to_next readings waiting rest again head after at under popped most moved)
 
       pub left_is : merged (map left_of (set readings place after)) ≡ behind (merged (map left_of readings))
       left_is = ap (λ (r : Reading). merged (map left_of (set readings place r))) goes.reading_is ∙ sym (ap behind first)
@@ -132,6 +106,12 @@ module _ {readings : List Reading} {heap rest : List (Reverse ℕ)} {head : Reve
             first = first ∙ ((λ x. sym own x ∷ merged (map left_of (set readings place (sym goes.reading_is x)))));
           })
 
+-- without a head there is room for one
+pub has_room : (readings : List Reading) (waiting rest : Waiting) (head : ℕ) → StreamIsUnderWay readings waiting → HaveJoined rest.heads (head ∷ []) waiting.heads → rest.most ≡ waiting.most
+    → length rest.heads < rest.most
+has_room readings waiting rest head under popped most =
+    omega (arith, heads_few readings waiting.heads under.heads, joined_length rest.heads (head ∷ []) waiting.heads popped, under.room, most)
+
 -- nothing is left without a head
-pub at_end : (readings : List Reading) (heap : List (Reverse ℕ)) (size capacity : ℕ) → StreamIsUnderWay readings heap size capacity → length heap ≡ 0 → merged (map left_of readings) ≡ []
-at_end readings heap size capacity under none = sym (left_merged readings) ∙ nothing_left readings heap under.read under.heads none
+pub at_end : (readings : List Reading) (waiting : Waiting) → StreamIsUnderWay readings waiting → waiting.heads ≡ [] → merged (map left_of readings) ≡ []
+at_end readings waiting under none = sym (left_merged readings) ∙ nothing_left readings waiting.heads under.read under.heads none

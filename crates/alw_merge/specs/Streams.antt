@@ -1,12 +1,8 @@
 -- Logs that are read side by side: what is left of each, and the heads, which are the next entries of all.
 use Rattle.std.specs.Prelude.{◌≡◌, ℕ, suc, ◌≤◌, ◌<◌, ◌+◌, ◌*◌, Option, Some, None, option_to_list, List, [], ◌∷◌, ◌++◌, map}
 use Rattle.std.specs.Prelude.{flat_map, length, slice_set, IfSome}
-use Rattle.std.specs.List.{AllByRecursion, sum_by}
+use Rattle.std.specs.List.{AllByRecursion}
 use Rattle.std.specs.Option.{option_map}
-use Rattle.std.specs.BinaryHeap.{IsHeap}
-use Rattle.std.specs.Ordering.{nat_cmp}
-use Rattle.std.specs.declared.cmp.Ordering.{Ordering}
-use Rattle.std.specs.declared.cmp.Reverse.{Reverse}
 use Rattle.alw_num.specs.Weights.{weigh}
 use Rattle.alw_msg.specs.declared.messages.Msg.{Msg}
 use Rattle.alw_msg.specs.declared.events.Entry.{Entry}
@@ -16,6 +12,7 @@ use Rattle.alw_model.specs.Threads.{Logged, Logs, log_at, in_order, merged}
 use Rattle.alw_cells.specs.Logs.{Reading, after_next, taken_of, sent_of, entry_of}
 use Rattle.alw_cells.specs.Records.{Ascends}
 use Rattle.alw_merge.specs.declared.streams.Read.{Read}
+use Rattle.alw_merge.specs.Heads.{Waiting, HaveJoined}
 
 -- what is left of a log: the event read last, and those behind it
 abbrev pub left_of : Reading → List Logged
@@ -44,36 +41,26 @@ pub record LogIsRead (reading : Reading) : Type 0 where
   pub ascends : Ascends (left_of reading)
   pub node : IfSome reading.given (λ logged. node_of (entry_of logged).event < 65536)
 
--- the heads in a heap are those of the logs, in some order: all that can be counted of them is the same
-abbrev pub AreHeads : List Reading → List (Reverse ℕ) → Type 0
-AreHeads readings heap = (f : ℕ → ℕ) → sum_by (λ (reverse : Reverse ℕ). f reverse.0) heap ≡ weigh f (heads_from 0 readings)
+-- the heads that wait are those of the logs, in some order: all that can be counted of them is the same
+abbrev pub AreHeads : List Reading → List ℕ → Type 0
+AreHeads readings heads = (f : ℕ → ℕ) → weigh f heads ≡ weigh f (heads_from 0 readings)
 
--- the order of heads in the heap, which has the least first
-abbrev pub heap_cmp : Reverse ℕ → Reverse ℕ → Ordering
-heap_cmp one other = nat_cmp other.0 one.0
-
--- logs that are read, with their heads in a heap that has room for one of each
-pub record StreamIsUnderWay (readings : List Reading) (heap : List (Reverse ℕ)) (size capacity : ℕ) : Type 0 where
-  pub heads : AreHeads readings heap
-  pub order : IsHeap heap_cmp heap
+-- logs that are read, with their heads, of which there may be one of each
+pub record StreamIsUnderWay (readings : List Reading) (waiting : Waiting) : Type 0 where
+  pub heads : AreHeads readings waiting.heads
   pub read : AllByRecursion LogIsRead readings
-  pub count : size ≤ length readings
-  pub room : length readings ≤ capacity
+  pub room : length readings ≤ waiting.most
   pub few : length readings ≤ 65536
 
 -- the head that an entry is, if there is one
 abbrev pub heads_of : ℕ → Option Entry → List ℕ
 heads_of log entry = map (key_of log) (option_to_list entry)
 
--- heads have joined those in a heap
-pub record Joins (before : List (Reverse ℕ)) (more : List ℕ) (after : List (Reverse ℕ)) : Type 0 where
-  pub counts : (f : ℕ → ℕ) → sum_by (λ (reverse : Reverse ℕ). f reverse.0) after ≡ sum_by (λ (reverse : Reverse ℕ). f reverse.0) before + weigh f more
-  pub order : IsHeap heap_cmp before → IsHeap heap_cmp after
-
 -- a log goes on, and its next head joins the others
-pub record GoesOn (log : ℕ) (reading reading' : Reading) (heap heap' : List (Reverse ℕ)) : Type 0 where
+pub record GoesOn (log : ℕ) (reading reading' : Reading) (waiting waiting' : Waiting) : Type 0 where
   pub reading_is : reading' ≡ after_next reading
-  pub joins : Joins heap (head_in log (front reading.left)) heap'
+  pub joins : HaveJoined waiting.heads (head_in log (front reading.left)) waiting'.heads
+  pub most : waiting'.most ≡ waiting.most
   pub node : IfSome (front reading.left) (λ logged. node_of (entry_of logged).event < 65536)
 
 -- ---- an event of the merge

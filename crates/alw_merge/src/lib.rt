@@ -1,6 +1,7 @@
 //! The logs of all nodes merged, with the machine that they leave. The replay of a trace is handed on.
 #![tactic(auto)]
 
+mod heads;
 mod joins;
 mod laws;
 mod merges;

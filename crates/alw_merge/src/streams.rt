@@ -1,17 +1,16 @@
-ghost use Rattle.std.specs.Prelude.{◌≡◌, ◌+◌, ◌≤◌, ◌<◌, ◌*◌, ℕ, IsOk, IfOk, IfSome, OnOk};
-ghost use Rattle.std.specs.BinaryHeap.{heap_items, heap_len, heap_capacity};
+ghost use Rattle.std.specs.Prelude.{◌≡◌, ◌+◌, ◌<◌, ◌*◌, ℕ, length, IfOk, IfSome, OnOk};
 ghost use Rattle.alw_msg.specs.Events.{node_of};
 ghost use Rattle.alw_msg.specs.Lists.{front, behind};
 ghost use Rattle.alw_model.specs.Threads.{merged};
 ghost use Rattle.alw_cells.specs.Logs.{logged, sent_of};
-ghost use Rattle.alw_merge.specs.Streams.{key_of, heads_of, Joins, GoesOn, Reads};
+ghost use Rattle.alw_merge.specs.Heads.{HaveJoined};
+ghost use Rattle.alw_merge.specs.Streams.{key_of, heads_of, GoesOn, Reads};
 
+use crate::heads::Heads;
 use alw_cells::{Cursor, Logs};
 use alw_msg::{Entry, Msg};
 use alw_num::NoMemory;
 use std::alloc::Global;
-use std::cmp::Reverse;
-use std::collections::BinaryHeap;
 use std::marker::Model;
 
 // There are no more logs than node numbers, so that a place among them fits the lowest 16 bits of a key.
@@ -25,18 +24,17 @@ pub struct Read {
     pub taken: Option<Msg>,
 }
 
-/// The merge of logs, event by event: logs that are read side by side, and their heads in a heap. A head
-/// is kept as one number, by which heads are ordered: its stamp, its node and the log's place (Lamport
-/// 1978). Contracts see what is left of each log.
+/// The merge of logs, event by event: logs that are read side by side, and their heads. A head is kept as
+/// one number, by which heads are ordered: its stamp, its node and the log's place (Lamport 1978).
+/// Contracts see what is left of each log.
 #[derive(Debug, Drop)]
 pub struct Stream<'a> {
     readings: Vec<Cursor<'a>>,
-    heads: BinaryHeap<Reverse<u64>>,
+    heads: Heads,
 }
 
 impl<'a> Model for Stream<'a> {
     ghost use Rattle.std.specs.Prelude.{map};
-    ghost use Rattle.std.specs.BinaryHeap.{heap_items, heap_len, heap_capacity};
     ghost use Rattle.alw_model.specs.Threads.{Logs};
     ghost use Rattle.alw_merge.specs.Streams.{left_of, StreamIsUnderWay};
 
@@ -44,7 +42,7 @@ impl<'a> Model for Stream<'a> {
 
     ghost view = { λ s. map left_of s.readings.items };
 
-    ghost invariant = { λ s. StreamIsUnderWay s.readings.items (heap_items s.heads) (heap_len s.heads) (heap_capacity s.heads) };
+    ghost invariant = { λ s. StreamIsUnderWay s.readings.items s.heads };
 }
 
 impl<'a> Stream<'a> {
@@ -57,10 +55,10 @@ impl<'a> Stream<'a> {
             return Err(NoMemory);
         }
         let mut readings = Vec::with_capacity(alloc, count as usize)?;
-        let mut heads = BinaryHeap::with_capacity(alloc, count as usize)?;
+        let mut heads = Heads::room(alloc, count)?;
         for at in 0..count {
             let mut reading = logs.at_ref(at).cursor();
-            add(&mut heads, at, reading.next())?;
+            add(&mut heads, at, 0, reading.next());
             readings.push_reserved(reading);
         }
         Ok(Stream { readings, heads })
@@ -71,36 +69,39 @@ impl<'a> Stream<'a> {
         ensures entry { result ≡ front (merged self.old) }
         ensures left { merged self.new ≡ behind (merged self.old) }
     {
-        let Reverse(head) = self.heads.pop()?;
+        let head = self.heads.least()?;
         let log = place_in(head);
         let reading = &mut self.readings[log as usize];
         let entry = reading.entry();
-        go_on(&mut self.heads, log, reading);
+        self.heads.pop(head);
+        go_on(&mut self.heads, log, head, reading);
         entry
     }
 
     /// The next event of the merge, as its log says it; the messages that it sent go into a list in place of
     /// others. None exactly at the end.
+    #[inline(always)]
     pub(crate) fn event(&mut self, sends: &mut Vec<(u16, Msg)>) -> Result<Option<Read>, NoMemory>
         ensures { IfOk result (λ read. Reads self.old read sends.new.items self.new) }
     {
-        let Some(Reverse(head)) = self.heads.peek() else {
+        let Some(head) = self.heads.least() else {
             return Ok(None);
         };
-        let log = place_in(*head);
+        let log = place_in(head);
         let reading = &self.readings[log as usize];
         let Some(entry) = reading.entry() else {
             unreachable!();
         };
         let taken = reading.taken();
         collect(reading, sends)?;
-        let _head = self.heads.pop();
-        go_on(&mut self.heads, log, &mut self.readings[log as usize]);
+        self.heads.pop(head);
+        go_on(&mut self.heads, log, head, &mut self.readings[log as usize]);
         Ok(Some(Read { log, entry, taken }))
     }
 }
 
 // The next entry of a log as a number: those of an earlier stamp, and then of a lower node, are lower.
+#[inline(always)]
 fn key(log: u32, entry: Entry) -> u64
     requires { log < 65536 }
     ensures key { result ≡ key_of log entry }
@@ -110,6 +111,7 @@ fn key(log: u32, entry: Entry) -> u64
 }
 
 // The place of the log whose head this is.
+#[inline(always)]
 fn place_in(head: u64) -> u32
     ensures { (rest : ℕ) → (log : ℕ) → log < 65536 → head ≡ rest * 65536 + log → result ≡ log }
 {
@@ -117,35 +119,31 @@ fn place_in(head: u64) -> u32
 }
 
 // A log goes on to its next event, whose head joins the others.
-fn go_on(heads: &mut BinaryHeap<Reverse<u64>>, log: u32, reading: &mut Cursor<'_>)
+#[inline(always)]
+fn go_on(heads: &mut Heads, log: u32, last: u64, reading: &mut Cursor<'_>)
     requires log { log < 65536 }
-    requires room { heap_len heads.old < heap_capacity heads.old }
-    ensures goes { GoesOn log reading.old reading.new (heap_items heads.old) (heap_items heads.new) }
-    ensures len { heap_len heads.new ≤ heap_len heads.old + 1 }
-    ensures capacity { heap_capacity heads.old ≤ heap_capacity heads.new }
+    requires room { length heads.old.heads < heads.old.most }
+    ensures goes { GoesOn log reading.old reading.new heads.old heads.new }
 {
-    match add(heads, log, reading.next()) {
-        Ok(()) => {}
-        Err(NoMemory) => unreachable!(),
-    }
+    add(heads, log, last, reading.next());
 }
 
 // The head of a log joins others, where the log has one.
-fn add(heads: &mut BinaryHeap<Reverse<u64>>, log: u32, entry: Option<Entry>) -> Result<(), NoMemory>
-    requires { log < 65536 }
-    ensures joins { OnOk result (Joins (heap_items heads.old) (heads_of log entry) (heap_items heads.new)) }
+#[inline(always)]
+fn add(heads: &mut Heads, log: u32, last: u64, entry: Option<Entry>)
+    requires log { log < 65536 }
+    requires room { length heads.old.heads < heads.old.most }
+    ensures joins { HaveJoined heads.old.heads (heads_of log entry) heads.new.heads }
+    ensures most { heads.new.most ≡ heads.old.most }
     ensures nodes { IfSome entry (λ entry. node_of entry.event < 65536) }
-    ensures len { OnOk result (heap_len heads.new ≤ heap_len heads.old + 1) }
-    ensures capacity { heap_capacity heads.old ≤ heap_capacity heads.new }
-    ensures room { heap_len heads.old < heap_capacity heads.old → IsOk result }
 {
     if let Some(entry) = entry {
-        heads.push(Reverse(key(log, entry)))?;
+        heads.push(key(log, entry), last);
     }
-    Ok(())
 }
 
 // The messages that the event given last sent, each with its receiver, in place of others.
+#[inline(always)]
 fn collect(log: &Cursor<'_>, sends: &mut Vec<(u16, Msg)>) -> Result<(), NoMemory>
     ensures { OnOk result (sends.new.items ≡ sent_of log.now.given) }
 {

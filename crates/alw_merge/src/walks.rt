@@ -39,6 +39,7 @@ impl<'a> Model for Rest<'a> {
 
 impl<'a> Rest<'a> {
     // What the next event did, which then isn't left any longer.
+    #[inline(always)]
     fn next(&mut self) -> Did
         requires { 1 ≤ length self.old }
         ensures did { result ≡ next_did self.old }
@@ -104,6 +105,7 @@ fn rests_of<'a>(alloc: Global, dids: &'a DidLists) -> Result<Vec<Rest<'a>>, NoMe
 }
 
 // One event more, as its node's log says it, and what is left of what the node's events did.
+#[inline(always)]
 fn follow(
     image: &Image,
     read: &Read,
@@ -154,6 +156,7 @@ fn send_all(links: &mut Links, from: NodeNo, sends: &[(u16, Msg)]) -> Result<(),
 }
 
 // A delivery takes the head off its link.
+#[inline(always)]
 fn take_off(links: &mut Links, event: Event)
     requires { NodesAreWithin links.old.nodes event }
     ensures { links.new ≡ after_taking links.old event }
