@@ -25,6 +25,3 @@ pub use laws::{
 };
 pub use places::{memory_at, words_at};
 pub use stuck::{Stuck, stuck_of};
-
-#[cfg(test)]
-mod tests;

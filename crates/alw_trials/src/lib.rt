@@ -12,6 +12,8 @@ mod merges;
 #[cfg(test)]
 mod nodes;
 #[cfg(test)]
+mod outcomes;
+#[cfg(test)]
 mod plays;
 #[cfg(test)]
 mod runs;
