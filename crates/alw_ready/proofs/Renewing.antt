@@ -1,18 +1,13 @@
--- Rows are looked at again: senders one by one, the row of an event's node, and the rows that were sent to.
-use Rattle.std.proofs.Common.{◌≡◌, ◌≢◌, ℕ, ◌+◌, ◌<◌, ◌==◌, nat_lt, Bool, true, false, cond, ◌&&◌, ◌||◌, Some, zero, suc, List, [], ◌∷◌, length, set, drop, slice_get, IsTrue, refl, sym, ap, subst, ◌∙◌, arith}
-use Rattle.std.proofs.lemmas.Bool.{true≢false, eq-eqb, ne_eqb, eqb-true, false_from_ne_true}
-use Rattle.std.proofs.lemmas.List.{get_or-set_same, get_or-set_other, set-set, length-set}
-use Rattle.std.proofs.lemmas.Option.{same_Some, get_or_from_slice_get}
+-- Rows are looked at again: senders one by one, the rows that were sent to, and all rows.
+use Rattle.std.proofs.Common.{◌≡◌, ◌≢◌, ℕ, ◌+◌, ◌<◌, ◌==◌, nat_lt, Bool, true, false, cond, ◌&&◌, Some, zero, suc, List, [], ◌∷◌, length, set, drop, slice_get, IsTrue, refl, sym, ap, subst, ◌∙◌, arith}
+use Rattle.std.proofs.lemmas.Bool.{true≢false, eq-eqb, ne_eqb, false_from_ne_true}
+use Rattle.std.proofs.lemmas.List.{get_or-set_same, get_or-set_other, length-set}
+use Rattle.std.proofs.lemmas.Option.{same_Some}
 use Rattle.alw_num.specs.Maps.{passes}
-use Rattle.alw_num.specs.declared.addresses.NodeNo.{NodeNo}
-use Rattle.alw_num.specs.declared.node_sets.NodeSet.{NodeSet}
 use Rattle.alw_num.specs.NodeSets.{Nodes, no_nodes, has_node, add_node, drop_node, members, count_nodes, nodes_of}
 use Rattle.alw_num.proofs.Sets.{has-none, has-add, has-drop}
 use Rattle.alw_num.proofs.Weigh.{is_node}
 use Rattle.alw_msg.specs.declared.messages.Msg.{Msg}
-use Rattle.alw_msg.specs.declared.events.Event.{Event}
-use Rattle.alw_msg.specs.declared.events.Event.TheVariants.{Deliver}
-use Rattle.alw_msg.specs.Events.{node_of}
 use Rattle.alw_msg.specs.Lists.{is_nonempty, front}
 use Rattle.alw_image.specs.declared.parts.Parts.{Parts}
 use Rattle.alw_image.specs.Images.{node_count}
@@ -22,12 +17,10 @@ use Rattle.alw_model.specs.Machine.{MachineState, node_at, link_at, is_enabled}
 use Rattle.alw_model.proofs.Journals.{and_parts}
 use Rattle.law_lines.specs.Links.{msgs_to, GoBelow}
 use Rattle.law_lines.proofs.Steps.{enabled_is}
-use Rattle.law_order.specs.Orders.{takes_from}
 use Rattle.alw_ready.specs.declared.rows.Row.{Row}
-use Rattle.alw_ready.specs.Rows.{instr_at, handle_at, delivery, no_row, row_at}
-use Rattle.alw_ready.specs.Fits.{may_happen, is_in_time, RowFitsBut, RowFits, RowsFit, nobody}
-use Rattle.alw_ready.specs.declared.changes.Happened.{Happened}
-use Rattle.alw_ready.specs.Changes.{is_fed, OwnRowIsRenewed, SenderIsLookedAt, RowsFitBut}
+use Rattle.alw_ready.specs.Rows.{delivery, no_row, row_at}
+use Rattle.alw_ready.specs.Fits.{may_happen, RowFitsBut, RowFits, RowsFit, nobody}
+use Rattle.alw_ready.specs.Changes.{is_fed, SenderIsLookedAt, RowsFitBut}
 use Rattle.alw_ready.proofs.MainEvents.{sender_exists}
 
 -- ---- sends
@@ -72,17 +65,6 @@ module _ (test : ℕ → Bool) where
 pub fewer : (rest less : Nodes) (n : ℕ) → members rest ≡ n ∷ members (drop_node rest n) → less ≡ drop_node rest n → count_nodes less < count_nodes rest
 fewer rest less n first is = omega (arith, ap length first, ap count_nodes is)
 
--- the row of a node with another set of senders, which has one of them as a test says
-pub is_looked_at : (test : Event → Bool) (rows after : List Row) (from to : ℕ) (row : Row) (senders : NodeSet) → slice_get rows to ≡ Some row → after ≡ set rows to (record row { senders = senders })
-    → ((k : ℕ) → has_node (nodes_of senders) k ≡ cond (k == from) (test (delivery from to)) (has_node (nodes_of row.senders) k)) → SenderIsLookedAt test from to rows after
-is_looked_at test rows after from to row senders read after_is looked =
-    let row_is = sym (get_or_from_slice_get rows to row no_row read) in
-    record {
-      senders = senders;
-      rows_are = after_is ∙ ap (λ (r : Row). set rows to (record r { senders = senders })) row_is;
-      looked = λ k. looked k ∙ ap (λ (r : Row). cond (k == from) (test (delivery from to)) (has_node (nodes_of r.senders) k)) row_is;
-    }
-
 module _ (parts : Parts) (parameters : Parameters) (s : MachineState) where
   -- a delivery that may happen has a message on its link
   has_message : (from at : ℕ) → may_happen parts parameters s (delivery from at) ≡ true → is_nonempty (link_at parts s from at) ≡ true
@@ -100,61 +82,6 @@ module _ (parts : Parts) (parameters : Parameters) (s : MachineState) where
   found_none at found rest empty senders from none =
       ap (λ S. has_node S from) empty ∙ (has-none from ∙ sym (false_from_ne_true (may_happen parts parameters s (delivery from at)) (λ may.
       true≢false (sym (has_message from at may) ∙ (sym (senders from (sender_exists parts parameters s from at may)) ∙ none)))))
-
-  -- ---- the row of an event's own node
-
-  -- its own events were looked at again, and then its senders
-  own_renewed : (happened : Happened) (n : ℕ) (rows kept after : List Row) (own : Row) (senders : NodeSet) → n ≡ node_of happened.event → n < length rows
-      → kept ≡ set rows n (record own { senders = (row_at rows n).senders }) → after ≡ set kept n (record (row_at kept n) { senders = senders })
-      → own.in_time ≡ is_in_time parameters s n → own.instr ≡ may_happen parts parameters s (instr_at n) → own.handle ≡ may_happen parts parameters s (handle_at n)
-      → ((k : ℕ) → has_node (nodes_of senders) k ≡ cond (happened.wide || takes_from happened.event k n) (may_happen parts parameters s (delivery k n)) (has_node (nodes_of (row_at kept n).senders) k))
-      → OwnRowIsRenewed parts parameters s happened rows after
-  own_renewed happened n rows kept after own senders is here kept_is after_is timely instr handle looked =
-      let stays : Row = record own { senders = (row_at rows n).senders } in
-      let read : row_at kept n ≡ stays = ap (λ (seen : List Row). row_at seen n) kept_is ∙ get_or-set_same rows n stays no_row here in
-      record {
-        own = record own { senders = senders };
-        rows_are = after_is ∙ ((λ i. set (kept_is i) n (record (read i) { senders = senders })) ∙ (set-set rows n stays (record own { senders = senders }) ∙ ap (λ m. set rows m (record own { senders = senders })) is));
-        in_time = timely ∙ ap (is_in_time parameters s) is;
-        renewed = record {
-          instr = instr ∙ ap (λ m. may_happen parts parameters s (instr_at m)) is;
-          handle = handle ∙ ap (λ m. may_happen parts parameters s (handle_at m)) is;
-          senders = λ k. looked k ∙ (ap (λ (row : Row). cond (happened.wide || takes_from happened.event k n) (may_happen parts parameters s (delivery k n)) (has_node (nodes_of row.senders) k)) read
-              ∙ ap (λ m. cond (happened.wide || takes_from happened.event k m) (may_happen parts parameters s (delivery k m)) (has_node (nodes_of (row_at rows m).senders) k)) is);
-        };
-      }
-
-  -- all of its senders
-  pub own_wide : (happened : Happened) (n : ℕ) (rows kept after : List Row) (own row : Row) (senders : NodeSet) → n ≡ node_of happened.event → n < length rows → happened.wide ≡ true
-      → kept ≡ set rows n (record own { senders = (row_at rows n).senders }) → slice_get kept n ≡ Some row → after ≡ set kept n (record row { senders = senders })
-      → own.in_time ≡ is_in_time parameters s n → own.instr ≡ may_happen parts parameters s (instr_at n) → own.handle ≡ may_happen parts parameters s (handle_at n)
-      → ((k : ℕ) → has_node (nodes_of senders) k ≡ may_happen parts parameters s (delivery k n)) → OwnRowIsRenewed parts parameters s happened rows after
-  own_wide happened n rows kept after own row senders is here wide kept_is read after_is timely instr handle all =
-      let row_is = get_or_from_slice_get kept n row no_row read in
-      own_renewed happened n rows kept after own senders is here kept_is (after_is ∙ ap (λ (r : Row). set kept n (record r { senders = senders })) (sym row_is)) timely instr handle
-      (λ k. all k ∙ sym (ap (λ b. cond (b || takes_from happened.event k n) (may_happen parts parameters s (delivery k n)) (has_node (nodes_of (row_at kept n).senders) k)) wide))
-
-  -- the one that a delivery took from
-  pub own_taken : (happened : Happened) (from to : NodeNo) (n : ℕ) (rows kept after : List Row) (own : Row) → n ≡ node_of happened.event → n < length rows → happened.wide ≡ false → happened.event ≡ Deliver from to
-      → kept ≡ set rows n (record own { senders = (row_at rows n).senders }) → own.in_time ≡ is_in_time parameters s n → own.instr ≡ may_happen parts parameters s (instr_at n) → own.handle ≡ may_happen parts parameters s (handle_at n)
-      → SenderIsLookedAt (may_happen parts parameters s) from.0 to.0 kept after → OwnRowIsRenewed parts parameters s happened rows after
-  own_taken happened from to n rows kept after own is here narrow event_is kept_is timely instr handle look =
-      let same : n ≡ to.0 = is ∙ ap node_of event_is in
-      let looked : SenderIsLookedAt (may_happen parts parameters s) from.0 n kept after = subst (λ m. SenderIsLookedAt (may_happen parts parameters s) from.0 m kept after) (sym same) look in
-      own_renewed happened n rows kept after own looked.senders is here kept_is looked.rows_are timely instr handle
-      (λ k. looked.looked k ∙ (here_or_not k (has_node (nodes_of (row_at kept n).senders) k) (k == from.0) refl
-      ∙ sym (ap (λ b. cond b (may_happen parts parameters s (delivery k n)) (has_node (nodes_of (row_at kept n).senders) k)) (takes k same))))
-    where
-      takes : (k : ℕ) → n ≡ to.0 → (happened.wide || takes_from happened.event k n) ≡ (k == from.0)
-      takes k same = (λ i. narrow i || takes_from (event_is i) k n) ∙ (ap (λ b. k == from.0 && b) (eq-eqb n to.0 same) ∙ and_true (k == from.0))
-        where
-          and_true : (b : Bool) → (b && true) ≡ b
-          and_true true = refl
-          and_true false = refl
-
-      here_or_not : (k : ℕ) (was b : Bool) → (k == from.0) ≡ b → cond (k == from.0) (may_happen parts parameters s (delivery from.0 n)) was ≡ cond (k == from.0) (may_happen parts parameters s (delivery k n)) was
-      here_or_not k was true is = ap (λ m. cond (k == from.0) (may_happen parts parameters s (delivery m n)) was) (sym (eqb-true k from.0 is))
-      here_or_not k was false is = ap (λ b. cond b (may_happen parts parameters s (delivery from.0 n)) was) is ∙ sym (ap (λ b. cond b (may_happen parts parameters s (delivery k n)) was) is)
 
   -- ---- the rows that were sent to
 

@@ -1,5 +1,5 @@
 ghost use Rattle.std.specs.Prelude.{◌≡◌, ◌<◌, ◌≤◌, length, replicate, slice_get, slice_set, Some, IfOk, IsTrue};
-ghost use Rattle.alw_ready.specs.Rows.{events_of, no_row, row_at};
+ghost use Rattle.alw_ready.specs.Rows.{events_of, no_row};
 ghost use Rattle.alw_ready.specs.Changes.{SenderIsLookedAt};
 
 use crate::rows::{Row, are_same, count_with, put};
@@ -88,15 +88,6 @@ impl Ready {
         self.rows[place] = row;
     }
 
-    /// The row of a node tells of its node's own events as this one does. Its senders stay.
-    #[inline(always)]
-    pub(crate) fn set_own(&mut self, node: NodeNo, own: Row)
-        requires { node.0 < length self.old }
-        ensures { self.new ≡ slice_set self.old node.0 (record own { senders = (row_at self.old node.0).senders }) }
-    {
-        let senders = self.rows[usize::from(node.0)].senders;
-        self.set(node, Row { senders, ..own });
-    }
     /// A delivery from a sender may happen or not. All else of the row stays, and its events are counted
     /// on from their number.
     #[inline(always)]

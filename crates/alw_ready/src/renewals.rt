@@ -1,10 +1,11 @@
-ghost use Rattle.std.specs.Prelude.{◌≡◌, ℕ, ◌<◌, ◌≤◌, cond, ◌==◌, List, length};
+ghost use Rattle.std.specs.Prelude.{◌≡◌, ℕ, ◌<◌, ◌≤◌, cond, ◌||◌, ◌==◌, List, length};
 ghost use Rattle.alw_num.specs.NodeSets.{has_node, nodes_of};
 ghost use Rattle.alw_msg.specs.declared.events.Entry.{Entry};
 ghost use Rattle.alw_msg.specs.Events.{node_of};
 ghost use Rattle.alw_image.specs.Images.{node_count};
 ghost use Rattle.alw_model.specs.Machine.{state, IsLegal};
 ghost use Rattle.law_lines.specs.Links.{GoBelow};
+ghost use Rattle.law_order.specs.Orders.{takes_from};
 ghost use Rattle.alw_ready.specs.Rows.{delivery};
 ghost use Rattle.alw_ready.specs.Fits.{may_happen, RowFits, RowsFit};
 ghost use Rattle.alw_ready.specs.Changes.{SenderIsLookedAt, OwnRowIsRenewed, RowsFitBut, EventIsTold};
@@ -61,14 +62,9 @@ impl Ready {
         ensures { OwnRowIsRenewed (V.image view.now) (V.parameters view.now) (V.state view.now) happened.now self.old self.new }
     {
         let node = happened.event.node();
-        self.set_own(node, view.row(node));
-        if happened.wide {
-            let row = self.row(node);
-            let senders = deliverable(view, node);
-            self.set(node, Row { senders, ..row });
-        } else if let Event::Deliver { from, to } = happened.event {
-            self.look(view, from, to);
-        }
+        let senders = own_senders(view, happened, self.row(node).senders);
+        let own = view.row(node);
+        self.set(node, Row { senders, ..own });
     }
 
     // Looks again at the heads of the links that a node sent to.
@@ -94,6 +90,23 @@ impl Ready {
         ensures { SenderIsLookedAt (may_happen (V.image view.now) (V.parameters view.now) (V.state view.now)) from.0 to.0 self.old self.new }
     {
         self.set_sender(to, from, view.may(Event::Deliver { from, to }));
+    }
+}
+
+// The nodes from which a delivery to an event's own node may happen, from those before it.
+#[inline(always)]
+fn own_senders<V: View>(view: &V, happened: &Happened, senders: NodeSet) -> NodeSet
+    requires few { node_count (V.image view.now) ≤ MOST_NODES }
+    requires here { node_of happened.now.event < node_count (V.image view.now) }
+    ensures { (from : ℕ) → has_node (nodes_of result) from ≡ cond (happened.now.wide || takes_from happened.now.event from (node_of happened.now.event))
+        (may_happen (V.image view.now) (V.parameters view.now) (V.state view.now) (delivery from (node_of happened.now.event))) (has_node (nodes_of senders) from) }
+{
+    if happened.wide {
+        return deliverable(view, happened.event.node());
+    }
+    match happened.event {
+        Event::Deliver { from, to } => looked_at(view, senders, from, to),
+        Event::Instr { .. } | Event::Handle { .. } | Event::Evict { .. } => senders,
     }
 }
 

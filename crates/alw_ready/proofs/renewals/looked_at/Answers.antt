@@ -1,4 +1,4 @@
-use Rattle.std.proofs.Common.{sym, ap, ◌∙◌, arith}
+use Rattle.std.proofs.Common.{sym, ◌∙◌, arith}
 use Rattle.alw_ready.proofs.MainEvents.{sender_exists}
 use Rattle.alw_ready.proofs.renewals.looked_at.Goals as goal
 
