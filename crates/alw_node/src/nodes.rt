@@ -130,11 +130,10 @@ impl Node {
                     return Did::Took;
                 };
                 if msg.kind.is_to_memory() {
-                    self.memory.deliver(msg, sent)
-                } else {
-                    self.proc.cache_msg(msg, sent);
-                    Did::Took
+                    return self.memory.deliver(msg, sent);
                 }
+                self.proc.cache_msg(msg, sent);
+                Did::Took
             }
         }
     }
