@@ -1,7 +1,6 @@
 ghost use Rattle.std.specs.Prelude.{◌≡◌, ◌<◌, ◌≤◌, ◌^◌, ◌-◌, ◌+◌, ◌++◌, ◌↔◌, length, IfOk, OnOk};
 ghost use Rattle.std.specs.List.{AllByRecursion};
 ghost use Rattle.alw_image.specs.Images.{context_count};
-ghost use Rattle.alw_msg.specs.Statuses.{is_ready};
 ghost use Rattle.alw_model.specs.Flat.{print_of, turns_after, turns_print};
 ghost use Rattle.alw_audit.specs.declared.verdicts.Verdict.TheVariants.{Sound};
 ghost use Rattle.alw_audit.specs.Verdicts.{AreWords, IsAuditable, ClaimIsSound, stop_number, turns_verdict, verdict_of};
@@ -65,7 +64,7 @@ fn run_turns(flat: &mut Flat, turns: &[u32], prints: &mut Prints) -> Result<Verd
     let mut k = 0;
     for context in turns {
         let status = flat.status(*context);
-        if !is_ready(status) {
+        if !status.is_ready() {
             return Ok(Verdict::Differs {
                 place: Place::Turn { k },
                 claimed: u64::from(*context),
@@ -89,12 +88,6 @@ fn put_print(prints: &mut Prints, context: u32, outcome: Outcome) -> Result<(), 
         prints.push((context, word))?;
     }
     Ok(())
-}
-
-fn is_ready(status: Status) -> bool
-    ensures { result ≡ is_ready status }
-{
-    matches!(status, Status::Ready)
 }
 
 // 1 for a context that has halted, 2 for one that has trapped.

@@ -10,7 +10,6 @@ use crate::sights::{bytes_in, look};
 use alw_effects::{put_effect, put_place};
 use alw_flat::Flat;
 use alw_image::Image;
-use alw_msg::Status;
 use alw_num::NoMemory;
 use alw_text::{Spell, Text, put_number};
 use alw_trace::Claim;
@@ -40,7 +39,7 @@ fn put_turns(text: &mut Text, image: &Image, flat: &mut Flat, turns: &[u32]) -> 
 {
     let mut k = 0;
     for context in turns {
-        if !is_ready(flat.status(*context)) {
+        if !flat.status(*context).is_ready() {
             return Ok(());
         }
         put_turn(text, image, flat, k, *context)?;
@@ -84,10 +83,4 @@ fn put_head(text: &mut Text, code: &[u32], k: u32, context: u32, pc: u32) -> Res
     put_number(text, b" context ", u64::from(context))?;
     put_place(text, code, pc)?;
     Ok(())
-}
-
-fn is_ready(status: Status) -> bool
-    ensures { result ≡ is_ready status }
-{
-    matches!(status, Status::Ready)
 }
