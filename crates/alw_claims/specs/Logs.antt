@@ -7,7 +7,7 @@ use Rattle.sparc_table.specs.declared.outcomes.Need.{Need}
 use Rattle.sparc_table.specs.declared.outcomes.Need.TheVariants as needs
 use Rattle.sparc_table.specs.declared.outcomes.Outcome.{Outcome}
 use Rattle.alw_effects.specs.declared.before.Before.{Before}
-use Rattle.alw_effects.specs.Pieces.{place_text}
+use Rattle.alw_effects.specs.Pieces.{stood_text}
 use Rattle.alw_effects.specs.Effects.{effect_text}
 use Rattle.alw_image.specs.declared.parts.Parts.{Parts}
 use Rattle.alw_image.specs.Images.{line_count, zero_line}
@@ -32,7 +32,7 @@ before_of image flat context =
 
 -- the number of a turn, its context, the PC, and the statement there
 unfoldable pub head_text : List ℕ → ℕ → ℕ → ℕ → List ℕ
-head_text code k context pc = decimal k ++ (codes " context " ++ (decimal context ++ place_text code pc))
+head_text code k context pc = decimal k ++ (codes " context " ++ (decimal context ++ stood_text code pc))
 
 -- the line of a turn, from the flat machine before and after it: where it stands, and what it did
 unfoldable pub turn_line : Parts → Flat → Flat → Outcome → ℕ → ℕ → List ℕ

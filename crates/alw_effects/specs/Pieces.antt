@@ -7,8 +7,8 @@ use Rattle.alw_text.specs.Numbers.{hex_byte, hex_word}
 use Rattle.sparc_text.specs.Statements.{register_text, statement_at}
 
 -- a PC, and the statement there
-unfoldable pub place_text : List ℕ → ℕ → List ℕ
-place_text code pc = codes " pc " ++ (hex_word pc ++ (codes " " ++ statement_at code pc))
+unfoldable pub stood_text : List ℕ → ℕ → List ℕ
+stood_text code pc = codes " pc " ++ (hex_word pc ++ (codes " " ++ statement_at code pc))
 
 -- a register with the word that it was given
 unfoldable pub sets_text : ℕ → ℕ → List ℕ

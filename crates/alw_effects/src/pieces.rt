@@ -1,16 +1,16 @@
 ghost use Rattle.std.specs.Prelude.{◌≡◌, ◌<◌, ◌++◌, OnOk};
 ghost use Rattle.alw_num.specs.Lanes.{bytes_in};
 ghost use Rattle.alw_text.specs.Numbers.{hex_byte, hex_word};
-ghost use Rattle.alw_effects.specs.Pieces.{place_text, sets_text, moved_text, reads_text, writes_text, taken_text, prints_text, traps_text};
+ghost use Rattle.alw_effects.specs.Pieces.{stood_text, sets_text, moved_text, reads_text, writes_text, taken_text, prints_text, traps_text};
 
 use alw_num::{NoMemory, Width};
 use alw_text::{Spell, Text, put_number};
 use sparc_text::{put_register, put_statement_at};
 
 /// A PC, and the statement there, each behind a blank: ` pc 0x00000010 ld [%g1], %o0`.
-#[tactic(auto, unfolding(crate::specs::Pieces::place_text))]
+#[tactic(auto, unfolding(crate::specs::Pieces::stood_text))]
 pub fn put_place(text: &mut Text, code: &[u32], pc: u32) -> Result<(), NoMemory>
-    ensures { OnOk result (text.new ≡ text.old ++ place_text code.now pc) }
+    ensures { OnOk result (text.new ≡ text.old ++ stood_text code.now pc) }
 {
     put_word(text, b" pc ", pc)?;
     text.put(b" ")?;
