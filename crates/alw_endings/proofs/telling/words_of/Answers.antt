@@ -5,7 +5,7 @@ use Rattle.alw_num.specs.declared.addresses.Line.{Line}
 use Rattle.alw_image.specs.Images.{zero_line}
 use Rattle.alw_model.specs.Counts.{words_of, listed_words}
 use Rattle.alw_outcomes.specs.Explored.{place_in}
-use Rattle.alw_endings.proofs.Lists.{flat_more}
+use Rattle.alw_num.proofs.Lists.{number_more}
 use Rattle.alw_endings.proofs.Told.{memory_sized}
 use Rattle.alw_endings.proofs.telling.words_of.Goals as goal
 
@@ -23,6 +23,6 @@ loop-line-preserved c =
           ∙ ap (λ (words : List (ℕ × ℕ)). words ++ words_of c.loop-line.line c.value.result) c.loop-line.invariant.words
           ∙ ap (λ (body : Line). listed_words values c.loop-line.line ++ words_of c.loop-line.line body)
           (c.value.ensures ∙ ap (λ (lines : List Line). slice_index_or lines c.loop-line.line zero_line) c.memory_at-memory.ensures)
-          ∙ sym (flat_more (λ line. words_of line (values line)) c.loop-line.line);
+          ∙ sym (number_more (λ line. words_of line (values line)) c.loop-line.line);
       few = omega arith;
     }
