@@ -1,9 +1,7 @@
 -- The carriers of all nodes, node after node, and the line invariant of a view by its tests.
-use Rattle.std.proofs.Common.{◌≡◌, ℕ, zero, suc, ◌+◌, Bool, ◌&&◌, IsTrue, ◌↔◌, List, [], ◌∷◌, ◌++◌, length, sym, ap, ◌∙◌, arith}
-use Rattle.std.specs.List.{flat_map, list_all, range_with_len}
-use Rattle.std.proofs.lemmas.List.{append-nil}
-use Rattle.std.proofs.lemmas.List.Concat.{flat_map-append}
-use Rattle.alw_num.specs.declared.addresses.Line.{Line}
+use Rattle.std.proofs.Common.{◌≡◌, ℕ, ◌+◌, Bool, ◌&&◌, IsTrue, ◌↔◌, ◌++◌, length, sym, arith}
+use Rattle.std.specs.List.{list_all, range_with_len}
+use Rattle.alw_num.proofs.Lists.{number_more}
 use Rattle.alw_model.specs.Lines.{LineState, carried, carriers}
 use Rattle.alw_model.specs.LineInvariant.{all_carried}
 use Rattle.alw_model.specs.Checks.{is_sound_line}
@@ -16,18 +14,9 @@ use Rattle.alw_laws.specs.Views.{entry_of_view, line_in, pending_in, shows_once,
 pub all_counted : (count : ℕ) (s : LineState) → all_carried count s ≡ length (carriers count s)
 all_counted count s = sym (carriers_length count s)
 
-range_more : (low count next : ℕ) → low + count ≡ next → range_with_len low (count + 1) ≡ range_with_len low count ++ next ∷ []
-range_more low zero next is = ap (λ (n : ℕ). n ∷ []) (omega arith)
-range_more low (suc count) next is =
-    let one_more : suc count + 1 ≡ suc (count + 1) = omega arith in
-    rw one_more (ap (λ (rest : List ℕ). low ∷ rest) (range_more (low + 1) count next (omega arith)))
-
 -- the carriers at one node more
 pub carriers_more : (count : ℕ) (s : LineState) → carriers (count + 1) s ≡ carriers count s ++ carried (s.node count)
-carriers_more count s =
-    let of_nodes : List ℕ → List Line = λ nodes. flat_map (λ i. carried (s.node i)) nodes in
-    ap of_nodes (range_more 0 count count (omega arith)) ∙ (flat_map-append (λ i. carried (s.node i)) (range_with_len 0 count) (count ∷ [])
-    ∙ ap (λ (bodies : List Line). carriers count s ++ bodies) (append-nil (carried (s.node count))))
+carriers_more count s = number_more (λ i. carried (s.node i)) count
 
 -- a view meets the invariant exactly where its two tests hold
 module _ (count : ℕ) (view : LineView) where
