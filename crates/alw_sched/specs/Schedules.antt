@@ -9,11 +9,10 @@ use Rattle.alw_image.specs.Images.{node_count}
 use Rattle.alw_image.specs.Parameters.{Parameters}
 use Rattle.alw_model.specs.declared.ends.Ended.{Ended}
 use Rattle.alw_model.specs.Contexts.{all_halted}
-use Rattle.alw_model.specs.Machine.{End, end_of}
+use Rattle.alw_model.specs.Machine.{End, end_of, node_at}
 use Rattle.alw_model.specs.Ends.{IsEnd}
 use Rattle.alw_mesh.specs.Histories.{History, begun, state_of, may_be_next, grown, IsRun}
 use Rattle.alw_mesh.specs.Ends.{next_events}
-use Rattle.alw_mesh.specs.Readings.{node_in}
 use Rattle.alw_num.specs.Draws.{drawn, drawn_number}
 
 -- the end that holds
@@ -35,7 +34,7 @@ asked_eviction h number = Evict (record { 0 = asked_node h number }) (asked_set 
 -- it is made where the number's low byte says so, some context of the node hasn't halted, and the eviction is enabled and within the limit
 abbrev pub is_evicted : History → ℕ → Bool
 is_evicted h number =
-    nat_lt (number % 256) h.parameters.evict && (not (all_halted (node_in h (asked_node h number)).slots) && may_be_next h (asked_eviction h number))
+    nat_lt (number % 256) h.parameters.evict && (not (all_halted (node_at (state_of h) (asked_node h number)).slots) && may_be_next h (asked_eviction h number))
 
 -- and else a number r picks number r mod m of the m main events that are enabled within the limit
 abbrev pub picked : History → ℕ → Option Event
