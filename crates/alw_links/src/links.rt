@@ -12,9 +12,6 @@ use std::alloc::Global;
 use std::collections::LinkedList;
 use std::marker::Model;
 
-// The number of nodes in a word of a set.
-const WORD_BITS: u16 = 128;
-
 // More messages than this are never held, on the links and as spare places together.
 const MOST: usize = 1 << 62;
 
@@ -125,7 +122,7 @@ impl Links {
         let at = place(self.nodes, from, to);
         push(&mut self.links, &mut self.spare, at, msg);
         self.count += 1;
-        add(&mut self.senders[to.0 as usize], from);
+        self.senders[to.0 as usize].add(from);
     }
 
     /// What an event of a node sends goes to the ends of the node's links, in order.
@@ -220,34 +217,12 @@ fn place(nodes: u32, from: NodeNo, to: NodeNo) -> usize
     from.0 as usize * nodes as usize + to.0 as usize
 }
 
-// A node comes into a set, of which one word is written.
-#[tactic(auto, using(alw_num::proofs::Words::with_low, alw_num::proofs::Words::with_high))]
-#[inline(always)]
-fn add(set: &mut NodeSet, node: NodeNo)
-    requires { node.0 < MOST_NODES }
-    ensures { nodes_of set.new ≡ add_node (nodes_of set.old) node.0 }
-{
-    if node.0 < WORD_BITS {
-        set.low |= 1 << node.0;
-    } else {
-        set.high |= 1 << (node.0 - WORD_BITS);
-    }
-}
-
-// A message of a node was taken: the node leaves the senders, unless it has more on the way. One word
-// is written.
-#[tactic(auto, using(alw_num::proofs::Words::without_low, alw_num::proofs::Words::without_high))]
+// A message of a node was taken: the node leaves the senders, unless it has more on the way.
 #[inline(always)]
 fn leave(senders: &mut NodeSet, from: NodeNo, more: bool)
-    requires { from.0 < MOST_NODES }
     ensures { nodes_of senders.new ≡ (if more then nodes_of senders.old else drop_node (nodes_of senders.old) from.0) }
 {
-    if more {
-        return;
+    if !more {
+        senders.remove(from);
     }
-    if from.0 >= WORD_BITS {
-        senders.high &= !(1 << (from.0 - WORD_BITS));
-        return;
-    }
-    senders.low &= !(1 << from.0);
 }

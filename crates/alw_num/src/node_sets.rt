@@ -39,43 +39,50 @@ impl NodeSet {
         }
     }
 
+    /// A node becomes a member. One word is written.
+    #[inline(always)]
+    pub fn add(&mut self, n: NodeNo)
+        requires { n.0 < MOST_NODES }
+        ensures { nodes_of self.new ≡ add_node (nodes_of self.old) n.0 }
+    {
+        if n.0 < WORD_BITS {
+            self.low |= 1 << n.0;
+        } else {
+            self.high |= 1 << (n.0 - WORD_BITS);
+        }
+    }
+
+    /// A node is no member any more. At most one word is written.
+    #[inline(always)]
+    pub fn remove(&mut self, n: NodeNo)
+        ensures { nodes_of self.new ≡ drop_node (nodes_of self.old) n.0 }
+    {
+        if n.0 < WORD_BITS {
+            self.low &= !(1 << n.0);
+        } else if n.0 < MOST_NODES {
+            self.high &= !(1 << (n.0 - WORD_BITS));
+        }
+    }
+
     /// The set and a node.
+    #[inline(always)]
     pub fn with(self, n: NodeNo) -> NodeSet
         requires { n.0 < MOST_NODES }
         ensures { nodes_of result ≡ add_node (nodes_of self) n.0 }
     {
-        let NodeSet { low, high } = self;
-        if n.0 < WORD_BITS {
-            NodeSet {
-                low: low | 1 << n.0,
-                high,
-            }
-        } else {
-            NodeSet {
-                low,
-                high: high | 1 << (n.0 - WORD_BITS),
-            }
-        }
+        let mut set = self;
+        set.add(n);
+        set
     }
 
     /// The set without a node.
+    #[inline(always)]
     pub fn without(self, n: NodeNo) -> NodeSet
         ensures { nodes_of result ≡ drop_node (nodes_of self) n.0 }
     {
-        let NodeSet { low, high } = self;
-        if n.0 < WORD_BITS {
-            NodeSet {
-                low: low & !(1 << n.0),
-                high,
-            }
-        } else if n.0 < MOST_NODES {
-            NodeSet {
-                low,
-                high: high & !(1 << (n.0 - WORD_BITS)),
-            }
-        } else {
-            self
-        }
+        let mut set = self;
+        set.remove(n);
+        set
     }
 
     /// The nodes of both sets.
