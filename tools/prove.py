@@ -1,0 +1,203 @@
+#!/usr/bin/env python3
+"""Proves the crates of the program side by side: tools/prove.py SCRATCH.
+
+A crate begins once those below it stand, first the one with the longest chain of others above it, by lines of code. It takes the processors that no
+other waits for, at most four. The toolchain lets one command at a time work in a checkout, so each works in a lane: a copy of the sources below
+SCRATCH. What it makes goes to the checkout, and to the other lanes by links. The program's own crate comes last, in the checkout. Standard error tells
+which crates stand. Ends with 1 where one isn't proved, and says what the toolchain said of it.
+"""
+import os
+import re
+import shutil
+import signal
+import subprocess
+import sys
+from concurrent.futures import FIRST_COMPLETED, ThreadPoolExecutor, wait
+from pathlib import Path
+
+sys.dont_write_bytecode = True
+from alewife import ROOT
+
+PROGRAM = 'alw_cli'
+SOURCES = ('src', 'specs', 'proofs')
+CRATE = re.compile(r'^(\w+)[^:\n]*:(.*)$', re.M)
+FAULT = re.compile(r'^error|failed|not run', re.M)
+MOST_JOBS = 4
+JOB_BYTES = 1_500_000_000
+
+
+def say(text):
+    """A line on standard error."""
+    print(f'alewife: {text}', file=sys.stderr, flush=True)
+
+
+def link_or_copy(one, other):
+    """Gives a file a second name, or a copy where that can't be."""
+    try:
+        os.link(one, other)
+    except OSError:
+        shutil.copy2(one, other)
+
+
+def give(folder, to, copied=link_or_copy):
+    """Gives a folder a second place, where it is there."""
+    if folder.is_dir():
+        shutil.rmtree(to, ignore_errors=True)
+        shutil.copytree(folder, to, copy_function=copied)
+
+
+def copy_of_work(one, other):
+    """What a check kept has a second name where the next one replaces it, and else a copy, which that one writes into."""
+    return link_or_copy(one, other) if str(one).endswith('.oantt') else shutil.copy2(one, other)
+
+
+def move(folder, to):
+    """A folder takes the place of another, where it is there."""
+    if folder.is_dir():
+        shutil.rmtree(to, ignore_errors=True)
+        to.parent.mkdir(exist_ok=True)
+        folder.rename(to)
+
+
+# ---- what is to be proved
+
+
+def crates_of_program(root):
+    """The crates that the program is made of, each with those that it stands on."""
+    every = {name: used.split() for name, used in CRATE.findall((root / 'crates.txt').read_text())}
+    found = {}
+
+    def add(name):
+        below = [other for other in every[name] if other in every]
+        for other in below:
+            if other not in found:
+                add(other)
+        found[name] = below
+
+    add(PROGRAM)
+    return found
+
+
+def chains(root, crates):
+    """The lines of code of the longest chain of crates from each one upward."""
+    length = {name: sum(file.read_bytes().count(b'\n') for file in (root / 'crates' / name / 'src').rglob('*.rt')) for name in crates}
+    above = {name: [other for other, below in crates.items() if name in below] for name in crates}
+    longest = {}
+    for name in reversed(crates):
+        longest[name] = length[name] + max((longest[other] for other in above[name]), default=0)
+    return longest
+
+
+def jobs_that_fit():
+    """How many jobs the processors and the memory that is free hold."""
+    processors = len(os.sched_getaffinity(0))
+    free = re.search(r'^MemAvailable: *(\d+)', Path('/proc/meminfo').read_text(), re.M)
+    return max(1, min(processors, int(free[1]) * 1024 // JOB_BYTES) if free else processors)
+
+
+# ---- proving
+
+
+class Proofs:
+    """Proofs that are under way: which crates stand, which wait, and the lanes that are free."""
+
+    def __init__(self, root, scratch):
+        self.root, self.crates = root, crates_of_program(root)
+        self.most, longest = jobs_that_fit(), chains(root, self.crates)
+        self.left = sorted((name for name in self.crates if name != PROGRAM), key=lambda name: -longest[name])
+        self.stand, self.running, self.checks = set(), {}, {}
+        self.free = [self.lane(scratch / f'lane-{number}') for number in range(min(self.most, len(self.left)))]
+        self.lanes = list(self.free)
+
+    def lane(self, folder):
+        """A copy of the sources, with the libraries that were built earlier."""
+        for name in self.crates:
+            for part in SOURCES:
+                give(self.root / 'crates' / name / part, folder / 'crates' / name / part)
+            give(self.root / 'crates' / name / 'out' / 'rlib', folder / 'crates' / name / 'out' / 'rlib')
+        lines = CRATE.finditer((self.root / 'crates.txt').read_text())
+        (folder / 'crates.txt').write_text(''.join(f'{line[0]}\n' for line in lines if line[1] in self.crates))
+        return folder
+
+    def call(self, folder, *words):
+        """What the toolchain says in a crate's folder, and how it ended."""
+        how = {'stdin': subprocess.DEVNULL, 'stdout': subprocess.PIPE, 'stderr': subprocess.STDOUT, 'start_new_session': True}
+        with subprocess.Popen(['rt', *words], cwd=folder, **how) as check:
+            self.checks[check.pid] = check
+            said = check.communicate()[0].decode(errors='replace')
+            del self.checks[check.pid]
+        return check.returncode, said
+
+    def prove_in(self, lane, name, jobs):
+        """Proves a crate in a lane. What was kept of it serves again, and goes back to the checkout."""
+        there, here = lane / 'crates' / name / 'out', self.root / 'crates' / name / 'out'
+        give(here / 'incremental', there / 'incremental', copy_of_work)
+        status, said = self.call(there.parent, 'lib', '--jobs', str(jobs))
+        for part in ('incremental', 'rlib'):
+            move(there / part, here / part)
+        return status, said
+
+    def begin(self, pool):
+        """Begins what can begin, with the jobs that no other crate waits for."""
+        ready = [name for name in self.left if self.stand.issuperset(self.crates[name])]
+        for at, name in enumerate(ready):
+            idle = self.most - sum(jobs for _, _, jobs in self.running.values())
+            if idle <= 0:
+                return
+            jobs = max(1, min(MOST_JOBS, idle // (len(ready) - at)))
+            lane = self.free.pop()
+            self.left.remove(name)
+            self.running[pool.submit(self.prove_in, lane, name, jobs)] = name, lane, jobs
+
+    def end(self, done):
+        """A crate stands: its library goes to all lanes. Answers whether it is proved."""
+        name, lane, _ = self.running.pop(done)
+        status, said = done.result()
+        if status != 0:
+            return self.fail(name, said)
+        for other in self.lanes:
+            give(self.root / 'crates' / name / 'out' / 'rlib', other / 'crates' / name / 'out' / 'rlib')
+        self.free.append(lane)
+        self.stand.add(name)
+        say(f'{len(self.stand)} of {len(self.crates)} crates: {name}')
+        return True
+
+    def fail(self, name, said):
+        """Says what the toolchain said of a crate, and ends all other checks."""
+        lines = said.splitlines()
+        print('\n'.join([line for line in lines if FAULT.search(line)] or lines[-20:]), file=sys.stderr)
+        say(f'{name} is not proved')
+        self.stop()
+        return False
+
+    def stop(self):
+        """Ends the checks that are under way."""
+        for check in list(self.checks.values()):
+            os.killpg(check.pid, signal.SIGTERM)
+
+    def run(self):
+        """Proves all. Answers whether all are proved."""
+        with ThreadPoolExecutor(max(1, len(self.lanes))) as pool:
+            try:
+                self.begin(pool)
+                while self.running:
+                    for done in wait(self.running, return_when=FIRST_COMPLETED).done:
+                        if not self.end(done):
+                            return False
+                    self.begin(pool)
+            except BaseException:
+                self.stop()
+                raise
+        status, said = self.call(self.root / 'crates' / PROGRAM, 'check')
+        return status == 0 or self.fail(PROGRAM, said)
+
+
+def main(arguments):
+    if len(arguments) != 1:
+        sys.exit(__doc__.split('\n')[0])
+    signal.signal(signal.SIGTERM, lambda *_: sys.exit(1))
+    sys.exit(0 if Proofs(ROOT, Path(arguments[0])).run() else 1)
+
+
+if __name__ == '__main__':
+    main(sys.argv[1:])
