@@ -34,7 +34,7 @@ pub enum InputErr {
 /// The cause of an answer. A claim that differs from the flat run of its turns does so first at a place, with
 /// what is claimed there and what is real. Of an image some order of turns may trap; or none was found that does,
 /// and it isn't known that an end can be reached from each place.
-#[derive(Clone, Copy, Debug, PartialEq, Eq)]
+#[derive(Clone, Copy, PartialEq, Eq)]
 pub enum Cause {
     Fine,
     Words(WordErr),
@@ -51,7 +51,7 @@ pub enum Cause {
 
 /// What the program answers: its exit status, the cause, the journal of the run or replay that was made, and
 /// how many of its entries come from the merged logs of workers.
-#[derive(Debug, Drop)]
+#[derive(Drop)]
 pub struct Done {
     pub status: u8,
     pub cause: Cause,

@@ -18,7 +18,7 @@ use std::alloc::Global;
 /// How a command ended that was carried out: a run with a trapping turn or at its limit; a claim that isn't
 /// sound, with the first place that differs, what is claimed there and what is real; a search of all orders of
 /// turns that found a trap, or else one that stopped or found a place from which no end is reached; and all else.
-#[derive(Clone, Copy, Debug, PartialEq, Eq)]
+#[derive(Clone, Copy, PartialEq, Eq)]
 pub enum Ending {
     Fine,
     Trapped(TrapAt),
@@ -30,7 +30,7 @@ pub enum Ending {
 
 /// What a command makes: the text to be written, how it ended, the journal of the run, of the trace or of what a
 /// checkpoint keeps, and how many of its first entries come from the merged logs of workers.
-#[derive(Debug, Drop)]
+#[derive(Drop)]
 pub struct Output {
     pub text: Bytes,
     pub ending: Ending,
@@ -64,7 +64,7 @@ pub fn ending_of(ended: Ended) -> Ending
 }
 
 /// Why a command makes nothing: memory was refused, or its bytes have a fault.
-#[derive(Clone, Copy, Debug, PartialEq, Eq)]
+#[derive(Clone, Copy, PartialEq, Eq)]
 pub enum Refusal {
     NoMemory,
     Fault(InputErr),

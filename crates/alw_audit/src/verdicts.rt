@@ -1,5 +1,5 @@
 /// Where a claim differs from the flat run of its turns. Turns and prints are counted from 0.
-#[derive(Clone, Copy, Debug, PartialEq, Eq)]
+#[derive(Clone, Copy, PartialEq, Eq)]
 pub enum Place {
     /// A turn is of a context that isn't Ready.
     Turn { k: u32 },
@@ -15,7 +15,7 @@ pub enum Place {
 
 /// What an audit finds: the claim is sound, or the first place at which it differs, with what is claimed
 /// there and what is real. For a turn these are the context, and 1 where it has halted or 2 where it has trapped.
-#[derive(Clone, Copy, Debug, PartialEq, Eq)]
+#[derive(Clone, Copy, PartialEq, Eq)]
 pub enum Verdict {
     Sound,
     Differs {

@@ -12,7 +12,7 @@ use std::marker::Model;
 
 /// The cache of a node (ASPLOS 1991, section 2): direct-mapped, with lines of 16 bytes. Line l
 /// belongs in set `l mod sets`, and a set holds one copy or nothing.
-#[derive(Debug, Drop)]
+#[derive(Drop)]
 pub struct Cache {
     sets: u32,
     places: Vec<Place>,

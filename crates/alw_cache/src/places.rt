@@ -5,7 +5,7 @@ ghost use Rattle.alw_cache.specs.Places.{evicted_of, held_at};
 use alw_num::{Line, LineNo, Mode};
 
 /// A copy that has left a cache.
-#[derive(Clone, Copy, Debug, PartialEq, Eq)]
+#[derive(Clone, Copy, PartialEq, Eq)]
 pub struct Evicted {
     pub line: LineNo,
     pub mode: Mode,
@@ -13,7 +13,7 @@ pub struct Evicted {
 }
 
 /// What a set holds: the copy of a line, or nothing where there is no mode.
-#[derive(Clone, Copy, Debug)]
+#[derive(Clone, Copy)]
 pub struct Place {
     pub line: u32,
     pub mode: Option<Mode>,

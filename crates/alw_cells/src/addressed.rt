@@ -7,7 +7,7 @@ use alw_msg::Msg;
 use std::marker::Model;
 
 /// The messages that a log sent to a node, read one by one. Contracts see those that are left.
-#[derive(Debug, Drop)]
+#[derive(Drop)]
 pub struct SentTo<'a> {
     reading: Cursor<'a>,
     to: u32,

@@ -32,7 +32,7 @@ use std::sync::Arc;
 
 /// What a step of a cell was: an event, with its entry and what it did; or none, since no main event of
 /// the node may happen.
-#[derive(Clone, Copy, Debug, PartialEq, Eq)]
+#[derive(Clone, Copy, PartialEq, Eq)]
 pub enum Stepped {
     Did { entry: Entry, did: Did },
     Idle,
@@ -42,7 +42,7 @@ pub enum Stepped {
 /// event of the log did. Its type keeps that the log is a local run of the node, that the node is as the
 /// log leaves it, that what is left to give out to a node is a back part of what the log sent there, and
 /// that the events did what is kept of them (stamps after Lamport 1978).
-#[derive(Debug, Drop)]
+#[derive(Drop)]
 pub struct NodeCell {
     node: Node,
     log: Log,

@@ -10,7 +10,7 @@ use alw_num::NodeNo;
 use std::marker::Model;
 
 /// A log that is read, event by event. Contracts see the event given last, and those that are left.
-#[derive(Debug, Drop)]
+#[derive(Drop)]
 pub struct Cursor<'a> {
     node: NodeNo,
     has_given: bool,

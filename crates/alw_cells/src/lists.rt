@@ -13,7 +13,7 @@ use std::marker::Model;
 
 /// The messages that have come from a node, first in, first out. Contracts see the list. None has bytes
 /// that its kind doesn't carry.
-#[derive(Debug, Drop)]
+#[derive(Drop)]
 pub struct InList {
     messages: VecDeque<Msg>,
 }

@@ -22,7 +22,7 @@ const MOST_SENT: usize = 23;
 /// What a node did: its events in order, each with the message that it took and those that it sent,
 /// with their receivers. Stamps rise. It has fewer than 2^32 events, and keeps them as bytes. Contracts
 /// see the node's number, the list, and the room that is kept for one event more.
-#[derive(Debug, Drop)]
+#[derive(Drop)]
 pub struct Log {
     node: NodeNo,
     events: u32,

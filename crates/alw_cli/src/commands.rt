@@ -98,7 +98,7 @@ fn run_by(
 
 /// What a command asks of workers: how many there are to be, with which parameters, and in which form the run
 /// is told.
-#[derive(Clone, Copy, Debug, PartialEq, Eq)]
+#[derive(Clone, Copy, PartialEq, Eq)]
 pub struct Work {
     pub workers: u32,
     pub params: Params,

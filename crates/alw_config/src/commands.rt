@@ -3,7 +3,7 @@
 use alw_image::Params;
 
 /// What the simulator is asked to do.
-#[derive(Clone, Copy, Debug, PartialEq, Eq)]
+#[derive(Clone, Copy, PartialEq, Eq)]
 pub enum Command {
     /// Assembles a source.
     Asm {
@@ -53,14 +53,14 @@ pub enum Command {
 }
 
 /// What an assembled source is written as.
-#[derive(Clone, Copy, Debug, PartialEq, Eq)]
+#[derive(Clone, Copy, PartialEq, Eq)]
 pub enum AsmForm {
     Image,
     Listing,
 }
 
 /// What an audit is written as.
-#[derive(Clone, Copy, Debug, PartialEq, Eq)]
+#[derive(Clone, Copy, PartialEq, Eq)]
 pub enum AuditForm {
     /// Whether the claim is sound, or where it differs.
     Verdict,
@@ -69,7 +69,7 @@ pub enum AuditForm {
 }
 
 /// What the order of a run's events is chosen by.
-#[derive(Clone, Copy, Debug, PartialEq, Eq)]
+#[derive(Clone, Copy, PartialEq, Eq)]
 pub enum How {
     /// One schedule, drawn from this number.
     Seed(u64),
@@ -78,7 +78,7 @@ pub enum How {
 }
 
 /// What a run is written as.
-#[derive(Clone, Copy, Debug, PartialEq, Eq)]
+#[derive(Clone, Copy, PartialEq, Eq)]
 pub enum Form {
     Report,
     /// The report's content as one object.

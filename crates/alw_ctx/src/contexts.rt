@@ -22,7 +22,7 @@ use std::marker::Model;
 ///
 /// An instruction event runs the first Ready slot in the order current, current + 1 and so on modulo
 /// their number. A hold keeps a line that has arrived for a slot in the cache until the slot has run.
-#[derive(Debug, Drop)]
+#[derive(Drop)]
 pub struct Contexts {
     places: [Resident; 4],
     count: u8,

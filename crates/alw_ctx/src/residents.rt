@@ -15,7 +15,7 @@ use sparc_exec::{Outcome, Port, Program};
 use sparc_table::Regs;
 
 /// The context in a slot: its registers, what it does, and the line that it has a hold on.
-#[derive(Clone, Copy, Debug)]
+#[derive(Clone, Copy)]
 pub struct Resident {
     pub regs: Regs,
     pub status: Status,

@@ -3,7 +3,7 @@ use sparc_table::{Need, Regs};
 
 /// What is read of a context before its turn: its registers, what its instruction needs, and the bytes of the line
 /// that this needs.
-#[derive(Clone, Copy, Debug)]
+#[derive(Clone, Copy)]
 pub struct Before {
     pub regs: Regs,
     pub need: Need,

@@ -3,7 +3,7 @@ use alw_num::Sequence;
 
 /// What turns on one memory can come to, in whatever order they are taken: the sizes of the image, how
 /// many places the search kept, whether it ended by itself, and what it found.
-#[derive(Debug, Drop)]
+#[derive(Drop)]
 pub struct Outcomes {
     /// Columns of the mesh, 1 to 16.
     pub width: u8,
@@ -23,7 +23,7 @@ pub struct Outcomes {
 }
 
 /// An end at which all contexts have halted.
-#[derive(Debug, Drop)]
+#[derive(Drop)]
 pub struct HaltEnd {
     /// The printed words, each with its context: by context, and of one in the order in which it printed.
     pub prints: Prints,
@@ -34,7 +34,7 @@ pub struct HaltEnd {
 }
 
 /// An end at which the turn of a context traps (SPARC V8 manual, table 7-1).
-#[derive(Debug, Drop)]
+#[derive(Drop)]
 pub struct TrapEnd {
     pub context: u32,
     /// The address of the instruction.
@@ -46,7 +46,7 @@ pub struct TrapEnd {
 }
 
 /// Whether turns lead to a place from which no end can be reached.
-#[derive(Debug, Drop)]
+#[derive(Drop)]
 pub enum StuckRun {
     No,
     /// They do: turns from the start that lead to one, in stretches.

@@ -20,7 +20,7 @@ use std::alloc::Global;
 use std::marker::Model;
 
 /// A context: its registers, and whether it is Ready, Halted or Trapped.
-#[derive(Clone, Copy, Debug, PartialEq, Eq)]
+#[derive(Clone, Copy, PartialEq, Eq)]
 struct Context {
     regs: Regs,
     status: Status,
@@ -28,7 +28,7 @@ struct Context {
 
 /// The flat machine (after Lamport 1979): all contexts of an image take turns on one memory, and no
 /// turn misses.
-#[derive(Debug, Drop)]
+#[derive(Drop)]
 pub struct Flat {
     width: u8,
     height: u8,

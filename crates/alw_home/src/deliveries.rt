@@ -15,7 +15,7 @@ use dir_hw::{HomeEntry, MOST_POINTERS};
 
 /// What became of a message to memory: hardware acted on it, it trapped, or it stays at the head of
 /// its link because the line is Trans-In-Progress.
-#[derive(Clone, Copy, Debug, PartialEq, Eq)]
+#[derive(Clone, Copy, PartialEq, Eq)]
 pub enum Acted {
     Acted,
     Trapped,

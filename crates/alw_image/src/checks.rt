@@ -10,7 +10,7 @@ use crate::parts::Parts;
 use alw_num::{Line, LineNo, MOST_NODES, MOST_SIDE, NodeNo};
 
 // How many nodes, contexts of each and code words a start is tested against.
-#[derive(Clone, Copy, Debug, PartialEq, Eq)]
+#[derive(Clone, Copy, PartialEq, Eq)]
 struct Mesh {
     nodes: u32,
     contexts: u8,

@@ -15,7 +15,7 @@ const MAGIC: [u8; 4] = [0x41, 0x4c, 0x45, 0x57];
 
 /// The numbers in an image's first 28 bytes, behind `ALEW`. `blank` is the byte that is 0; `code`,
 /// `bodies`, `starts` and `always` are numbers of members.
-#[derive(Clone, Copy, Debug, PartialEq, Eq)]
+#[derive(Clone, Copy, PartialEq, Eq)]
 pub struct Header {
     pub version: u16,
     pub width: u8,

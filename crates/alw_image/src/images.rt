@@ -8,7 +8,7 @@ use alw_num::{Line, LineNo, MOST_LINES, MOST_NODES, NoMemory, NodeNo};
 use std::marker::Model;
 
 /// An image: parts that are within their ranges and in order. Contracts see the parts.
-#[derive(Debug, Drop)]
+#[derive(Drop)]
 pub struct Image {
     parts: Parts,
 }

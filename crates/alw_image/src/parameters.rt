@@ -15,7 +15,7 @@ pub const MOST_LIMIT: u32 = 1_048_576;
 /// The parameters of a run: hardware pointers of an entry (1 to `MOST_POINTERS`), sets of a cache
 /// (one of `SET_COUNTS`), the greatest stamp of an event (1 to `MOST_LIMIT`), and how often of 256 a
 /// schedule tries an eviction (0 to 255).
-#[derive(Clone, Copy, Debug, PartialEq, Eq)]
+#[derive(Clone, Copy, PartialEq, Eq)]
 pub struct Params {
     pointers: u8,
     sets: u32,

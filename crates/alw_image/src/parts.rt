@@ -13,7 +13,7 @@ pub type Bodies = Sequence<(LineNo, Line)>;
 pub type Starts = Sequence<(NodeNo, u8, u32)>;
 
 /// What an image says, part by part.
-#[derive(Debug, Drop)]
+#[derive(Drop)]
 pub struct Parts {
     /// Columns of the mesh, 1 to 16.
     pub width: u8,

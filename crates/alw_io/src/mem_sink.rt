@@ -13,7 +13,7 @@ use std::marker::Model;
 /// A sink in memory, whose short writes and failures are planned.
 ///
 /// Contracts see the bytes that it holds, its plan, the number of calls that were made and the fault count.
-#[derive(Debug, Drop)]
+#[derive(Drop)]
 pub struct MemSink {
     bytes: Vec<u8>,
     room: usize,

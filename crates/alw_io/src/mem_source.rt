@@ -13,7 +13,7 @@ use std::marker::Model;
 /// A source in memory, whose short reads and failures are planned.
 ///
 /// Contracts see its rest of bytes, its plan, the number of calls that were made and the fault count.
-#[derive(Debug, Drop)]
+#[derive(Drop)]
 pub struct MemSource {
     bytes: Vec<u8>,
     taken: usize,

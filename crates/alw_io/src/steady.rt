@@ -7,7 +7,7 @@ use crate::outside::{Failed, Sink, Source};
 use std::marker::Model;
 
 /// A source over lent bytes that never fails. Contracts see its rest of bytes.
-#[derive(Debug, Drop)]
+#[derive(Drop)]
 pub struct SteadySource<'a> {
     rest: &'a [u8],
 }
@@ -54,7 +54,7 @@ impl Source for SteadySource<'_> {
 
 /// A sink that takes all that it is offered, never fails and keeps only the number of bytes that it took.
 /// Contracts see that number.
-#[derive(Debug, Drop)]
+#[derive(Drop)]
 pub struct SteadySink {
     taken: u64,
 }

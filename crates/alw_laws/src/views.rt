@@ -15,7 +15,7 @@ pub type LinkMsgs = Sequence<(NodeNo, NodeNo, Msg)>;
 /// What a machine has of one line: the line, the node of its home, the home's entry (ASPLOS 1991,
 /// section 4), and each node's copy, transaction and messages; and the packet of the line that waits
 /// for the trap handler.
-#[derive(Debug, Drop)]
+#[derive(Drop)]
 pub struct LineView {
     pub line: LineNo,
     pub at: NodeNo,

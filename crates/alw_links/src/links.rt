@@ -29,7 +29,7 @@ const BLANK: Msg = Msg {
 ///
 /// A message stands in a place that goes from list to list. `reserve` takes the memory of places,
 /// and no other call takes any.
-#[derive(Debug, Drop)]
+#[derive(Drop)]
 pub struct Links {
     nodes: u32,
     links: Vec<LinkedList<Msg>>,

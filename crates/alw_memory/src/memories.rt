@@ -24,7 +24,7 @@ use std::collections::VecDeque;
 use std::marker::Model;
 
 /// A home line of a node: its entry, and whether the image lists it as Trap-Always.
-#[derive(Debug, Drop)]
+#[derive(Drop)]
 pub struct HomeLine {
     pub entry: HomeEntry,
     pub always: bool,
@@ -32,7 +32,7 @@ pub struct HomeLine {
 
 /// The memory side of a node (ASPLOS 1991, section 4): the entries of its home lines, the software
 /// table, and the packets that wait for the handler.
-#[derive(Debug, Drop)]
+#[derive(Drop)]
 pub struct Memory {
     number: NodeNo,
     nodes: u32,

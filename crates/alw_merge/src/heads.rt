@@ -17,7 +17,7 @@ const NEXT_STAMP: u64 = 1 << 32;
 /// is due behind those that are, in the order of the merge; heads that are further off wait in a heap. So
 /// where many logs go on stamp by stamp, a head costs the same for any number of them. Contracts see the
 /// heads, in some order, and how many there may be.
-#[derive(Debug, Drop)]
+#[derive(Drop)]
 pub struct Heads {
     most: u32,
     latest: u64,

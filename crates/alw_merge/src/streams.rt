@@ -17,7 +17,7 @@ use std::marker::Model;
 const MOST_LOGS: u32 = 65536;
 
 /// An event of a merge: the place of its log, its entry, and the message that it took.
-#[derive(Clone, Copy, Debug)]
+#[derive(Clone, Copy)]
 pub struct Read {
     pub log: u32,
     pub entry: Entry,
@@ -27,7 +27,7 @@ pub struct Read {
 /// The merge of logs, event by event: logs that are read side by side, and their heads. A head is kept as
 /// one number, by which heads are ordered: its stamp, its node and the log's place (Lamport 1978).
 /// Contracts see what is left of each log.
-#[derive(Debug, Drop)]
+#[derive(Drop)]
 pub struct Stream<'a> {
     readings: Vec<Cursor<'a>>,
     heads: Heads,

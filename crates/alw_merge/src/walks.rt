@@ -23,7 +23,7 @@ use std::alloc::Global;
 use std::marker::Model;
 
 // What the events of a node did, from the next one on.
-#[derive(Debug, Drop)]
+#[derive(Drop)]
 struct Rest<'a> {
     dids: &'a [Did],
 }
@@ -55,7 +55,7 @@ impl<'a> Rest<'a> {
 
 /// The journal that logs merge to, and what its events leave and tell, as the logs say it: what is on the
 /// links, and turns, prints and counts, where no turn counts as having ended a hold.
-#[derive(Debug, Drop)]
+#[derive(Drop)]
 pub struct Walked {
     pub journal: Journal,
     pub links: Links,

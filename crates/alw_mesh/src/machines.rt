@@ -17,7 +17,7 @@ use std::marker::Model;
 /// A machine: the nodes of an image with the links between them, and the journal of the events that
 /// happened. Contracts see the image, the parameters and the journal, which say all else, and how many
 /// of the journal's first entries the machine was joined with.
-#[derive(Debug, Drop)]
+#[derive(Drop)]
 pub struct Machine {
     pub(crate) mesh: Mesh,
     pub(crate) journal: Journal,

@@ -28,7 +28,7 @@ use std::marker::Model;
 use std::sync::Arc;
 
 /// All nodes of an image, and the links between them. Contracts see the machine's state.
-#[derive(Debug, Drop)]
+#[derive(Drop)]
 pub struct Mesh {
     image: Image,
     params: Params,

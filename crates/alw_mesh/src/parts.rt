@@ -3,7 +3,7 @@ use alw_msg::{Journal, Prints, Turns};
 
 /// What a machine was started from, and what happened: its journal, the numbers of the contexts that
 /// took turns, and the words that they printed.
-#[derive(Debug, Drop)]
+#[derive(Drop)]
 pub struct MachineParts {
     pub image: Image,
     pub params: Params,

@@ -99,7 +99,7 @@ pub fn trap_pc(node: &Node, did: Did) -> u32
 
 /// What a node did at an event, whether it has another number of holds than before, and the PC of the
 /// slot that trapped, where it was a trapping turn.
-#[derive(Clone, Copy, Debug, PartialEq, Eq)]
+#[derive(Clone, Copy, PartialEq, Eq)]
 pub struct Acted {
     pub did: Did,
     pub changes_holds: bool,
@@ -142,7 +142,7 @@ fn changes_holds(node: &Node, did: Did, before: u32) -> bool
 }
 
 /// What happened at an event, and whether its node has another number of holds than before.
-#[derive(Clone, Copy, Debug, PartialEq, Eq)]
+#[derive(Clone, Copy, PartialEq, Eq)]
 pub struct Happening {
     pub told: Happened,
     pub changes_holds: bool,

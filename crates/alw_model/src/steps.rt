@@ -5,7 +5,7 @@ use sparc_table::Outcome;
 /// The numbers of a run: its entries, turns, misses and evictions; the messages sent, by kind; the
 /// hops of all messages, in columns and rows of the mesh; the handler's actions, and those on an RREQ
 /// for a line in Read-Only; RDATA and WDATA delivered; turns that ended a hold.
-#[derive(Clone, Copy, Debug, Default, PartialEq, Eq)]
+#[derive(Clone, Copy, Default, PartialEq, Eq)]
 pub struct Counts {
     pub entries: u64,
     pub turns: u64,

@@ -8,7 +8,7 @@ use std::marker::Model;
 
 /// What one event sends: a list of messages of one node with one stamp, each with the node that it
 /// goes to. It has room for a message to each node of a machine, so that no event needs memory.
-#[derive(Debug, Drop)]
+#[derive(Drop)]
 pub struct Sends {
     nodes: u32,
     src: NodeNo,

@@ -31,7 +31,7 @@ use std::sync::Arc;
 
 /// A node of the machine: its share of the image, its contexts and cache, its home lines, and its
 /// clock (Lamport 1978).
-#[derive(Debug, Drop)]
+#[derive(Drop)]
 pub struct Node {
     share: Share,
     params: Params,

@@ -13,7 +13,7 @@ use std::sync::Arc;
 /// What a node keeps of an image: its sizes and its code, where the node's contexts start, and the
 /// first bytes and the Trap-Always marks of the node's home lines. The nodes of a machine share one
 /// program. Contracts see the share as an image's parts.
-#[derive(Debug, Drop)]
+#[derive(Drop)]
 pub struct Share {
     width: u8,
     height: u8,

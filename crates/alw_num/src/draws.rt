@@ -7,7 +7,7 @@ const STEP: u64 = 0x1405_7b7e_f767_814f;
 
 /// Numbers drawn one after the other by a linear congruence on 64 bits (Knuth, The Art of Computer
 /// Programming, volume 2, 3.2.1, with the constants of MMIX). The first state is the seed.
-#[derive(Clone, Copy, Debug, PartialEq, Eq)]
+#[derive(Clone, Copy, PartialEq, Eq)]
 pub struct Draws {
     pub state: u64,
 }

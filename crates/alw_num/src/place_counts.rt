@@ -8,7 +8,7 @@ use std::marker::Model;
 
 /// Counts by place, at most 256, with the sums of each 4, 16 and 64 places and of all. A number of what
 /// they count is found from the largest parts down: two comparisons say which of four parts has it.
-#[derive(Debug, Drop)]
+#[derive(Drop)]
 pub struct PlaceCounts {
     places: u32,
     counts: Vec<u32>,

@@ -8,7 +8,7 @@ use std::marker::Model;
 /// A list that grows in two steps, so that nothing has changed yet where memory is refused: `reserve`
 /// takes room for members, and `push` puts one into it and can't fail. It has fewer than 2^32 members.
 /// Contracts see the list and the number of members that there is room for.
-#[derive(Debug, Drop)]
+#[derive(Drop)]
 pub struct Roomy<T> {
     items: Vec<T>,
     room: u32,

@@ -8,7 +8,7 @@ use std::marker::Model;
 ///
 /// The named list types of the crates above are this type at their member's type: a journal is a
 /// sequence of entries, a program's code a sequence of words.
-#[derive(Debug, Drop)]
+#[derive(Drop)]
 pub struct Sequence<T> {
     items: Vec<T>,
 }

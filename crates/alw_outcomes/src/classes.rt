@@ -5,7 +5,7 @@ ghost use Rattle.alw_outcomes.specs.Sharing.{may_access, is_shared, class_of};
 use alw_num::{LineNo, Mode};
 
 /// What a hint says of a line: several contexts may use it, one alone does, or nobody writes it.
-#[derive(Clone, Copy, Debug, PartialEq, Eq)]
+#[derive(Clone, Copy, PartialEq, Eq)]
 pub enum Class {
     Shared,
     Own { context: u32 },
@@ -41,7 +41,7 @@ pub fn class_at(classes: &[Class], line: LineNo) -> Class
 }
 
 /// A turn that doesn't keep to the hint: its context, line and mode.
-#[derive(Clone, Copy, Debug, PartialEq, Eq)]
+#[derive(Clone, Copy, PartialEq, Eq)]
 pub struct Broken {
     pub context: u32,
     pub line: LineNo,

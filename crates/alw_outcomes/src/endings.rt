@@ -15,14 +15,14 @@ use std::alloc::Global;
 
 /// The different endings of a search, ascending: the numbers of places where all contexts have halted, one for
 /// each different prints and memory, and the turns that trap, one for each different context, PC and type.
-#[derive(Debug, Drop)]
+#[derive(Drop)]
 pub struct Endings {
     pub ends: Vec<u32>,
     pub traps: Vec<Trapped>,
 }
 
 // A number, with the list that it is sorted by.
-#[derive(Debug, Drop, PartialEq, Eq, PartialOrd, Ord)]
+#[derive(Drop, PartialEq, Eq, PartialOrd, Ord)]
 struct Keyed {
     key: Vec<u64>,
     number: u32,

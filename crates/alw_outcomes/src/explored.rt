@@ -29,7 +29,7 @@ use std::alloc::Global;
 const MOST_PRIVATE: u32 = 65_000;
 
 /// Where a place came from: the number of an earlier place, and how many turns a context took from there.
-#[derive(Clone, Copy, Debug, PartialEq, Eq)]
+#[derive(Clone, Copy, PartialEq, Eq)]
 pub struct Origin {
     pub from: u32,
     pub context: u32,
@@ -37,7 +37,7 @@ pub struct Origin {
 }
 
 /// A turn that traps: the number of its place, its context, PC and trap type.
-#[derive(Clone, Copy, Debug, PartialEq, Eq)]
+#[derive(Clone, Copy, PartialEq, Eq)]
 pub struct Trapped {
     pub at: u32,
     pub context: u32,
@@ -46,7 +46,7 @@ pub struct Trapped {
 }
 
 /// Which turns a search takes at a place: a private turn alone where there is one, or those of all contexts.
-#[derive(Clone, Copy, Debug, PartialEq, Eq)]
+#[derive(Clone, Copy, PartialEq, Eq)]
 pub enum Search {
     Reduced,
     Whole,
@@ -54,7 +54,7 @@ pub enum Search {
 
 /// What a search has found: how many places it may keep, its hint, pools, leads, and of each place the
 /// number of its memory, those of its contexts, and where it came from.
-#[derive(Debug, Drop)]
+#[derive(Drop)]
 pub struct Explored {
     pub width: u32,
     pub most: u32,

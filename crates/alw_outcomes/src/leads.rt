@@ -18,7 +18,7 @@ use sparc_table::Regs;
 /// What a context's turn leads to: nothing, where it isn't Ready; a turn that doesn't keep to the hint;
 /// a trap; or, with `more` private turns behind it, a memory and a context. It may be taken first where
 /// `first` is set.
-#[derive(Clone, Copy, Debug, PartialEq, Eq)]
+#[derive(Clone, Copy, PartialEq, Eq)]
 pub enum Lead {
     Idle,
     Breaks { turn: Broken },

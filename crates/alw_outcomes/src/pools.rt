@@ -18,7 +18,7 @@ use sparc_table::Regs;
 use std::alloc::Global;
 
 /// A context, and the number of the list of what it has printed.
-#[derive(Clone, Copy, Debug, PartialEq, Eq)]
+#[derive(Clone, Copy, PartialEq, Eq)]
 pub struct Seat {
     pub regs: Regs,
     pub status: Status,
@@ -26,21 +26,21 @@ pub struct Seat {
 }
 
 /// A list of words by its last word and the number of the list before it. List 0 is empty.
-#[derive(Clone, Copy, Debug, PartialEq, Eq)]
+#[derive(Clone, Copy, PartialEq, Eq)]
 pub struct Link {
     pub before: u32,
     pub word: u32,
 }
 
 /// The number of a memory and that of a context.
-#[derive(Clone, Copy, Debug, PartialEq, Eq)]
+#[derive(Clone, Copy, PartialEq, Eq)]
 pub struct Numbers {
     pub memory: u32,
     pub seat: u32,
 }
 
 /// The different contexts, lists of printed words and memories of places, each with a number.
-#[derive(Debug, Drop)]
+#[derive(Drop)]
 pub struct Pools {
     pub seats: Vec<Seat>,
     pub links: Vec<Link>,

@@ -8,7 +8,7 @@ use alw_num::NoMemory;
 use std::alloc::Global;
 
 /// A lead, and the numbers and the context that it is the lead of.
-#[derive(Clone, Copy, Debug, PartialEq, Eq)]
+#[derive(Clone, Copy, PartialEq, Eq)]
 pub struct Known {
     pub at: Numbers,
     pub context: u32,
@@ -16,7 +16,7 @@ pub struct Known {
 }
 
 /// Leads that were found. Each has one slot, by its digest, where a later one may take its place.
-#[derive(Debug, Drop)]
+#[derive(Drop)]
 pub struct Remembered {
     pub slots: Vec<Option<Known>>,
     pub used: u32,

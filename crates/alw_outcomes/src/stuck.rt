@@ -13,7 +13,7 @@ use std::alloc::Global;
 
 /// Whether a place can be reached from which no end can be: none can; or the number of such a place; or
 /// the search doesn't tell.
-#[derive(Clone, Copy, Debug, PartialEq, Eq)]
+#[derive(Clone, Copy, PartialEq, Eq)]
 pub enum Stuck {
     No,
     At(u32),
@@ -22,7 +22,7 @@ pub enum Stuck {
 
 // What a look at a place, or along a turn from there, finds: an end behind it; a private turn to a place
 // that isn't marked; nothing but such places; or none of these.
-#[derive(Clone, Copy, Debug, PartialEq, Eq)]
+#[derive(Clone, Copy, PartialEq, Eq)]
 enum Look {
     Ends,
     Alone,

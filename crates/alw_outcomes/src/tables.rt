@@ -2,7 +2,7 @@ use alw_num::NoMemory;
 use std::alloc::Global;
 
 /// A table of numbers by digests. It only hints: what it tells is compared by the caller.
-#[derive(Debug, Drop)]
+#[derive(Drop)]
 pub struct Table {
     // The digest and the number, plus one; 0 where the slot is free.
     slots: Vec<(u32, u32)>,
@@ -10,7 +10,7 @@ pub struct Table {
 }
 
 /// What stands in a slot of a table.
-#[derive(Clone, Copy, Debug, PartialEq, Eq)]
+#[derive(Clone, Copy, PartialEq, Eq)]
 pub enum Slot {
     Free,
     Other,

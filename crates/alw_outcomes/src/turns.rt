@@ -15,7 +15,7 @@ use sparc_exec::{Outcome, Port};
 use sparc_table::{Need, Regs};
 
 // One line as a port: its copy grants both modes, and no other line has one.
-#[derive(Clone, Copy, Debug, PartialEq, Eq)]
+#[derive(Clone, Copy, PartialEq, Eq)]
 struct Window {
     lines: u32,
     line: LineNo,
@@ -51,7 +51,7 @@ impl Port for Window {
 }
 
 /// What a turn leaves: registers, the line that it wrote, and its outcome.
-#[derive(Clone, Copy, Debug, PartialEq, Eq)]
+#[derive(Clone, Copy, PartialEq, Eq)]
 pub struct Left {
     pub regs: Regs,
     pub wrote: Option<(LineNo, Line)>,

@@ -12,7 +12,7 @@ use alw_msg::{Kind, Sends};
 use alw_num::{Line, LineNo, Mode, home_of};
 
 /// The lines of shared data, at most so many, and how many of them each node keeps.
-#[derive(Clone, Copy, Debug)]
+#[derive(Clone, Copy)]
 pub struct Homes {
     pub lines: u32,
     pub per_node: u16,

@@ -7,7 +7,7 @@ use alw_num::{LineNo, Mode};
 use std::marker::Model;
 
 /// A transaction that a slot has opened.
-#[derive(Clone, Copy, Debug)]
+#[derive(Clone, Copy)]
 pub struct Opening {
     pub line: LineNo,
     pub mode: Mode,
@@ -15,7 +15,7 @@ pub struct Opening {
 
 /// The open transactions of a node (ASPLOS 1991, section 2): at most one for each line, and at most
 /// one by each slot. Contracts see the map from lines to transactions.
-#[derive(Debug, Drop)]
+#[derive(Drop)]
 pub struct Openings {
     slots: [Option<Opening>; 4],
 }

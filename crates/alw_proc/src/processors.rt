@@ -31,7 +31,7 @@ use std::marker::Model;
 
 /// The processor side of a node (ASPLOS 1991, section 2): its contexts, its cache and its open
 /// transactions.
-#[derive(Debug, Drop)]
+#[derive(Drop)]
 pub struct Proc {
     number: NodeNo,
     width: u8,

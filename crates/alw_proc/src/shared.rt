@@ -6,7 +6,7 @@ use sparc_exec::Port;
 
 /// What a node reaches of shared data: the copies in its cache, of so many lines. Each instruction runs
 /// on the cache itself.
-#[derive(Debug, Drop)]
+#[derive(Drop)]
 pub struct Shared {
     pub cache: Cache,
     pub lines: u32,

@@ -23,7 +23,7 @@ use std::alloc::Global;
 
 /// What is told of a run as it goes: counts by node, by line and by code word, the most packets of each
 /// node, and the nodes that read each line and that wrote it.
-#[derive(Debug, Drop)]
+#[derive(Drop)]
 pub struct Tables {
     pub nodes: Table,
     pub lines: SparseTable,

@@ -6,7 +6,7 @@ use alw_model::Did;
 use alw_msg::{Event, Kind, Msg};
 
 /// What is told of an event that happened.
-#[derive(Clone, Copy, Debug, PartialEq, Eq)]
+#[derive(Clone, Copy, PartialEq, Eq)]
 pub struct Happened {
     /// The event.
     pub event: Event,

@@ -9,7 +9,7 @@ use std::alloc::Global;
 use std::marker::Model;
 
 /// Which main events are enabled within the limit, as a row for each node. Contracts see the rows.
-#[derive(Debug, Drop)]
+#[derive(Drop)]
 pub struct Ready {
     rows: Vec<Row>,
     tally: PlaceCounts,

@@ -7,7 +7,7 @@ use alw_msg::Event;
 use alw_num::{MOST_NODES, NodeNo, NodeSet};
 
 /// What is kept of a node: which of its main events are enabled within the limit.
-#[derive(Clone, Copy, Debug, PartialEq, Eq)]
+#[derive(Clone, Copy, PartialEq, Eq)]
 pub struct Row {
     /// The node's clock leaves room for a next stamp within the limit, or every context of the
     /// machine has halted. Where neither is so, the row has no events, whatever else it says.

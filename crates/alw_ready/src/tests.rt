@@ -175,7 +175,7 @@ fn wide_events_are_known(rt: HostRuntime) {
 }
 
 // A machine of one node, in which an instruction and a delivery may happen.
-#[derive(Clone, Copy, Debug)]
+#[derive(Clone, Copy)]
 struct Example;
 
 impl View for Example {

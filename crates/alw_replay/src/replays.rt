@@ -8,7 +8,7 @@ use alw_num::NoMemory;
 use std::alloc::Global;
 
 /// The machine after the longest legal front of some entries, and how many entries that is.
-#[derive(Debug, Drop)]
+#[derive(Drop)]
 pub struct Replayed {
     pub machine: Machine,
     pub kept: u32,

@@ -6,7 +6,7 @@ use std::marker::Model;
 
 /// What a report tells of a run: the sizes of the image, the parameters, how it ended, what it
 /// counted, and its lists.
-#[derive(Debug, Drop)]
+#[derive(Drop)]
 pub struct Report {
     /// Columns of the mesh, 1 to 16.
     pub width: u8,
@@ -32,7 +32,7 @@ pub struct Report {
 /// An entry of the directory (ASPLOS 1991, section 4): line, state, meta state, the nodes that hardware
 /// and those that software points to, and the answers that are still to come. Contracts see the sets as
 /// ascending lists.
-#[derive(Debug, Drop)]
+#[derive(Drop)]
 pub struct DirectoryLine {
     pub line: LineNo,
     pub state: State,

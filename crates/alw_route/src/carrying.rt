@@ -14,7 +14,7 @@ use std::alloc::Global;
 
 /// The machine after the longest legal front of some entries, how many entries that is, and the routers
 /// of its mesh with the messages that they sent, each where it begins.
-#[derive(Debug, Drop)]
+#[derive(Drop)]
 pub struct Carried {
     pub machine: Machine,
     pub kept: u32,

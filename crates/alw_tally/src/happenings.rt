@@ -10,7 +10,7 @@ use alw_num::NodeNo;
 use sparc_table::Outcome;
 
 /// What happened at one event of a run, besides what it sent.
-#[derive(Clone, Copy, Debug, PartialEq, Eq)]
+#[derive(Clone, Copy, PartialEq, Eq)]
 pub struct Happened {
     /// The node that the event was of.
     pub node: NodeNo,

@@ -11,7 +11,7 @@ use sparc_table::Outcome;
 
 /// What remains to be done at all nodes of a machine: contexts that haven't halted, those of them that
 /// have trapped, and packets that wait for the trap handler.
-#[derive(Clone, Copy, Debug, PartialEq, Eq)]
+#[derive(Clone, Copy, PartialEq, Eq)]
 pub struct Remains {
     pub live: u32,
     pub trapped: u32,

@@ -23,7 +23,7 @@ const BLOCK: u32 = 1024;
 ///
 /// Memory is asked for before an event, by `reserve`, for a block of them, so that the event itself
 /// needs none.
-#[derive(Debug, Drop)]
+#[derive(Drop)]
 pub struct Tally {
     room: u32,
     turns: Roomy<u32>,

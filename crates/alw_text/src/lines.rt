@@ -2,7 +2,7 @@ ghost use Rattle.std.specs.Prelude.{◌≡◌, ◌<◌, ◌≤◌, ◌↔◌, le
 ghost use Rattle.alw_text.specs.Lines.{is_line_feed, line_end, next_line};
 
 /// A line of a text: the places of its first byte, of its end, and of the next line.
-#[derive(Clone, Copy, Debug, PartialEq, Eq)]
+#[derive(Clone, Copy, PartialEq, Eq)]
 pub struct Span {
     pub start: usize,
     /// The place of the LF behind the line, or the end of the text.

@@ -23,7 +23,7 @@ use alw_text::Text;
 use std::alloc::Global;
 
 /// A trace that was read of a text that goes on behind its last entry, and the number of the line there.
-#[derive(Debug, Drop)]
+#[derive(Drop)]
 pub struct Front {
     pub trace: Trace,
     pub behind: u64,

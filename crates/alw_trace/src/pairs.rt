@@ -6,7 +6,7 @@ ghost use Rattle.alw_trace.specs.Lists.{IsLineOf, line_of, name_of};
 use crate::readers::{number_before, word_before};
 
 /// A list of a claim, of which each line says two numbers.
-#[derive(Clone, Copy, Debug, PartialEq, Eq)]
+#[derive(Clone, Copy, PartialEq, Eq)]
 pub enum ListKind {
     /// Contexts, each with a number of turns.
     Runs,

@@ -1,13 +1,13 @@
 use alw_num::Bytes;
 
 /// The numbers of a line of a trace, in range or not.
-#[derive(Clone, Copy, Debug, PartialEq, Eq)]
+#[derive(Clone, Copy, PartialEq, Eq)]
 pub struct RawEntry {
     pub stamp: u64,
     pub event: RawEvent,
 }
 
-#[derive(Clone, Copy, Debug, PartialEq, Eq)]
+#[derive(Clone, Copy, PartialEq, Eq)]
 pub enum RawEvent {
     Instr { node: u64 },
     Handle { node: u64 },
@@ -16,7 +16,7 @@ pub enum RawEvent {
 }
 
 /// The numbers of a line of parameters, in range or not.
-#[derive(Clone, Copy, Debug, PartialEq, Eq)]
+#[derive(Clone, Copy, PartialEq, Eq)]
 pub struct RawParams {
     pub pointers: u64,
     pub sets: u64,
@@ -24,7 +24,7 @@ pub struct RawParams {
 }
 
 /// What the lines of a trace say, in range or not.
-#[derive(Debug, Drop)]
+#[derive(Drop)]
 pub struct RawTrace {
     /// The bytes of the image.
     pub image: Bytes,
@@ -33,7 +33,7 @@ pub struct RawTrace {
 }
 
 /// What the lines of a claim say, in range or not.
-#[derive(Debug, Drop)]
+#[derive(Drop)]
 pub struct RawClaim {
     /// The bytes of the image.
     pub image: Bytes,

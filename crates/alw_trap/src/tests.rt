@@ -17,7 +17,7 @@ const LINE: LineNo = LineNo(5);
 const OTHER: LineNo = LineNo(9);
 
 // A home both ways: with a full map, and with so many hardware pointers and a software table.
-#[derive(Debug, Drop)]
+#[derive(Drop)]
 struct Home {
     full: FullMap,
     entry: HomeEntry,

@@ -14,7 +14,7 @@ pub const LINK_TO_ITSELF: [u32; 7] = [
 ];
 
 /// The sizes of a machine.
-#[derive(Clone, Copy, Debug)]
+#[derive(Clone, Copy)]
 pub struct Sizes {
     pub width: u8,
     pub height: u8,

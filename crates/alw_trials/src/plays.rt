@@ -11,7 +11,7 @@ use std::test::Fail;
 /// `code` its words in hexadecimal; `starts` a node, a slot and an address for each context. There is no data,
 /// and no Trap-Always line. `rows` are events, parted by ', ': each its stamp, and `I node`, `D from to`,
 /// `H node` or `E node set`.
-#[derive(Clone, Copy, Debug)]
+#[derive(Clone, Copy)]
 pub struct Play {
     pub sizes: &'static str,
     pub code: &'static str,

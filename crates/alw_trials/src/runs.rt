@@ -20,7 +20,7 @@ const TWO_AT_WORK: Play = Play {
 };
 
 // What is seen of a node of a machine of two nodes with one context and one line each.
-#[derive(Clone, Copy, Debug, PartialEq)]
+#[derive(Clone, Copy, PartialEq)]
 struct NodeSeen {
     status: Status,
     regs: Regs,
@@ -38,7 +38,7 @@ struct NodeSeen {
 }
 
 // What is seen of such a machine.
-#[derive(Clone, Copy, Debug, PartialEq)]
+#[derive(Clone, Copy, PartialEq)]
 struct MachineSeen {
     journal: u32,
     last_entry: Option<Entry>,

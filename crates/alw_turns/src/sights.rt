@@ -17,7 +17,7 @@ use sparc_table::{Need, Regs};
 
 /// What is read of a slot of a node before its turn: the line that it has a hold on, whether a transaction is open on
 /// the line that it needs, and what its turn is told from. The bytes of that line are those of the copy in its set.
-#[derive(Clone, Copy, Debug)]
+#[derive(Clone, Copy)]
 pub struct Seen {
     pub node: NodeNo,
     pub slot: u8,

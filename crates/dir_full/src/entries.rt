@@ -14,7 +14,7 @@ use std::marker::Model;
 /// A full-map entry of one line (ASPLOS 1991, the memory-side states and transitions): its state,
 /// a pointer to each node that may have a copy, a counter of the answers that are still to come,
 /// and the line's bytes.
-#[derive(Debug, Drop)]
+#[derive(Drop)]
 pub struct FullMap {
     state: State,
     pointers: NodeSet,

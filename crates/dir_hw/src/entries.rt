@@ -6,7 +6,7 @@ use alw_num::{Line, MOST_NODES, Meta, NodeNo, NodeSet, State};
 
 /// What hardware keeps of a line at its home (ASPLOS 1991, section 4): its state, its meta state, a
 /// counter of the answers that are still to come, the line's bytes, and a few pointers.
-#[derive(Debug, Drop)]
+#[derive(Drop)]
 pub struct HomeEntry {
     pub state: State,
     pub meta: Meta,

@@ -8,7 +8,7 @@ use std::marker::Model;
 pub const MOST_POINTERS: u8 = 8;
 
 /// A set of at most `MOST_POINTERS` nodes, one byte for each. Contracts see the set.
-#[derive(Debug, Drop)]
+#[derive(Drop)]
 pub struct Pointers {
     nodes: [u8; 8],
     count: u8,

@@ -8,7 +8,7 @@ pub const END: u32 = 0xffff_ffff;
 
 /// A place of the pool: a line with its set of nodes, and the index of the next place of its chain.
 /// A place whose set is empty is free.
-#[derive(Clone, Copy, Debug, PartialEq, Eq)]
+#[derive(Clone, Copy, PartialEq, Eq)]
 pub struct Place {
     pub line: u32,
     pub next: u32,
@@ -16,7 +16,7 @@ pub struct Place {
 }
 
 /// A place on a chain, and the one before it, if it isn't the first.
-#[derive(Clone, Copy, Debug, PartialEq, Eq)]
+#[derive(Clone, Copy, PartialEq, Eq)]
 pub struct Spot {
     pub before: Option<u32>,
     pub at: u32,

@@ -14,7 +14,7 @@ use std::marker::Model;
 /// The sets stand in one pool of places, linked by index. A line's place is on the chain of its
 /// bucket, the line modulo the number of buckets; the free places are on a chain of their own, whose
 /// head stands behind the buckets'.
-#[derive(Debug, Drop)]
+#[derive(Drop)]
 pub struct SoftDir {
     lines: u32,
     buckets: u32,

@@ -36,7 +36,7 @@ impl From<NoMemory> for HopErr {
 /// Each node has five input queues. A message goes along the row to the right column, and then along
 /// that column; `inject` puts it at the end of the `Local` queue of its first node, and `hop` takes
 /// the head of a queue one node further, or, at its last node, to its pair's arrivals.
-#[derive(Debug, Drop)]
+#[derive(Drop)]
 pub struct Hops {
     width: u8,
     height: u8,

@@ -2,7 +2,7 @@ use alw_num::NodeNo;
 
 /// The input queues of a node's router, named by the side from which a message came; North is the
 /// side of the smaller row, and `Local` the node itself.
-#[derive(Clone, Copy, Debug, PartialEq, Eq)]
+#[derive(Clone, Copy, PartialEq, Eq)]
 pub enum Port {
     Local,
     West,

@@ -8,7 +8,7 @@ use std::collections::VecDeque;
 use std::marker::Model;
 
 /// A message with the node that it was injected at and the node that it goes to.
-#[derive(Clone, Copy, Debug, PartialEq, Eq)]
+#[derive(Clone, Copy, PartialEq, Eq)]
 pub struct Packet {
     pub from: NodeNo,
     pub to: NodeNo,
@@ -16,7 +16,7 @@ pub struct Packet {
 }
 
 /// One input queue of a router, a ring that grows. Contracts see the list of its messages.
-#[derive(Debug, Drop)]
+#[derive(Drop)]
 pub struct Queue {
     packets: VecDeque<Packet>,
 }

@@ -12,7 +12,7 @@ use crate::values::{Sum, value_of};
 use sparc_table::{Instr, Operand};
 
 /// The instructions that a statement stands for: a directive has none, `set` has two.
-#[derive(Clone, Copy, Debug, PartialEq, Eq)]
+#[derive(Clone, Copy, PartialEq, Eq)]
 pub enum Coded {
     Nothing,
     One(Instr),

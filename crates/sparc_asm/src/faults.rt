@@ -20,7 +20,7 @@ pub enum AsmErr {
 }
 
 /// What is wrong with a line in the second or the third pass.
-#[derive(Clone, Copy, Debug, PartialEq, Eq)]
+#[derive(Clone, Copy, PartialEq, Eq)]
 pub enum Fault {
     UnknownName,
     Redefined,

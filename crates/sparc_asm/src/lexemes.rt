@@ -8,7 +8,7 @@ use alw_text::digits;
 use sparc_lex::{TokenKind, Tokens, clear};
 
 /// What a token says.
-#[derive(Debug, Drop)]
+#[derive(Drop)]
 pub enum Lexeme<'a> {
     /// A name, or the name of an instruction.
     Name(Name<'a>),

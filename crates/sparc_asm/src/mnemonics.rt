@@ -4,7 +4,7 @@ ghost use Rattle.sparc_asm.specs.Mnemonics.{row_of, mnemonics, directives, form_
 use alw_num::Width;
 
 /// The form of a statement: how its operands are written, and what it does with them.
-#[derive(Clone, Copy, Debug, PartialEq, Eq)]
+#[derive(Clone, Copy, PartialEq, Eq)]
 pub enum Form {
     Arith { op3: u8 },
     Shift { op3: u8 },

@@ -11,7 +11,7 @@ use std::hash::{Hash, Hasher};
 use std::marker::Model;
 
 /// A name, where it stands in a source. Contracts see its bytes.
-#[derive(Debug, Drop)]
+#[derive(Drop)]
 pub struct Name<'a> {
     bytes: &'a [u8],
 }
@@ -64,14 +64,14 @@ impl<'a> Hash for Name<'a> {
 }
 
 /// What a name stands for: `plus` less `minus`.
-#[derive(Clone, Copy, Debug, PartialEq, Eq)]
+#[derive(Clone, Copy, PartialEq, Eq)]
 pub struct Value {
     pub plus: u32,
     pub minus: u32,
 }
 
 /// The names that are defined, with their values.
-#[derive(Debug, Drop)]
+#[derive(Drop)]
 pub struct Names<'a> {
     map: HashMap<Name<'a>, Value>,
 }

@@ -10,7 +10,7 @@ use sparc_lex::{LexErr, Tokens, line_tokens};
 use std::alloc::Global;
 
 // The tokens and the lexemes of the line that is read. Their room serves the next line.
-#[derive(Debug, Drop)]
+#[derive(Drop)]
 struct Read<'a> {
     tokens: Tokens,
     lexemes: Lexemes<'a>,

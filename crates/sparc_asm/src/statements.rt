@@ -2,7 +2,7 @@ use crate::names::Name;
 use alw_num::{Sequence, Width};
 
 /// A term of an expression.
-#[derive(Debug, Drop)]
+#[derive(Drop)]
 pub enum Term<'a> {
     Number(u32),
     Name(Name<'a>),
@@ -11,7 +11,7 @@ pub enum Term<'a> {
 }
 
 /// A term that is added, or taken away where `minus` is true.
-#[derive(Debug, Drop)]
+#[derive(Drop)]
 pub struct Signed<'a> {
     pub minus: bool,
     pub term: Term<'a>,
@@ -21,7 +21,7 @@ pub struct Signed<'a> {
 pub type Expression<'a> = Sequence<Signed<'a>>;
 
 /// A second operand: a register, a number, or the low ten bits of one.
-#[derive(Debug, Drop)]
+#[derive(Drop)]
 pub enum Source<'a> {
     Register(u8),
     Number(Expression<'a>),
@@ -29,7 +29,7 @@ pub enum Source<'a> {
 }
 
 /// An address: the sum of a register and an operand.
-#[derive(Debug, Drop)]
+#[derive(Drop)]
 pub struct Address<'a> {
     pub base: u8,
     pub offset: Source<'a>,
@@ -37,7 +37,7 @@ pub struct Address<'a> {
 
 /// A statement. The synthetic forms stand as the instructions that they are; `op3` and `cond` are
 /// the fields of the instruction word.
-#[derive(Debug, Drop)]
+#[derive(Drop)]
 pub enum Statement<'a> {
     Arith {
         op3: u8,
@@ -133,7 +133,7 @@ pub enum Statement<'a> {
 }
 
 /// A line of a source: a label, a statement, both or neither.
-#[derive(Debug, Drop)]
+#[derive(Drop)]
 pub struct Line<'a> {
     pub label: Option<Name<'a>>,
     pub statement: Option<Statement<'a>>,

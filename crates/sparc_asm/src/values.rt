@@ -6,7 +6,7 @@ use crate::names::{Names, Value};
 use crate::statements::{Expression, Term};
 
 /// The value of an expression: `plus` less `minus`.
-#[derive(Clone, Copy, Debug, PartialEq, Eq)]
+#[derive(Clone, Copy, PartialEq, Eq)]
 pub struct Sum {
     pub plus: u64,
     pub minus: u64,

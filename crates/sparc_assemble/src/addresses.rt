@@ -7,7 +7,7 @@ use std::alloc::Global;
 use std::marker::Model;
 
 /// Where contexts start.
-#[derive(Debug, Drop)]
+#[derive(Drop)]
 pub struct Addresses {
     addresses: Vec<Option<u32>>,
 }

@@ -11,7 +11,7 @@ use sparc_place::lay_out;
 use std::alloc::Global;
 
 /// An assembled source.
-#[derive(Debug, Drop)]
+#[derive(Drop)]
 pub struct Assembled {
     pub image: Image,
     /// The source line of each code word, counted from 1.

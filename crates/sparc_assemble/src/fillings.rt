@@ -20,7 +20,7 @@ use std::alloc::Global;
 
 /// What the lines so far have filled in: code words with the source line of each, the bytes of shared data, and where
 /// contexts start.
-#[derive(Debug, Drop)]
+#[derive(Drop)]
 pub struct Filling {
     pub words: Sequence<(u32, u32)>,
     pub memory: Memory,

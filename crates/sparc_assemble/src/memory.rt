@@ -8,7 +8,7 @@ use std::alloc::Global;
 use std::marker::Model;
 
 /// The bytes of shared data, from the first to the last that was written. Those behind are 0.
-#[derive(Debug, Drop)]
+#[derive(Drop)]
 pub struct Memory {
     bytes: Vec<u8>,
 }

@@ -2,7 +2,7 @@ use alw_num::NoMemory;
 use sparc_asm::Fault;
 
 /// Why a line fills in nothing.
-#[derive(Clone, Copy, Debug, PartialEq, Eq)]
+#[derive(Clone, Copy, PartialEq, Eq)]
 pub enum Refusal {
     Fault(Fault),
     NoMemory,

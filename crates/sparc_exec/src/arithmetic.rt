@@ -7,7 +7,7 @@ ghost use Rattle.sparc_table.specs.Table.{FitsOperand};
 use sparc_table::{Operand, Regs};
 
 // A result with the overflow and carry codes that come with it.
-#[derive(Clone, Copy, Debug, PartialEq, Eq)]
+#[derive(Clone, Copy, PartialEq, Eq)]
 struct Computed {
     value: u32,
     overflow: bool,

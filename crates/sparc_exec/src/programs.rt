@@ -14,7 +14,7 @@ use std::alloc::Global;
 use std::marker::Model;
 
 /// A program: its words from address 0 on, each decoded once. Contracts see the words.
-#[derive(Debug, Drop)]
+#[derive(Drop)]
 pub struct Program {
     code: Sequence<u32>,
     instrs: Vec<Option<Instr>>,

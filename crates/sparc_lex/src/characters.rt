@@ -3,7 +3,7 @@ ghost use Rattle.sparc_lex.specs.Characters.{is_of, begins_name, is_mark, is_all
 ghost use Rattle.sparc_lex.specs.Cut.{run_of};
 
 /// A class of characters.
-#[derive(Clone, Copy, Debug, PartialEq, Eq)]
+#[derive(Clone, Copy, PartialEq, Eq)]
 pub enum Class {
     Blank,
     Letter,

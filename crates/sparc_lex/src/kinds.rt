@@ -1,7 +1,7 @@
 use alw_num::{NoMemory, Sequence};
 
 /// What a token is.
-#[derive(Clone, Copy, Debug, PartialEq, Eq)]
+#[derive(Clone, Copy, PartialEq, Eq)]
 pub enum TokenKind {
     /// A name, or `.` and one or more letters.
     Word,
@@ -17,7 +17,7 @@ pub enum TokenKind {
 
 /// A token: the number of its line, counted from 1, the places in the source of its first byte and
 /// of the byte behind it, and its kind.
-#[derive(Clone, Copy, Debug, PartialEq, Eq)]
+#[derive(Clone, Copy, PartialEq, Eq)]
 pub struct Token {
     pub line: u32,
     pub start: usize,

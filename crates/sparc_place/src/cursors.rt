@@ -3,7 +3,7 @@ ghost use Rattle.std.specs.Prelude.{◌≡◌, ◌≤◌, ◌+◌, ◌*◌, if�
 use alw_num::Sequence;
 
 /// Where the next line stands.
-#[derive(Clone, Copy, Debug)]
+#[derive(Clone, Copy)]
 pub struct Cursor {
     pub in_data: bool,
     /// Code words so far.
@@ -35,7 +35,7 @@ impl Cursor {
 }
 
 /// Where a line stands, and the context that it starts: node 0 and slot 0 where it starts none.
-#[derive(Clone, Copy, Debug, PartialEq, Eq)]
+#[derive(Clone, Copy, PartialEq, Eq)]
 pub struct Place {
     /// The address of its first byte.
     pub here: u32,

@@ -7,7 +7,7 @@ use std::alloc::Global;
 use std::marker::Model;
 
 /// A set of numbers, as their marks: a number past the last mark isn't in it. Contracts see the marks.
-#[derive(Debug, Drop)]
+#[derive(Drop)]
 pub struct Marks {
     marks: Vec<bool>,
 }

@@ -9,7 +9,7 @@ use sparc_asm::{AsmErr, Fault, Line, Lines};
 use std::alloc::Global;
 
 /// What all lines of a source have laid down, and where each of them stands.
-#[derive(Debug, Drop)]
+#[derive(Drop)]
 pub struct Laid<'a> {
     pub plan: Plan<'a>,
     pub places: Places,

@@ -11,7 +11,7 @@ use sparc_asm::{Expression, Name, Names, Sum, Value, value_of};
 use std::alloc::Global;
 
 /// What the lines so far have laid down.
-#[derive(Debug, Drop)]
+#[derive(Drop)]
 pub struct Plan<'a> {
     pub(crate) sizes: Sizes,
     pub(crate) begun: bool,
@@ -23,7 +23,7 @@ pub struct Plan<'a> {
 }
 
 /// What a statement without a fault lays down.
-#[derive(Debug, Drop)]
+#[derive(Drop)]
 pub enum Step<'a> {
     /// A size: the sizes are these from then on.
     Sized(Sizes),

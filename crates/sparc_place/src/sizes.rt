@@ -4,7 +4,7 @@ ghost use Rattle.sparc_place.specs.Sizes.{size_of};
 use alw_num::{MOST_LINES, MOST_NODES};
 
 /// The sizes that a source gives: None where it doesn't, which stands for 1.
-#[derive(Clone, Copy, Debug)]
+#[derive(Clone, Copy)]
 pub struct Sizes {
     /// Columns of the mesh, at most 16.
     pub width: Option<u8>,

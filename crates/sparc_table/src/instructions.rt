@@ -1,6 +1,6 @@
 /// The second operand of a format 3 instruction: a register where bit 13 of the word is 0, and
 /// bits 12 to 0 of the word where it is 1 (SPARC V8 manual, chapter 5, instruction formats).
-#[derive(Clone, Copy, Debug, PartialEq, Eq)]
+#[derive(Clone, Copy, PartialEq, Eq)]
 pub enum Operand {
     Reg { rs2: u8 },
     Imm { bits: u16 },
@@ -8,7 +8,7 @@ pub enum Operand {
 
 /// An instruction by its row of the table. Each field holds the bits of its field in the word, as
 /// an unsigned number (SPARC V8 manual, chapter 5 and appendix B).
-#[derive(Clone, Copy, Debug, PartialEq, Eq)]
+#[derive(Clone, Copy, PartialEq, Eq)]
 pub enum Instr {
     /// CALL: `disp` has 30 bits.
     Call {

@@ -2,7 +2,7 @@ use alw_num::{LineNo, Mode};
 
 /// What an instruction needs before it can take effect: nothing, a copy of a line in a mode, or a
 /// trap of this type instead.
-#[derive(Clone, Copy, Debug, PartialEq, Eq)]
+#[derive(Clone, Copy, PartialEq, Eq)]
 pub enum Need {
     Nothing,
     Copy { line: LineNo, mode: Mode },

@@ -3,7 +3,7 @@ ghost use Rattle.sparc_table.specs.Registers.{start_of, register, with_register}
 
 /// The registers of a context: 32 integer registers, Y, the condition codes n, z, v and c, PC and
 /// nPC (SPARC V8 manual, chapter 4). Register 0 is kept 0.
-#[derive(Clone, Copy, Debug, PartialEq, Eq)]
+#[derive(Clone, Copy, PartialEq, Eq)]
 pub struct Regs {
     pub r: [u32; 32],
     pub y: u32,
