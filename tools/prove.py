@@ -2,7 +2,7 @@
 """Proves the crates of the program side by side: tools/prove.py SCRATCH.
 
 A crate begins once those below it stand, first the one with the longest chain of others above it, by lines of code. It takes the processors that no
-other waits for, at most four. The toolchain lets one command at a time work in a checkout, so each works in a lane: a copy of the sources below
+other waits for, at most four, and two where no other chain is longer. The toolchain lets one command at a time work in a checkout, so each works in a lane: a copy of the sources below
 SCRATCH. What it makes goes to the checkout, and to the other lanes by links. The program's own crate comes last, in the checkout. Standard error tells
 which crates stand. Ends with 1 where one isn't proved, and says what the toolchain said of it.
 """
@@ -103,8 +103,8 @@ class Proofs:
 
     def __init__(self, root, scratch):
         self.root, self.crates = root, crates_of_program(root)
-        self.most, longest = jobs_that_fit(), chains(root, self.crates)
-        self.left = sorted((name for name in self.crates if name != PROGRAM), key=lambda name: -longest[name])
+        self.most, self.chains = jobs_that_fit(), chains(root, self.crates)
+        self.left = sorted((name for name in self.crates if name != PROGRAM), key=lambda name: -self.chains[name])
         self.stand, self.running, self.checks = set(), {}, {}
         self.free = [self.lane(scratch / f'lane-{number}') for number in range(min(self.most, len(self.left)))]
         self.lanes = list(self.free)
@@ -137,14 +137,20 @@ class Proofs:
             move(there / part, here / part)
         return status, said
 
+    def jobs_of(self, name, idle, waiting):
+        """How many of the idle processors a crate takes, where so many crates wait for them, with itself."""
+        under_way = [other for other, _, _ in self.running.values()]
+        is_last = all(self.chains[name] >= self.chains[other] for other in [*self.left, *under_way])
+        return min(MOST_JOBS, idle, max(idle // waiting, 2 if is_last else 1))
+
     def begin(self, pool):
-        """Begins what can begin, with the jobs that no other crate waits for."""
+        """Begins what can begin."""
         ready = [name for name in self.left if self.stand.issuperset(self.crates[name])]
         for at, name in enumerate(ready):
             idle = self.most - sum(jobs for _, _, jobs in self.running.values())
             if idle <= 0:
                 return
-            jobs = max(1, min(MOST_JOBS, idle // (len(ready) - at)))
+            jobs = self.jobs_of(name, idle, len(ready) - at)
             lane = self.free.pop()
             self.left.remove(name)
             self.running[pool.submit(self.prove_in, lane, name, jobs)] = name, lane, jobs

@@ -6,8 +6,6 @@ mod cells;
 #[cfg(test)]
 mod images;
 #[cfg(test)]
-mod joins;
-#[cfg(test)]
 mod merges;
 #[cfg(test)]
 mod nodes;
