@@ -71,18 +71,17 @@ impl Flat {
         })
     }
 
-    /// A turn of a context that is Ready: the instruction at its PC, on the one memory. It never
-    /// misses.
+    /// A turn of a context that is Ready, on its registers where they stand: the instruction at its
+    /// PC, on the one memory. It never misses.
     pub fn turn(&mut self, context: u32) -> Outcome
         requires { IsTrue (is_ready (context_at self.old.flat context).status) }
         ensures state { self.new ≡ record self.old { flat = (flat_turn self.old.parts self.old.flat context).0 } }
         ensures outcome { result ≡ (flat_turn self.old.parts self.old.flat context).1 }
         ensures hits { (line : LineNo) → (mode : Mode) → result ≢ Outcome.Miss line mode }
     {
-        let mut regs = self.contexts[context as usize].regs;
-        let outcome = self.code.turn(&mut regs, &mut self.memory);
-        let status = left_by(&regs, outcome);
-        self.contexts[context as usize] = Context { regs, status };
+        let here = &mut self.contexts[context as usize];
+        let outcome = self.code.turn(&mut here.regs, &mut self.memory);
+        here.status = left_by(&here.regs, outcome);
         outcome
     }
 
