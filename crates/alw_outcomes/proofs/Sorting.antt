@@ -1,6 +1,6 @@
 -- One of each different key, from numbers that are sorted by their keys.
 use Rattle.std.proofs.Common.{◌≡◌, ◌≢◌, ℕ, zero, suc, ◌+◌, ◌-◌, ◌<◌, ◌≤◌, ◌⊎◌, inl, inr, Bool, true, false, not, nat_eq, Some, List, [], ◌∷◌, ◌++◌, length, map, slice_index_or, refl, sym, ap, ◌∙◌, subst, arith}
-use Rattle.std.specs.List.{slice_get, Contains, AllByRecursion, range_with_len}
+use Rattle.std.specs.List.{slice_get, Contains, AllByRecursion}
 use Rattle.std.specs.List.Sorted.{IsStrictlySortedBy, IsPermutation}
 use Rattle.std.specs.declared.cmp.Ordering.{Ordering}
 use Rattle.std.specs.declared.cmp.Ordering.TheVariants.{Less, Equal, Greater}
@@ -210,16 +210,6 @@ keyed_more key keyed after one are is pushed other has = go (Contains-push_cases
 
 pub numbers_more : (keyed after : List Keyed) (one : Keyed) → after ≡ keyed ++ one ∷ [] → numbers_of after ≡ numbers_of keyed ++ one.number ∷ []
 numbers_more keyed after one pushed = ap numbers_of pushed ∙ map-append (λ (x : Keyed). x.number) keyed (one ∷ [])
-
-range_suc : (a n : ℕ) → range_with_len a (suc n) ≡ range_with_len a n ++ (a + n) ∷ []
-range_suc a zero = let e : a ≡ a + 0 = omega arith in λ i. e i ∷ []
-range_suc a (suc n) = let e : (a + 1) + n ≡ a + suc n = omega arith in ap (λ (l : List ℕ). a ∷ l) (range_suc (a + 1) n) ∙ (λ i. a ∷ (range_with_len (a + 1) n ++ e i ∷ []))
-
-pub range_more : (n : ℕ) → range_with_len 0 (n + 1) ≡ range_with_len 0 n ++ n ∷ []
-range_more n =
-    let next : n + 1 ≡ suc n = omega arith in
-    let end : 0 + n ≡ n = omega arith in
-    ap (range_with_len 0) next ∙ range_suc 0 n ∙ (λ i. range_with_len 0 n ++ end i ∷ [])
 
 -- a comparison of two keys says whether the second is new
 pub new_by : (keyed : List Keyed) (i : ℕ) (before here : Keyed) (r : Bool) → (i ≡ 0 → ⊥) → i < length keyed → before ≡ slice_index_or keyed (i - 1) before → here ≡ slice_index_or keyed i here → r ≡ not (pointwise nat_eq before.key.items here.key.items) → IsNew keyed i r

@@ -4,17 +4,14 @@ use Rattle.std.proofs.Common.{◌⊎◌, inl, inr, arith}
 use Rattle.std.specs.List.{range_with_len}
 use Rattle.std.proofs.lemmas.Bool.{le-leb, lt-leb, cases_order}
 use Rattle.std.proofs.lemmas.List.{reverse-append}
+use Rattle.alw_num.proofs.Lists.{range_more}
 use Rattle.alw_msg.specs.Lists.{behind}
 use Rattle.mesh_route.specs.Routes.{node_at, stretch, path}
 
-range_more : (a n : ℕ) → range_with_len a (suc n) ≡ range_with_len a n ++ (a + n) ∷ []
-range_more a zero = let same : a ≡ a + 0 = omega arith in ap (λ k. k ∷ []) same
-range_more a (suc n) =
-    let last : a + 1 + n ≡ a + suc n = omega arith in
-    ap (λ rest. a ∷ rest) (range_more (a + 1) n ∙ ap (λ k. range_with_len (a + 1) n ++ k ∷ []) last)
-
 range_back : (a n : ℕ) → reverse (range_with_len a (suc n)) ≡ (a + n) ∷ reverse (range_with_len a n)
-range_back a n = ap reverse (range_more a n) ∙ reverse-append (range_with_len a n) ((a + n) ∷ [])
+range_back a n =
+    let next : suc n ≡ n + 1 = omega arith in
+    ap (λ k. reverse (range_with_len a k)) next ∙ (ap reverse (range_more a n (a + n) refl) ∙ reverse-append (range_with_len a n) ((a + n) ∷ []))
 
 ascending : (a b n : ℕ) → a + n ≡ b → stretch a b ≡ range_with_len a (suc n)
 ascending a b n e =
