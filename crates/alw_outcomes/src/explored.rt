@@ -45,20 +45,12 @@ pub struct Trapped {
     pub tt: u8,
 }
 
-/// Which turns a search takes at a place: a private turn alone where there is one, or those of all contexts.
-#[derive(Clone, Copy, PartialEq, Eq)]
-pub enum Search {
-    Reduced,
-    Whole,
-}
-
 /// What a search has found: how many places it may keep, its hint, pools, leads, and of each place the
 /// number of its memory, those of its contexts, and where it came from.
 #[derive(Drop)]
 pub struct Explored {
     pub width: u32,
     pub most: u32,
-    pub search: Search,
     pub classes: Vec<Class>,
     pub pools: Pools,
     pub leads: Remembered,
@@ -79,14 +71,13 @@ pub(crate) fn explore_by(
     image: &Image,
     classes: &[Class],
     most: u32,
-    search: Search,
 ) -> Result<Explored, NoMemory>
     ensures stored { IfOk result (λ found. IsStored image.now found) }
     ensures real { IfOk result (λ found. IsReal image.now (found_in found)) }
     ensures closed { IfOk result (λ found. IsTrue found.is_complete → IsClosed image.now found.classes.items (found_in found)) }
     ensures complete { IfOk result (λ found. IsTrue found.is_complete → HasEvery image.now (endings_in (found_in found))) }
 {
-    let mut found = start(alloc, image, classes, most, search)?;
+    let mut found = start(alloc, image, classes, most)?;
     let is_complete = expand_all(image, &mut found, most)?;
     found.is_complete = is_complete;
     Ok(found)
@@ -151,13 +142,7 @@ fn push_times(turns: &mut Vec<u32>, context: u32, times: u32) -> Result<(), NoMe
 }
 
 // The start alone is found.
-fn start(
-    alloc: Global,
-    image: &Image,
-    classes: &[Class],
-    most: u32,
-    search: Search,
-) -> Result<Explored, NoMemory>
+fn start(alloc: Global, image: &Image, classes: &[Class], most: u32) -> Result<Explored, NoMemory>
     ensures stored { IfOk result (λ found. IsStored image.now found) }
     ensures real { IfOk result (λ found. IsReal image.now (found_in found)) }
     ensures hint { IfOk result (λ found. found.classes.items ≡ classes.now) }
@@ -177,7 +162,6 @@ fn start(
     Ok(Explored {
         width: contexts_of(image),
         most,
-        search,
         classes: classes.to_vec(alloc)?,
         pools,
         leads: Remembered::empty(alloc),
@@ -261,16 +245,8 @@ fn expand(image: &Image, found: &mut Explored, at: u32) -> Result<bool, NoMemory
     }
 }
 
-// A private turn of a context is looked for. Behind each turn those of its context are taken at once, so
-// that none is left but at the first places, where some context has taken no turn.
-fn may_go_alone(found: &Explored, at: u32) -> bool {
-    match found.search {
-        Search::Reduced => at < found.width,
-        Search::Whole => false,
-    }
-}
-
-// The first context with a private turn, where one is looked for.
+// The first context with a private turn. Behind each turn those of its context are taken at once, so that
+// none is left but at the first places, where some context has taken no turn.
 fn first_alone(image: &Image, found: &mut Explored, at: u32) -> Result<Option<u32>, NoMemory>
     requires at { at < length found.old.memories.items }
     requires stored { IsStored image.now found.old }
@@ -282,7 +258,7 @@ fn first_alone(image: &Image, found: &mut Explored, at: u32) -> Result<Option<u3
     ensures context { IfOk result (λ first. IfSome first (λ context. context < context_count image.now)) }
     ensures alone { IfOk result (λ first. IfSome first (λ context. IsAlone image.now found.new.classes.items (found_in found.new) at context)) }
 {
-    if !may_go_alone(found, at) {
+    if at >= found.width {
         return Ok(None);
     }
     for context in 0..contexts_of(image) {
@@ -437,11 +413,14 @@ pub(crate) fn lead_at(
     if let Some(lead) = found.leads.find(here, context) {
         return Ok(lead);
     }
-    let most = match found.search {
-        Search::Reduced => MOST_PRIVATE,
-        Search::Whole => 0,
-    };
-    let lead = lead_of(image, &found.classes, &mut found.pools, here, context, most)?;
+    let lead = lead_of(
+        image,
+        &found.classes,
+        &mut found.pools,
+        here,
+        context,
+        MOST_PRIVATE,
+    )?;
     let known = Known {
         at: here,
         context,

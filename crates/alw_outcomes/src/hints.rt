@@ -3,7 +3,7 @@ ghost use Rattle.alw_outcomes.specs.Outcomes.{HasEvery};
 ghost use Rattle.alw_outcomes.specs.Explored.{found_in, endings_in, IsStored, IsReal, IsClosed};
 
 use crate::classes::{Broken, Class, class_at};
-use crate::explored::{Explored, Search, explore_by};
+use crate::explored::{Explored, explore_by};
 use crate::turns::lines_of;
 use alw_image::Image;
 use alw_num::{Mode, NoMemory};
@@ -21,25 +21,13 @@ pub fn explore(alloc: Global, image: &Image, most: u32) -> Result<Explored, NoMe
     let lines = lines_of(image);
     let mut classes = vec![in alloc; Class::Fixed; lines as usize]?;
     for _round in 0..lines.saturating_mul(2) {
-        let found = explore_by(alloc, image, &classes, most, Search::Reduced)?;
+        let found = explore_by(alloc, image, &classes, most)?;
         match first_break(&found.broken) {
             Some(turn) => weaken(&mut classes, turn),
             None => return Ok(found),
         }
     }
-    let found = explore_by(alloc, image, &classes, most, Search::Reduced)?;
-    Ok(found)
-}
-
-/// Finds every outcome of an image by the turns of all contexts at each place. It answers as
-/// `explore` does, from more places.
-pub fn explore_whole(alloc: Global, image: &Image, most: u32) -> Result<Explored, NoMemory>
-    ensures stored { IfOk result (λ found. IsStored image.now found) }
-    ensures real { IfOk result (λ found. IsReal image.now (found_in found)) }
-    ensures closed { IfOk result (λ found. IsTrue found.is_complete → IsClosed image.now found.classes.items (found_in found)) }
-    ensures complete { IfOk result (λ found. IsTrue found.is_complete → HasEvery image.now (endings_in (found_in found))) }
-{
-    let found = explore_by(alloc, image, &[], most, Search::Whole)?;
+    let found = explore_by(alloc, image, &classes, most)?;
     Ok(found)
 }
 

@@ -17,8 +17,8 @@ mod turns;
 
 pub use classes::{Broken, Class};
 pub use endings::{Endings, endings_of};
-pub use explored::{Explored, Origin, Search, Trapped, turns_to};
-pub use hints::{explore, explore_whole};
+pub use explored::{Explored, Origin, Trapped, turns_to};
+pub use hints::explore;
 pub use laws::{
     different_endings_are_one, each_trap_is_told, local_turns_commute, private_turns_first,
     reduced_set_tells_all, turns_come_to,

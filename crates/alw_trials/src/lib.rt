@@ -10,8 +10,6 @@ mod merges;
 #[cfg(test)]
 mod nodes;
 #[cfg(test)]
-mod outcomes;
-#[cfg(test)]
 mod plays;
 #[cfg(test)]
 mod runs;

@@ -103,8 +103,8 @@ fn parts_of(alloc: Global, play: &Play) -> Result<Parts, Fail> {
     })
 }
 
-/// The image of a run.
-pub fn image_of(alloc: Global, play: &Play) -> Result<Image, Fail> {
+// The image of a run.
+fn image_of(alloc: Global, play: &Play) -> Result<Image, Fail> {
     Ok(Image::from_parts(parts_of(alloc, play)?).ok_or("no image")?)
 }
 
