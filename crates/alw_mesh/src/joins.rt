@@ -9,14 +9,13 @@ ghost use Rattle.alw_mesh.specs.Joins.{PartsAreJoined};
 
 use crate::errors::{FitErr, MOST_STEPS};
 use crate::joining::LinkLists;
-use crate::machines::Machine;
+use crate::machines::{Machine, blank};
 use crate::meshes::Mesh;
 use alw_image::{Image, Params};
 use alw_model::{Counts, TrapAt};
-use alw_msg::{Journal, Prints, Sends, Turns};
+use alw_msg::{Journal, Prints, Turns};
 use alw_node::Nodes;
 use alw_num::NoMemory;
-use alw_ready::Ready;
 use alw_tally::Tally;
 use std::alloc::Global;
 
@@ -59,13 +58,13 @@ impl Machine {
         ensures { IfOk result (λ machine. machine ≡ joined_of mesh.image mesh.parameters journal) }
     {
         let count = u32::from(mesh.count());
-        let mut ready = Ready::start(alloc, count)?;
+        let (sent, mut ready) = blank(alloc, count)?;
         ready.renew_all(&mesh);
         Ok(Machine {
             mesh,
             joined: journal.len(),
             journal,
-            sent: Sends::room(alloc, count)?,
+            sent,
             tally,
             ready,
         })
@@ -112,6 +111,16 @@ fn first_trap(
     ensures { IfOk result (λ trap. trap ≡ ends.first_trap 0 (moments image.now params.now journal.now)) }
 {
     let mut machine = begin(alloc, image, params)?;
+    trap_along(&mut machine, journal)
+}
+
+// The first trapping turn of a machine that hasn't begun and takes the events of its journal, up to that
+// turn.
+fn trap_along(machine: &mut Machine, journal: &Journal) -> Result<Option<TrapAt>, NoMemory>
+    requires begun { machine.old ≡ begun machine.old.image machine.old.parameters }
+    requires legal { IsLegal machine.old.image machine.old.parameters journal.now }
+    ensures { IfOk result (λ trap. trap ≡ ends.first_trap 0 (moments machine.old.image machine.old.parameters journal.now)) }
+{
     for entry in journal.members() {
         machine.take(entry.event)?;
         let trap = machine.trap();

@@ -1,4 +1,4 @@
-ghost use Rattle.std.specs.Prelude.{◌≡◌, ◌&&◌, not, IsTrue};
+ghost use Rattle.std.specs.Prelude.{◌≡◌, ◌≤◌, ◌&&◌, [], not, length, IfOk, IsTrue};
 ghost use Rattle.alw_mesh.specs.Histories.{Starts, Takes, Steps, may_be_next, entry_of, ArePartsOf};
 
 use crate::errors::{FitErr, StepErr, fit};
@@ -8,7 +8,7 @@ use crate::stepping::is_quiet;
 use alw_image::{Image, Params};
 use alw_model::Did;
 use alw_msg::{Entry, Event, Journal, Sends};
-use alw_num::NoMemory;
+use alw_num::{MOST_NODES, NoMemory};
 use alw_ready::{Happened as Changes, Ready, is_wide};
 use alw_tally::Tally;
 use std::alloc::Global;
@@ -46,14 +46,14 @@ impl Machine {
     {
         fit(image, params)?;
         let nodes = u32::from(image.nodes());
+        let (sent, mut ready) = blank(alloc, nodes)?;
         let mesh = Mesh::start(alloc, image, params)?;
-        let mut ready = Ready::start(alloc, nodes)?;
         ready.renew_all(&mesh);
         Ok(Machine {
             mesh,
             journal: Journal::empty(alloc),
             joined: 0,
-            sent: Sends::room(alloc, nodes)?,
+            sent,
             tally: Tally::start(alloc),
             ready,
         })
@@ -135,6 +135,19 @@ impl Machine {
             prints,
         }
     }
+}
+
+/// Room for a message to each of so many nodes, and rows of them that say nothing: what a machine has
+/// before its nodes are there, so that less is given up where memory is refused.
+pub(crate) fn blank(alloc: Global, nodes: u32) -> Result<(Sends, Ready), NoMemory>
+    requires { nodes ≤ MOST_NODES }
+    ensures room { IfOk result (λ made. made.0.room ≡ nodes) }
+    ensures empty { IfOk result (λ made. made.0.messages ≡ []) }
+    ensures rows { IfOk result (λ made. length made.1 ≡ nodes) }
+{
+    let sent = Sends::room(alloc, nodes)?;
+    let ready = Ready::start(alloc, nodes)?;
+    Ok((sent, ready))
 }
 
 // A test holds after something and didn't before.

@@ -4,17 +4,13 @@ use Rattle.alw_mesh.proofs.OneNode.{few_nodes}
 use Rattle.alw_mesh.proofs.Joined.{machine_joins}
 use Rattle.alw_mesh.proofs.machines.Machine.of.Goals as goal
 
-pub start-requires : goal.start-requires
-start-requires c = omega (arith, few_nodes c.args.mesh.image c.requires.run.image, c.from-count.ensures, c.count.ensures)
+pub blank-requires : goal.blank-requires
+blank-requires c = omega (arith, few_nodes c.args.mesh.image c.requires.run.image, c.from-count.ensures, c.count.ensures)
 
 pub renew_all-requires-clause-few : goal.renew_all-requires-clause-few
 renew_all-requires-clause-few c = few_nodes c.args.mesh.image c.requires.run.image
 
-pub room-requires : goal.room-requires
-room-requires c = omega (arith, few_nodes c.args.mesh.image c.requires.run.image, c.from-count.ensures, c.count.ensures)
-
-pub invariant_of-result-3 : goal.invariant_of-result-3
-invariant_of-result-3 c =
-    rw (c.mesh.view_is, c.journal.view_is)
-    (machine_joins {grid = c.args.mesh} {sent = c.in_ok-room.field-0} {tally = c.args.tally} {ready = c.renew_all.new.self} c.args.journal c.len.result c.requires c.len.ensures
-    (c.in_ok-room.ensures.room ∙ (c.from-count.ensures ∙ c.count.ensures)) c.in_ok-room.ensures.empty c.renew_all.ensures)
+pub invariant_of-result : goal.invariant_of-result
+invariant_of-result c =
+    machine_joins {grid = c.args.mesh} {sent = c.in_ok-sent.sent} {tally = c.args.tally} {ready = c.renew_all.new.self} c.args.journal c.len.result c.requires c.len.ensures
+    (c.in_ok-sent.ensures.room ∙ (c.from-count.ensures ∙ c.count.ensures)) c.in_ok-sent.ensures.empty c.renew_all.ensures
