@@ -1,2 +1,2 @@
-pub mod Sent
+mod Onto
 pub mod Ascii

@@ -1,2 +1,2 @@
 pub mod Data
-pub mod Sends
+pub mod Onto

@@ -1,15 +1,13 @@
 ghost use Rattle.std.specs.Prelude.{◌≡◌, IfOk};
-ghost use Rattle.serde_json.specs.Events.{SendsValue};
 ghost use Rattle.alw_report.specs.Json.{counts_data, entry_data, ended_data, object_text, json_text};
 
 use crate::entries::{meta_name, state_name};
 use crate::head::put_ended;
 use crate::values::{DirectoryLine, Report};
-use alw_json::{Nodes, ParamsObject, put, str_of};
+use alw_json::{Nodes, ParamsObject, ToJson, Tokens, put, str_of, text_of};
 use alw_model::Counts;
 use alw_num::NoMemory;
 use alw_text::Text;
-use serde::{Described, Serialize, Serializer};
 use std::alloc::Global;
 
 /// The text of a report as JSON (RFC 8259): one object without blanks, the keys of each object in
@@ -26,13 +24,11 @@ pub fn json(alloc: Global, told: &Report) -> Result<Text, NoMemory>
 }
 
 // The object of a report, whose end has these words.
+#[tactic(auto, unfolding(crate::specs::Json::object_text))]
 fn spelled(alloc: Global, told: &Report, ended: &str) -> Result<Text, NoMemory>
     ensures { IfOk result (λ text. text ≡ object_text told.now ended.now) }
 {
-    match serde_json::to_vec(alloc, &ReportObject { told, ended }) {
-        Ok(bytes) => Ok(Text::from(bytes)),
-        Err(_) => Err(NoMemory),
-    }
+    text_of(alloc, &ReportObject { told, ended })
 }
 
 // A report, with the words of its end.
@@ -42,14 +38,12 @@ struct ReportObject<'a> {
     ended: &'a str,
 }
 
-impl Described for ReportObject<'_> {
-    ghost writes = { λ o. SendsValue (ended_data o.told.now o.ended.now) };
-}
+impl ToJson for ReportObject<'_> {
+    ghost value_of = { λ o. ended_data o.told.now o.ended.now };
 
-impl Serialize for ReportObject<'_> {
-    fn serialize<S: Serializer>(&self, out: &mut S) -> Result<(), S::Error> {
+    fn write(&self, out: &mut Tokens) -> Result<(), NoMemory> {
         let told = self.told;
-        out.begin_map(Some(10))?;
+        out.begin_object()?;
         put(out, "contexts", &told.contexts)?;
         put(out, "counts", &CountsObject(&told.counts))?;
         put(out, "directory", &told.directory.members())?;
@@ -60,7 +54,7 @@ impl Serialize for ReportObject<'_> {
         put(out, "params", &ParamsObject(&told.params))?;
         put(out, "prints", &told.prints.members())?;
         put(out, "runs", &told.runs.members())?;
-        out.end_map()
+        out.end_object()
     }
 }
 
@@ -68,14 +62,12 @@ impl Serialize for ReportObject<'_> {
 #[derive(Clone, Copy)]
 struct CountsObject<'a>(&'a Counts);
 
-impl Described for CountsObject<'_> {
-    ghost writes = { λ o. SendsValue (counts_data o.0.now) };
-}
+impl ToJson for CountsObject<'_> {
+    ghost value_of = { λ o. counts_data o.0.now };
 
-impl Serialize for CountsObject<'_> {
-    fn serialize<S: Serializer>(&self, out: &mut S) -> Result<(), S::Error> {
+    fn write(&self, out: &mut Tokens) -> Result<(), NoMemory> {
         let counts = self.0;
-        out.begin_map(Some(16))?;
+        out.begin_object()?;
         put(out, "ACKC", &counts.ackc)?;
         put(out, "BUSY", &counts.busy)?;
         put(out, "INV", &counts.inv)?;
@@ -92,23 +84,21 @@ impl Serialize for CountsObject<'_> {
         put(out, "misses", &counts.misses)?;
         put(out, "spills", &counts.spills)?;
         put(out, "turns", &counts.turns)?;
-        out.end_map()
+        out.end_object()
     }
 }
 
-impl Described for DirectoryLine {
-    ghost writes = { λ d. SendsValue (entry_data d) };
-}
+impl ToJson for DirectoryLine {
+    ghost value_of = { entry_data };
 
-impl Serialize for DirectoryLine {
-    fn serialize<S: Serializer>(&self, out: &mut S) -> Result<(), S::Error> {
-        out.begin_map(Some(6))?;
+    fn write(&self, out: &mut Tokens) -> Result<(), NoMemory> {
+        out.begin_object()?;
         put(out, "acks", &self.acks)?;
         put(out, "hw", &Nodes(self.hardware))?;
         put(out, "line", &self.line.0)?;
         put(out, "meta", &meta_name(self.meta))?;
         put(out, "state", &state_name(self.state))?;
         put(out, "sw", &Nodes(self.software))?;
-        out.end_map()
+        out.end_object()
     }
 }
