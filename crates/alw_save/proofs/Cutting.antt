@@ -6,7 +6,7 @@ use Rattle.alw_image.specs.Parameters.{Parameters}
 use Rattle.alw_model.specs.Machine.{IsLegal, state}
 use Rattle.law_order.specs.Orders.{kept_by, later_than}
 use Rattle.law_order.proofs.Reached.{cut_whole, cut_state, cut_front}
-use Rattle.alw_mesh.specs.Histories.{History, IsRun, stamps_of}
+use Rattle.alw_mesh.specs.Histories.{History, IsRun, Fits, stamps_of}
 use Rattle.alw_mesh.specs.declared.errors.FitErr.{FitErr}
 use Rattle.alw_mesh.specs.declared.errors.FitErr.TheVariants as fits
 use Rattle.alw_mesh.proofs.Journals.{journal_fits}
@@ -46,6 +46,10 @@ module _ (trace : Trace) where
   not_started entries (fits.DoesNotFit number most) is = is
   not_started entries fits.NoMemory is = is
 
+  pub not_fit : (fit : FitErr) → Fits trace.image trace.params (Err fit) → IsNoCut trace (no_cut_of fit)
+  not_fit (fits.DoesNotFit number most) is = is
+  not_fit fits.NoMemory is = absurd is
+
   module _ {machine : History} {kept : ℕ} (is : IsReplayed trace.image trace.params trace.journal machine kept) where
     fits_here : stamps_of trace.image trace.params ≤ 8388608
     fits_here = subst (λ (h : History). stamps_of h.image h.parameters ≤ 8388608) is.is is.run.fits
@@ -71,16 +75,6 @@ module _ (trace : Trace) where
       same = cut_state trace.image trace.params trace.journal sound_is.legal at;
     })
 
-    -- where it keeps all entries the machine after all is the one that it leaves
-    pub cut_none : (machine : History) → LeavesAll trace (Ok machine) → length (kept_by at trace.journal) ≡ length trace.journal
-        → LeavesCut trace at (Ok machine)
-    cut_none machine leaves same = (
-      leaves.0,
-      leaves.1,
-      leaves.2
-          ∙ ap (λ (j : List Entry). record { image = trace.image; parameters = trace.params; journal = j; joined = 0 }) (sym (all_kept at trace.journal same)),
-    )
-
     -- the entries that it keeps are taken again
     pub cut_taken : (entries : List Entry) (machine : History) (kept : ℕ) → entries ≡ kept_by at trace.journal
         → IsReplayed trace.image trace.params entries machine kept → LeavesCut trace at (Ok machine)
@@ -88,3 +82,14 @@ module _ (trace : Trace) where
         let legal : IsLegal trace.image trace.params entries =
         subst (λ (j : List Entry). IsLegal trace.image trace.params j) (sym same) (cut_front trace.image trace.params trace.journal sound_is.legal at) in
         (sound_is, is.run, legal_taken is legal ∙ ap (λ (j : List Entry). record { image = trace.image; parameters = trace.params; journal = j; joined = 0 }) same)
+
+  -- where a cut keeps all entries, the machine after all is the one that it leaves
+  pub cut_none : (at : ℕ) (result : Result History CutErr) → LeavesAll trace result → length (kept_by at trace.journal) ≡ length trace.journal
+      → LeavesCut trace at result
+  cut_none at (Err fault) refused same = refused
+  cut_none at (Ok machine) leaves same = (
+    leaves.0,
+    leaves.1,
+    leaves.2
+        ∙ ap (λ (j : List Entry). record { image = trace.image; parameters = trace.params; journal = j; joined = 0 }) (sym (all_kept at trace.journal same)),
+  )

@@ -1,10 +1,10 @@
-ghost use Rattle.std.specs.Prelude.{◌≡◌, ◌<◌, ◌^◌, IfOk, length};
+ghost use Rattle.std.specs.Prelude.{◌≡◌, ◌<◌, ◌^◌, IfOk, IfErr, length};
 ghost use Rattle.law_order.specs.Orders.{kept_by, later_than};
-ghost use Rattle.alw_save.specs.Cuts.{Cuts, LeavesAll, LeavesCut};
+ghost use Rattle.alw_save.specs.Cuts.{TraceIsSound, IsNoCut, Cuts, LeavesAll, LeavesCut};
 
 use crate::faults::CutErr;
 use crate::values::Cut;
-use alw_mesh::Machine;
+use alw_mesh::{Machine, fit};
 use alw_msg::{Entry, Journal};
 use alw_num::NoMemory;
 use alw_replay::{Replayed, replay};
@@ -16,22 +16,34 @@ use std::alloc::Global;
 pub fn cut(alloc: Global, trace: &Trace, at: u32) -> Result<Cut, CutErr>
     ensures { Cuts trace.now at result }
 {
-    let _whole = machine_of(alloc, trace)?;
+    check(alloc, trace)?;
     let entries = trace.journal.members();
     let kept = kept_by(alloc, entries, at)?;
     let rest = later_than(alloc, entries, at)?;
     Ok(Cut { kept, rest })
 }
 
+// All entries of a trace are legal, or the refusal of [`cut`].
+fn check(alloc: Global, trace: &Trace) -> Result<(), CutErr>
+    ensures sound { IfOk result (λ done. TraceIsSound trace.now) }
+    ensures few { IfOk result (λ done. length trace.now.journal < 2 ^ 32) }
+    ensures refused { IfErr result (λ fault. IsNoCut trace.now fault) }
+{
+    let _whole = machine_of(alloc, trace)?;
+    Ok(())
+}
+
 /// The machine after the entries of a trace that a cut at a stamp keeps, with the refusals of [`cut`].
 pub fn machine_at(alloc: Global, trace: &Trace, at: u32) -> Result<Machine, CutErr>
     ensures { LeavesCut trace.now at result }
 {
-    let whole = machine_of(alloc, trace)?;
+    fit(&trace.image, &trace.params)?;
+    let all = trace.journal.len();
     let kept = kept_by(alloc, trace.journal.members(), at)?;
-    if kept.len() == trace.journal.len() {
-        return Ok(whole);
+    if kept.len() == all {
+        return machine_of(alloc, trace);
     }
+    check(alloc, trace)?;
     let Replayed { machine, .. } = replay(alloc, &trace.image, &trace.params, &kept)?;
     Ok(machine)
 }
