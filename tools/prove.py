@@ -13,6 +13,7 @@ import signal
 import subprocess
 import sys
 from concurrent.futures import FIRST_COMPLETED, ThreadPoolExecutor, wait
+from contextlib import suppress
 from pathlib import Path
 
 sys.dont_write_bytecode = True
@@ -105,7 +106,7 @@ class Proofs:
         self.root, self.crates = root, crates_of_program(root)
         self.most, self.chains = jobs_that_fit(), chains(root, self.crates)
         self.left = sorted((name for name in self.crates if name != PROGRAM), key=lambda name: -self.chains[name])
-        self.stand, self.running, self.checks = set(), {}, {}
+        self.stand, self.running, self.checks = set(), {}, set()
         self.free = [self.lane(scratch / f'lane-{number}') for number in range(min(self.most, len(self.left)))]
         self.lanes = list(self.free)
 
@@ -123,9 +124,9 @@ class Proofs:
         """What the toolchain says in a crate's folder, and how it ended."""
         how = {'stdin': subprocess.DEVNULL, 'stdout': subprocess.PIPE, 'stderr': subprocess.STDOUT, 'start_new_session': True}
         with subprocess.Popen(['rt', *words], cwd=folder, **how) as check:
-            self.checks[check.pid] = check
+            self.checks.add(check.pid)
             said = check.communicate()[0].decode(errors='replace')
-            del self.checks[check.pid]
+            self.checks.remove(check.pid)
         return check.returncode, said
 
     def prove_in(self, lane, name, jobs):
@@ -178,8 +179,9 @@ class Proofs:
 
     def stop(self):
         """Ends the checks that are under way."""
-        for check in list(self.checks.values()):
-            os.killpg(check.pid, signal.SIGTERM)
+        for process in list(self.checks):
+            with suppress(ProcessLookupError):
+                os.killpg(process, signal.SIGTERM)
 
     def run(self):
         """Proves all. Answers whether all are proved."""
@@ -201,7 +203,8 @@ class Proofs:
 def main(arguments):
     if len(arguments) != 1:
         sys.exit(__doc__.split('\n')[0])
-    signal.signal(signal.SIGTERM, lambda *_: sys.exit(1))
+    for name in (signal.SIGINT, signal.SIGTERM):
+        signal.signal(name, lambda *_: sys.exit(1))
     sys.exit(0 if Proofs(ROOT, Path(arguments[0])).run() else 1)
 
 
