@@ -519,12 +519,11 @@ def check_cases(findings):
         findings.say(file, 0, f'no case calls {name}')
 
 
-def check_successes(findings, file, row, crate, repository):
-    """What a row of docs/REFUSALS.md names as a success: tests, each of the crate, of alw_trials or of the crate behind it, and cases."""
+def check_successes(findings, file, row, repository):
+    """What a row of docs/REFUSALS.md names as a success: tests, which stand in alw_trials, and cases."""
     named = row.cells[4]
-    for test, other in re.findall(r'`(\w+)`(?: \(`(\w+)`\))?', named):
-        if test not in tests_of(repository.get(other, crate)) | (set() if other else tests_of(repository['alw_trials'])):
-            findings.say(file, row.line, f'there is no test {test} in {other or crate.name}')
+    for test in sorted(set(re.findall(r'`(\w+)`', named)) - tests_of(repository['alw_trials'])):
+        findings.say(file, row.line, f'there is no test {test} in alw_trials')
     for group, name in re.findall(r'`(\w+): ([^`]+)`', named):
         if name not in cases_of(group):
             findings.say(file, row.line, f'there is no case {name} in {group}')
@@ -542,7 +541,7 @@ def check_refusal(findings, file, row, crate, repository):
     cited = set(SPAN.findall(row.cells[2]))
     if cited and not cited & words:
         findings.say(file, row.line, f'no clause of {row.cells[0]} is named {", ".join(sorted(cited))} or speaks of it')
-    check_successes(findings, file, row, crate, repository)
+    check_successes(findings, file, row, repository)
     return {f.path for f in calls}
 
 

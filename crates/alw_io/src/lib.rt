@@ -17,6 +17,3 @@ pub use std_sink::StdSink;
 pub use std_source::StdSource;
 pub use steady::{SteadySink, SteadySource};
 pub use whole::{ReadErr, read_all, write_whole};
-
-#[cfg(test)]
-mod tests;

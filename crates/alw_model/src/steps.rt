@@ -29,7 +29,7 @@ pub struct Counts {
 
 /// What the home table does to the pointers P of an entry with a message: the sender joins them, is
 /// then the only one, none is left, or they stay.
-#[derive(Clone, Copy, Debug, PartialEq, Eq)]
+#[derive(Clone, Copy, PartialEq, Eq)]
 pub enum Keeping {
     Joined,
     Alone,
@@ -40,7 +40,7 @@ pub enum Keeping {
 /// What an event of a node did: a turn of a slot with its outcome, a miss of a slot, a delivery on
 /// which the cache or the home's hardware acted, a delivery that trapped, a packet that was handled
 /// with its kind and the home's state before, or an eviction.
-#[derive(Clone, Copy, Debug, PartialEq, Eq)]
+#[derive(Clone, Copy, PartialEq, Eq)]
 pub enum Did {
     Turn { slot: u8, outcome: Outcome },
     Missed { slot: u8 },

@@ -3,4 +3,3 @@ pub mod MainEvents
 pub mod Reach
 pub mod Leaves
 pub mod Renewing
-pub mod Examples

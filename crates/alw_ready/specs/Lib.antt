@@ -1,4 +1,3 @@
 pub mod Rows
 pub mod Fits
 pub mod Changes
-pub mod Example

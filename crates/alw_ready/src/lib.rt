@@ -13,6 +13,3 @@ pub use laws::{other_nodes_are_left, own_deliveries_are_left, rows_say_what_may_
 pub use ready::Ready;
 pub use rows::Row;
 pub use views::View;
-
-#[cfg(test)]
-mod tests;

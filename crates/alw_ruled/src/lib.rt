@@ -6,6 +6,3 @@ mod links;
 mod rule;
 
 pub use links::{Ends, Link, RecvPass, SendErr, SendPass};
-
-#[cfg(test)]
-mod tests;

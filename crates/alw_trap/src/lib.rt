@@ -4,6 +4,3 @@
 mod handlers;
 
 pub use handlers::handle;
-
-#[cfg(test)]
-mod tests;

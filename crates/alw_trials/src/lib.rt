@@ -6,9 +6,13 @@ mod cells;
 #[cfg(test)]
 mod images;
 #[cfg(test)]
+mod links;
+#[cfg(test)]
 mod merges;
 #[cfg(test)]
 mod nodes;
+#[cfg(test)]
+mod outside;
 #[cfg(test)]
 mod plays;
 #[cfg(test)]

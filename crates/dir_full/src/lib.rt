@@ -6,6 +6,3 @@ mod sets;
 
 pub use entries::FullMap;
 pub use sets::{invalidate, sole_member};
-
-#[cfg(test)]
-mod tests;

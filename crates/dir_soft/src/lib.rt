@@ -5,6 +5,3 @@ mod places;
 mod tables;
 
 pub use tables::SoftDir;
-
-#[cfg(test)]
-mod tests;

@@ -11,6 +11,3 @@ pub use hops::{HopErr, Hops};
 pub use laws::{idle_routers_have_delivered, routers_keep_order};
 pub use ports::{Hop, Port};
 pub use routes::route_next;
-
-#[cfg(test)]
-mod tests;

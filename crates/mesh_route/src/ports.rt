@@ -12,7 +12,7 @@ pub enum Port {
 }
 
 /// What a hop did with a message: it crossed the wire to the next node of its route, or arrived.
-#[derive(Clone, Copy, Debug, PartialEq, Eq)]
+#[derive(Clone, Copy, PartialEq, Eq)]
 pub enum Hop {
     Crossed { to: NodeNo },
     Arrived { from: NodeNo },

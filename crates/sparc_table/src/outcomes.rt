@@ -10,7 +10,7 @@ pub enum Need {
 }
 
 /// How a turn ended. On Miss, Halt and Trap the registers are unchanged.
-#[derive(Clone, Copy, Debug, PartialEq, Eq)]
+#[derive(Clone, Copy, PartialEq, Eq)]
 pub enum Outcome {
     Done,
     /// There is no copy of the line that grants the mode.

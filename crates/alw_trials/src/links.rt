@@ -1,6 +1,6 @@
-use crate::{Ends, Link};
 use alw_msg::{Kind, Msg};
 use alw_num::{Line, LineNo, NodeNo};
+use alw_ruled::{Ends, Link};
 use std::test::Fail;
 
 // An invalidation, and two that its stamp tells from it.

@@ -1,6 +1,9 @@
 ghost use Rattle.std.specs.Prelude.{◌≡◌, IfOk, min};
 
-use super::*;
+use alw_io::{
+    Failed, MemSink, MemSource, ReadErr, Sink, Source, StdSink, StdSource, SteadySink,
+    SteadySource, read_all, write_whole,
+};
 use std::io;
 use std::io::{Error, ErrorKind, Read, Write};
 use std::test::Fail;
