@@ -6,7 +6,9 @@ use Rattle.alw_cli.specs.Answers.{task_of}
 use Rattle.alw_answers.proofs.Kept.{IsKept}
 use Rattle.alw_builds.proofs.Kept.{asm_kept, dis_kept, gen_kept}
 use Rattle.alw_checks.proofs.Kept.{audit_kept, search_kept}
-use Rattle.alw_runs.proofs.Kept.{run_kept, work_kept, replay_kept, route_kept, save_kept, resume_kept}
+use Rattle.alw_runs.proofs.Kept.{run_kept, replay_kept}
+use Rattle.alw_threads.proofs.Kept.{work_kept}
+use Rattle.alw_cuts.proofs.Kept.{route_kept, save_kept, resume_kept}
 
 pub each_kept : (command : Command) → IsKept (task_of command)
 each_kept (commands.Asm form) = asm_kept form

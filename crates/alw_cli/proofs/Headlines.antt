@@ -20,9 +20,9 @@ use Rattle.alw_answers.specs.Tasks.{Task}
 use Rattle.alw_cli.specs.Answered.{Reads, Answered}
 use Rattle.alw_runs.specs.Forms.{IsTold}
 use Rattle.alw_runs.specs.Running.{run_task}
-use Rattle.alw_runs.specs.Working.{work_task}
+use Rattle.alw_threads.specs.Working.{work_task}
 use Rattle.alw_runs.specs.Replaying.{replay_task}
-use Rattle.alw_runs.specs.Resuming.{resume_task}
+use Rattle.alw_cuts.specs.Resuming.{resume_task}
 use Rattle.alw_cli.specs.Answers.{task_of, Answers}
 use Rattle.alw_cli.specs.Headline.{has_journal, IsCoherent, Promised, Headline}
 use Rattle.alw_cli.proofs.Completing.{answered_to}

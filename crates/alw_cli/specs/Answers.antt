@@ -13,14 +13,14 @@ use Rattle.alw_answers.specs.Tasks.{Task, IsNothing}
 use Rattle.alw_cli.specs.Answered.{Answered}
 use Rattle.alw_builds.specs.Assembling.{asm_task}
 use Rattle.alw_runs.specs.Running.{run_task}
-use Rattle.alw_runs.specs.Working.{work_task}
+use Rattle.alw_threads.specs.Working.{work_task}
 use Rattle.alw_runs.specs.Replaying.{replay_task}
 use Rattle.alw_checks.specs.Auditing.{audit_task}
 use Rattle.alw_builds.specs.Making.{gen_task}
 use Rattle.alw_builds.specs.ReadingBack.{dis_task}
-use Rattle.alw_runs.specs.Routing.{route_task}
-use Rattle.alw_runs.specs.Saving.{save_task}
-use Rattle.alw_runs.specs.Resuming.{resume_task}
+use Rattle.alw_cuts.specs.Routing.{route_task}
+use Rattle.alw_cuts.specs.Saving.{save_task}
+use Rattle.alw_cuts.specs.Resuming.{resume_task}
 use Rattle.alw_checks.specs.Searching.{search_task}
 use Rattle.alw_answers.specs.ErrLines.{err_line}
 

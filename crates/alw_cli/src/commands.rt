@@ -14,9 +14,10 @@ use alw_answers::{Done, MOST_INPUT, Output, Refusal};
 use alw_builds::{assemble_source, make_workload, read_back};
 use alw_checks::{audit_bytes, search_bytes};
 use alw_config::{Command, Form, How};
+use alw_cuts::{resume, route_bytes, save_bytes};
 use alw_image::Params;
 use alw_io::{Sink, Source};
-use alw_runs::{replay_bytes, resume, route_bytes, run_bytes, save_bytes};
+use alw_runs::{replay_bytes, run_bytes};
 use std::alloc::Global;
 
 /// Carries out a command that asks for no workers: reads `input` to its end, where it reads any, and writes

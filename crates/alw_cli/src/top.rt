@@ -6,14 +6,14 @@ ghost use Rattle.alw_cli.specs.Answers.{Answers, IsComplete, Tells};
 ghost use Rattle.alw_cli.specs.Headline.{Headline};
 ghost use Rattle.alw_cli.specs.Streams.{stream_of};
 ghost use Rattle.alw_cli.specs.Answered.{Answered};
-ghost use Rattle.alw_runs.specs.Working.{work_task};
+ghost use Rattle.alw_threads.specs.Working.{work_task};
 
 use crate::commands::{Work, carry_out, workers_of};
 use crate::streams::{bytes_for, write_made};
 use alw_answers::{Cause, Done, err_line};
 use alw_config::command;
 use alw_io::{Sink, Source, write_whole};
-use alw_runs::work_bytes;
+use alw_threads::work_bytes;
 use alw_work::Gate;
 use std::alloc::Global;
 use std::sync::Wait;

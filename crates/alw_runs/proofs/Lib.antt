@@ -1,9 +1,5 @@
 pub mod Refused
-pub mod Told
-pub mod Formed
-pub mod Saved
-pub mod Resumable
 pub mod NoEvict
-pub mod Trapped
-pub mod Begun
+pub mod Ended
+pub mod Formed
 pub mod Kept

@@ -9,7 +9,7 @@ use Rattle.alw_model.specs.declared.ends.Ended.{Ended}
 use Rattle.alw_model.specs.Ends.{IsEnd}
 use Rattle.alw_model.specs.Headline.{IsCoherentRun}
 use Rattle.alw_model.specs.Machine.{IsLegal, state, end_of}
-use Rattle.alw_mesh.specs.Histories.{History, stamps_of}
+use Rattle.alw_mesh.specs.Histories.{History, begun, stamps_of}
 use Rattle.alw_mesh.specs.Limits.{most_steps}
 use Rattle.alw_replay.specs.Replays as replays
 use Rattle.alw_report.specs.Reports.{report_of}
@@ -17,7 +17,6 @@ use Rattle.alw_trace.specs.declared.values.Trace.{Trace}
 use Rattle.alw_trace.specs.declared.faults.TextErr.TheVariants as text
 use Rattle.alw_trace.specs.Texts.{trace_text}
 use Rattle.alw_trace.specs.Readings.{IsTrace, HasTraceTypes, ReadsTrace}
-use Rattle.alw_save.specs.Cuts.{whole_of}
 use Rattle.alw_config.specs.declared.commands.Form.{Form}
 use Rattle.alw_answers.specs.declared.answers.InputErr.{InputErr}
 use Rattle.alw_answers.specs.declared.answers.InputErr.TheVariants as reason
@@ -70,7 +69,8 @@ IsNotTaken trace _ = ⊥
 
 -- the end that holds after a trace's entries, of which a machine has taken so many: all of them; or why there is none
 abbrev pub EndsTrace : Trace → History → Result Ended Refusal → Type 0
-EndsTrace trace machine (Ok ended) = (machine ≡ whole_of trace) × IsEnd machine.image machine.parameters machine.journal ended
+EndsTrace trace machine (Ok ended) =
+    (machine ≡ record (begun trace.image trace.params) { journal = trace.journal }) × IsEnd machine.image machine.parameters machine.journal ended
 EndsTrace trace machine (Err (refusal.Fault fault)) = IsNotTaken trace fault
 EndsTrace trace machine (Err refusal.NoMemory) = ⊥
 

@@ -25,7 +25,7 @@ ghost use Rattle.alw_builds.specs.ReadingBack.{ReadsBack};
 ghost use Rattle.alw_checks.specs.Auditing.{Audits, IsNoClaim, FindsSound, IsSoundText, told_before};
 ghost use Rattle.alw_runs.specs.Forms.{run_text, IsTold};
 ghost use Rattle.alw_runs.specs.Replaying.{IsFinishedText, IsRunThatFits, Replays, ReportsTheSame, trace_of};
-ghost use Rattle.alw_runs.specs.Resuming.{IsSomeCheckpoint};
+ghost use Rattle.alw_cuts.specs.Resuming.{IsSomeCheckpoint};
 ghost use Rattle.alw_image.specs.Faults.{image_in};
 ghost use Rattle.alw_model.specs.declared.ends.Ended.TheVariants.{Halted};
 ghost use Rattle.alw_report.specs.Reports.{told_of};

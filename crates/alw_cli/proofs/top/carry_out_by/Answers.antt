@@ -1,6 +1,6 @@
 use Rattle.std.proofs.Common.{List, ℕ, true, sym, subst}
 use Rattle.alw_cli.specs.Streams.{stream_of, IsRead}
-use Rattle.alw_runs.specs.Working.{work_task}
+use Rattle.alw_threads.specs.Working.{work_task}
 use Rattle.alw_cli.proofs.Answering.{put}
 use Rattle.alw_cli.proofs.top.carry_out_by.Goals as goal
 

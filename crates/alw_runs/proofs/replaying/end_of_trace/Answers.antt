@@ -1,7 +1,7 @@
 -- All entries were taken and an end holds, or what is refused.
 use Rattle.std.proofs.Common.{arith}
 use Rattle.std.proofs.lemmas.Bool.Decides.{nat_tests}
-use Rattle.alw_runs.proofs.Told.{first_illegal, unfinished, all_legal}
+use Rattle.alw_runs.proofs.Ended.{first_illegal, unfinished, all_legal}
 use Rattle.alw_runs.proofs.replaying.end_of_trace.Goals as goal
 
 pub returns-then-kept-len : goal.returns-then-kept-len

@@ -5,7 +5,7 @@ use Rattle.alw_answers.specs.declared.answers.InputErr.TheVariants as reason
 use Rattle.alw_runs.specs.Replaying.{Spells, Replays, IsNoReplay}
 use Rattle.alw_answers.proofs.Refused.{no_text}
 use Rattle.alw_runs.proofs.Refused.{no_replay}
-use Rattle.alw_runs.proofs.Told.{not_taken, no_end, replays}
+use Rattle.alw_runs.proofs.Ended.{not_taken, no_end, replays}
 use Rattle.alw_runs.proofs.replaying.replay_bytes.Goals as goal
 
 pub returns-in_err-trace : goal.returns-in_err-trace

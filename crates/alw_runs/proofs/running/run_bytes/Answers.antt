@@ -6,7 +6,7 @@ use Rattle.alw_runs.specs.Forms.{IsTooMuch}
 use Rattle.alw_runs.specs.Running.{Runs, IsNoRun}
 use Rattle.alw_answers.proofs.Refused.{no_image}
 use Rattle.alw_runs.proofs.Refused.{no_start}
-use Rattle.alw_runs.proofs.Told.{ran}
+use Rattle.alw_runs.proofs.Ended.{ran}
 use Rattle.alw_runs.proofs.running.run_bytes.Goals as goal
 
 pub returns-in_err-image : goal.returns-in_err-image

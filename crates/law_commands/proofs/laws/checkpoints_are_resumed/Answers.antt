@@ -1,4 +1,4 @@
-use Rattle.alw_runs.proofs.Resumable.{restored_so, saved_resumes}
+use Rattle.alw_cuts.proofs.Resumable.{restored_so, saved_resumes}
 use Rattle.law_commands.proofs.laws.checkpoints_are_resumed.Goals as goal
 
 pub returns-clause-accepted : goal.returns-clause-accepted

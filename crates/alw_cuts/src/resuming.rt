@@ -1,10 +1,10 @@
 ghost use Rattle.alw_answers.specs.Outputs.{Gives};
-ghost use Rattle.alw_runs.specs.Resuming.{Resumes, IsNoCheckpoint};
+ghost use Rattle.alw_cuts.specs.Resuming.{Resumes, IsNoCheckpoint};
 
-use crate::forms::told;
 use crate::refusals::refusal_of_restore;
 use alw_answers::{Output, Refusal};
 use alw_config::Form;
+use alw_runs::told;
 use alw_save::restore;
 use alw_sched::finish;
 use std::alloc::Global;

@@ -1,6 +1,6 @@
 use Rattle.std.proofs.lemmas.Result.{err_from_is_err_and}
-use Rattle.alw_runs.proofs.Begun.{no_fit}
-use Rattle.alw_runs.proofs.working.fit_workers.Goals as goal
+use Rattle.alw_threads.proofs.Begun.{no_fit}
+use Rattle.alw_threads.proofs.working.fit_workers.Goals as goal
 
 pub returns-in_err-fit : goal.returns-in_err-fit
 returns-in_err-fit c =

@@ -1,5 +1,5 @@
 ghost use Rattle.alw_answers.specs.Outputs.{Gives};
-ghost use Rattle.alw_runs.specs.Saving.{Saves, IsNoCut};
+ghost use Rattle.alw_cuts.specs.Saving.{Saves, IsNoCut};
 
 use crate::refusals::refusal_of_cut;
 use alw_answers::{Ending, Output, Refusal};

@@ -1,10 +1,10 @@
 -- The machine that workers left was taken on to an end, or what is refused.
 use Rattle.std.proofs.Common.{length, sym, ap, subst, ◌∙◌}
 use Rattle.std.proofs.lemmas.Result.{err_from_is_err_and}
-use Rattle.alw_runs.specs.Working.{Works, IsNotWorked}
+use Rattle.alw_threads.specs.Working.{Works, IsNotWorked}
 use Rattle.alw_answers.proofs.Refused.{no_image}
-use Rattle.alw_runs.proofs.Begun.{not_worked, worked}
-use Rattle.alw_runs.proofs.working.work_bytes.Goals as goal
+use Rattle.alw_threads.proofs.Begun.{not_worked, worked}
+use Rattle.alw_threads.proofs.working.work_bytes.Goals as goal
 
 pub returns-in_err-image : goal.returns-in_err-image
 returns-in_err-image g c =

@@ -34,9 +34,9 @@ use Rattle.alw_answers.specs.declared.outputs.Refusal.TheVariants as refusal
 use Rattle.alw_answers.specs.Outputs.{Gives}
 use Rattle.alw_answers.specs.Refusals.{refusal_of_fit}
 use Rattle.alw_runs.specs.Forms.{IsTold, IsTooMuch, output_of}
-use Rattle.alw_runs.specs.Working.{IsJoinedByWorkers, IsBegun, KeepsCopies, Works, AreTooMany, HasRoom, IsNotWorked}
-use Rattle.alw_runs.proofs.Told.{IsReadAs, told_of_run}
-use Rattle.alw_runs.proofs.Trapped.{trapped_after, any_of}
+use Rattle.alw_threads.specs.Working.{IsJoinedByWorkers, IsBegun, KeepsCopies, Works, AreTooMany, HasRoom, IsNotWorked}
+use Rattle.alw_runs.proofs.Ended.{IsReadAs, told_of_run}
+use Rattle.alw_threads.proofs.Trapped.{trapped_after, any_of}
 
 -- ---- no eviction among the entries of logs
 

@@ -1,11 +1,11 @@
 ghost use Rattle.alw_answers.specs.Outputs.{Gives};
 ghost use Rattle.alw_runs.specs.Replaying.{IsNoReplay};
-ghost use Rattle.alw_runs.specs.Routing.{Routes};
+ghost use Rattle.alw_cuts.specs.Routing.{Routes};
 
-use crate::replaying::end_of_trace;
 use alw_answers::{Ending, Output, Refusal};
 use alw_mesh::MachineParts;
 use alw_route::{Carried, carry, route_text};
+use alw_runs::end_of_trace;
 use alw_trace::read_trace;
 use std::alloc::Global;
 

@@ -3,15 +3,15 @@ ghost use Rattle.alw_image.specs.Images.{node_count};
 ghost use Rattle.alw_mesh.specs.Histories.{stamps_of};
 ghost use Rattle.alw_mesh.specs.declared.errors.TheConstants.{MOST_STEPS};
 ghost use Rattle.alw_answers.specs.Outputs.{Gives};
-ghost use Rattle.alw_runs.specs.Working.{Works, IsNotWorked, HasRoom, IsJoinedByWorkers};
+ghost use Rattle.alw_threads.specs.Working.{Works, IsNotWorked, HasRoom, IsJoinedByWorkers};
 
-use crate::forms::told;
 use alw_answers::{InputErr, Output, Refusal};
 use alw_config::Form;
 use alw_image::{Image, Params, read_image};
 use alw_merge::join;
 use alw_mesh::{Machine, fit};
 use alw_num::NoMemory;
+use alw_runs::told;
 use alw_sched::finish;
 use alw_work::{Gate, run_workers};
 use std::alloc::Global;

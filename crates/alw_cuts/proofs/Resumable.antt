@@ -21,7 +21,7 @@ use Rattle.alw_save.specs.Cuts.{TraceIsSound}
 use Rattle.alw_save.specs.Checkpoints.{save_title, state_part, checkpoint_text}
 use Rattle.alw_save.specs.Differences.{DiffersAt, ended_lines}
 use Rattle.alw_save.specs.Restoring.{with_evict, IsCheckpoint, TextIsReadAs, Restores}
-use Rattle.alw_runs.specs.Resuming.{IsSomeCheckpoint}
+use Rattle.alw_cuts.specs.Resuming.{IsSomeCheckpoint}
 use Rattle.alw_runs.proofs.NoEvict.{calm, state_same, legal_same, legal_back, stamped}
 
 -- parameters by their members

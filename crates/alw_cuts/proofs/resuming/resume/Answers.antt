@@ -4,9 +4,9 @@ use Rattle.std.specs.Prelude.{Err}
 use Rattle.alw_answers.specs.Outputs.{Gives}
 use Rattle.alw_answers.specs.declared.outputs.Refusal.{Refusal}
 use Rattle.alw_save.specs.Restoring.{Restores}
-use Rattle.alw_runs.specs.Resuming.{Resumes, IsNoCheckpoint}
-use Rattle.alw_runs.proofs.Saved.{not_resumed, resumed}
-use Rattle.alw_runs.proofs.resuming.resume.Goals as goal
+use Rattle.alw_cuts.specs.Resuming.{Resumes, IsNoCheckpoint}
+use Rattle.alw_cuts.proofs.Saved.{not_resumed, resumed}
+use Rattle.alw_cuts.proofs.resuming.resume.Goals as goal
 
 pub returns-in-Err : goal.returns-in-Err
 returns-in-Err c =

@@ -5,11 +5,11 @@ use Rattle.alw_mesh.specs.Histories.{History}
 use Rattle.alw_route.specs.Texts.{route_text_of}
 use Rattle.alw_answers.specs.declared.answers.InputErr.TheVariants as reason
 use Rattle.alw_runs.specs.Replaying.{Spells, IsNoReplay}
-use Rattle.alw_runs.specs.Routing.{Routes}
+use Rattle.alw_cuts.specs.Routing.{Routes}
 use Rattle.alw_answers.proofs.Refused.{no_text}
 use Rattle.alw_runs.proofs.Refused.{no_replay}
-use Rattle.alw_runs.proofs.Told.{not_taken, no_end, finished}
-use Rattle.alw_runs.proofs.routing.route_bytes.Goals as goal
+use Rattle.alw_runs.proofs.Ended.{not_taken, no_end, finished}
+use Rattle.alw_cuts.proofs.routing.route_bytes.Goals as goal
 
 pub returns-in_err-trace : goal.returns-in_err-trace
 returns-in_err-trace c =

@@ -18,7 +18,6 @@ use Rattle.alw_sched.specs.Schedules.{IsSeededRun, RunIsFinished}
 use Rattle.alw_sched.proofs.Seeded.{of_start, seeded_run, seeded_scheduled}
 use Rattle.alw_replay.specs.Replays.{IsReplayed}
 use Rattle.alw_trace.specs.declared.values.Trace.{Trace}
-use Rattle.alw_save.specs.Cuts.{whole_of}
 use Rattle.alw_config.specs.declared.commands.Form.{Form}
 use Rattle.alw_answers.specs.declared.answers.InputErr.{InputErr}
 use Rattle.alw_answers.specs.declared.answers.InputErr.TheVariants as reason
@@ -73,7 +72,7 @@ module _ (trace : Trace) (after : History) (kept : ℕ) (replayed : IsReplayed t
   fits_so = subst (λ (h : History). stamps_of h.image h.parameters ≤ most_steps) replayed.is replayed.run.fits
 
   -- all its entries are legal
-  pub all_legal : length trace.journal ≤ kept → after ≡ whole_of trace
+  pub all_legal : length trace.journal ≤ kept → after ≡ record (begun trace.image trace.params) { journal = trace.journal }
   all_legal all =
       replayed.is ∙ ap (λ (j : List Entry). record { image = trace.image; parameters = trace.params; journal = j; joined = 0 }) (take_all kept trace.journal all)
 

@@ -21,12 +21,12 @@ use Rattle.alw_config.specs.declared.commands.Form.{Form}
 use Rattle.alw_answers.specs.declared.outputs.Ending.TheVariants.{Fine}
 use Rattle.alw_answers.specs.declared.outputs.Output.{Output}
 use Rattle.alw_answers.specs.Outputs.{Gives}
-use Rattle.alw_runs.specs.Refusals.{refusal_of_cut, refusal_of_restore}
+use Rattle.alw_cuts.specs.Refusals.{refusal_of_cut, refusal_of_restore}
 use Rattle.alw_runs.specs.Forms.{IsTold, output_of}
 use Rattle.alw_runs.specs.Replaying.{Spells}
-use Rattle.alw_runs.specs.Saving.{Saves, IsNoCut}
-use Rattle.alw_runs.specs.Resuming.{Resumes, IsNoCheckpoint}
-use Rattle.alw_runs.proofs.Told.{told_of_run}
+use Rattle.alw_cuts.specs.Saving.{Saves, IsNoCut}
+use Rattle.alw_cuts.specs.Resuming.{Resumes, IsNoCheckpoint}
+use Rattle.alw_runs.proofs.Ended.{told_of_run}
 
 -- ---- save
 

@@ -1,5 +1,5 @@
 ghost use Rattle.std.specs.Prelude.{◌≡◌};
-ghost use Rattle.alw_runs.specs.Refusals.{refusal_of_cut, refusal_of_restore};
+ghost use Rattle.alw_cuts.specs.Refusals.{refusal_of_cut, refusal_of_restore};
 
 use alw_answers::{InputErr, Refusal};
 use alw_save::{CutErr, RestoreErr};

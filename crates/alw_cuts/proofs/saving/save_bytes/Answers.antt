@@ -7,9 +7,9 @@ use Rattle.alw_answers.specs.declared.outputs.Refusal.{Refusal}
 use Rattle.alw_answers.proofs.Refused.{no_text}
 use Rattle.alw_save.specs.Cuts.{LeavesCut}
 use Rattle.alw_runs.specs.Replaying.{Spells}
-use Rattle.alw_runs.specs.Saving.{Saves, IsNoCut}
-use Rattle.alw_runs.proofs.Saved.{not_saved, saved}
-use Rattle.alw_runs.proofs.saving.save_bytes.Goals as goal
+use Rattle.alw_cuts.specs.Saving.{Saves, IsNoCut}
+use Rattle.alw_cuts.proofs.Saved.{not_saved, saved}
+use Rattle.alw_cuts.proofs.saving.save_bytes.Goals as goal
 
 pub returns-in_err-trace : goal.returns-in_err-trace
 returns-in_err-trace c =

@@ -1,0 +1,4 @@
+pub mod Refusals
+pub mod Routing
+pub mod Saving
+pub mod Resuming

@@ -1,0 +1,3 @@
+pub mod Trapped
+pub mod Begun
+pub mod Kept
