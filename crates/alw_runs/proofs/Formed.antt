@@ -47,7 +47,7 @@ module _ (h : History) (e : Ended) where
     abbrev made : Output
     made = record { text = text; ending = end; journal = entries; merged = 0 }
 
-    same_end : made ≡ output_with h e text
+    pub same_end : made ≡ output_with h e text
     same_end = λ x. record { text = text; ending = ends x; journal = j x; merged = 0 }
 
     pub told_trace : (params : Parameters) → params ≡ h.parameters → text ≡ trace_text (record { image = image; params = params; journal = entries }) →
