@@ -14,12 +14,19 @@ use std::alloc::Global;
 pub fn tell_run(alloc: Global, machine: &Machine) -> Result<Tables, NoMemory>
     ensures { IfOk result (λ tables. AreTold machine.now.image (moments machine.now.image machine.now.parameters machine.now.journal) tables) }
 {
-    let image = machine.image();
-    let journal = machine.journal();
-    let mut tables = Tables::blank(alloc, image)?;
-    let mut again = second(alloc, machine)?;
-    tell_all(&mut tables, &mut again, journal)?;
+    let mut tables = Tables::blank(alloc, machine.image())?;
+    retell(alloc, machine, &mut tables)?;
     Ok(tables)
+}
+
+// The events of a machine's run happen again on a second machine, and each is told.
+fn retell(alloc: Global, machine: &Machine, tables: &mut Tables) -> Result<(), NoMemory>
+    requires { AreBlank machine.now.image tables.old }
+    ensures { OnOk result (AreTold machine.now.image (moments machine.now.image machine.now.parameters machine.now.journal) tables.new) }
+{
+    let journal = machine.journal();
+    let mut again = second(alloc, machine)?;
+    tell_all(tables, &mut again, journal)
 }
 
 // A machine of the same image and parameters at its start.

@@ -1,10 +1,12 @@
-ghost use Rattle.std.specs.Prelude.{◌≡◌, ◌<◌, ◌-◌, ◌^◌, ◌&&◌, IfOk, OnOk, IsTrue, length, ◌≤◌};
+ghost use Rattle.std.specs.Prelude.{◌≡◌, ◌<◌, ◌-◌, ◌^◌, ◌&&◌, IfOk, OnOk, IsTrue, length, replicate, ◌≤◌};
+ghost use Rattle.alw_num.specs.NodeSets.{no_nodes};
 ghost use Rattle.alw_image.specs.Images.{node_count};
 ghost use Rattle.alw_model.specs.Runs.{moment_of};
 ghost use Rattle.alw_mesh.specs.Histories.{grown, may_be_next, state_of, entry_of};
 ghost use Rattle.alw_profile.specs.Events.{accessed, accessed_by, is_same, line_marks, node_marks, queued, slot_marks};
 ghost use Rattle.alw_profile.specs.Places.{raised_by, joined_by};
-ghost use Rattle.alw_profile.specs.Tables.{HasRoom, IsMarked};
+ghost use Rattle.alw_profile.specs.Columns.{node_columns, line_columns, code_columns};
+ghost use Rattle.alw_profile.specs.Tables.{blank, HasRoom, IsMarked};
 ghost use Rattle.alw_profile.specs.Tallies.{AreBlank, HaveRoom, IsTold};
 
 use crate::columns::{CODE_COLUMNS, LINE_COLUMNS, NODE_COLUMNS};
@@ -38,19 +40,53 @@ impl Tables {
     pub fn blank(alloc: Global, image: &Image) -> Result<Tables, NoMemory>
         ensures { IfOk result (λ tables. AreBlank image.now tables) }
     {
-        let nodes = u32::from(image.nodes());
-        let lines = image.lines();
+        let count = u32::from(image.nodes());
+        let shared = image.lines();
         let words = image.code().len();
         let _ = image.parts();
+        let (nodes, lines, code) = counts(alloc, count, shared, words)?;
+        let (packets, readers, writers) = places(alloc, count, shared)?;
         Ok(Tables {
-            nodes: Table::blank(alloc, nodes, NODE_COLUMNS)?,
-            lines: SparseTable::blank(alloc, lines, LINE_COLUMNS)?,
-            code: Table::blank(alloc, words, CODE_COLUMNS)?,
-            packets: Most::none(alloc, nodes)?,
-            readers: Sets::none(alloc, lines)?,
-            writers: Sets::none(alloc, lines)?,
+            nodes,
+            lines,
+            code,
+            packets,
+            readers,
+            writers,
         })
     }
+}
+
+// The counts of so many nodes, lines and code words, all 0.
+fn counts(
+    alloc: Global,
+    nodes: u32,
+    lines: u32,
+    words: u32,
+) -> Result<(Table, SparseTable, Table), NoMemory>
+    requires nodes { nodes ≤ 2 ^ 20 }
+    requires lines { lines ≤ 2 ^ 20 }
+    requires words { words ≤ 2 ^ 20 }
+    ensures nodes { IfOk result (λ made. made.0 ≡ blank nodes node_columns) }
+    ensures lines { IfOk result (λ made. made.1 ≡ blank lines line_columns) }
+    ensures code { IfOk result (λ made. made.2 ≡ blank words code_columns) }
+{
+    let by_node = Table::blank(alloc, nodes, NODE_COLUMNS)?;
+    let by_line = SparseTable::blank(alloc, lines, LINE_COLUMNS)?;
+    let by_word = Table::blank(alloc, words, CODE_COLUMNS)?;
+    Ok((by_node, by_line, by_word))
+}
+
+// The most packets of so many nodes, and who read and who wrote so many lines: nothing yet.
+fn places(alloc: Global, nodes: u32, lines: u32) -> Result<(Most, Sets, Sets), NoMemory>
+    ensures packets { IfOk result (λ made. made.0 ≡ replicate nodes 0) }
+    ensures readers { IfOk result (λ made. made.1 ≡ replicate lines no_nodes) }
+    ensures writers { IfOk result (λ made. made.2 ≡ replicate lines no_nodes) }
+{
+    let packets = Most::none(alloc, nodes)?;
+    let readers = Sets::none(alloc, lines)?;
+    let writers = Sets::none(alloc, lines)?;
+    Ok((packets, readers, writers))
 }
 
 /// An event that may be next happens, and is told.
