@@ -39,18 +39,26 @@ pub fn image_of(
     starts: Starts,
     always: &[u32],
 ) -> Result<Image, Fail> {
-    if words.len() > 100 || always.len() > 100 {
-        return Err("too long".into());
-    }
+    let (code, always) = lists_of(alloc, words, always)?;
     let image = Image::from_parts(Parts {
         width: sizes.width,
         height: sizes.height,
         contexts: sizes.contexts,
         per_node: sizes.per_node,
-        code: Code::from_slice(alloc, words)?,
+        code,
         bodies: Bodies::empty(alloc),
         starts,
-        always: LineList::from_slice(alloc, always)?,
+        always,
     });
     Ok(image.ok_or("no image")?)
+}
+
+// Words of code and Trap-Always lines, as lists.
+fn lists_of(alloc: Global, words: &[u32], always: &[u32]) -> Result<(Code, LineList), Fail> {
+    if words.len() > 100 || always.len() > 100 {
+        return Err("too long".into());
+    }
+    let code = Code::from_slice(alloc, words)?;
+    let always = LineList::from_slice(alloc, always)?;
+    Ok((code, always))
 }

@@ -26,15 +26,19 @@ const ONES: Line = Line {
 fn two_nodes(alloc: Global) -> Result<Option<Image>, Fail> {
     let bodies = [(LineNo(0), ONES), (LineNo(3), ONES), (LineNo(4), ONES)];
     let starts = [(NodeNo(0), 1, 0), (NodeNo(1), 0, 4), (NodeNo(1), 1, 8)];
+    let code = Code::from_slice(alloc, &LOAD_AND_STORE)?;
+    let bodies = Bodies::from_slice(alloc, &bodies)?;
+    let starts = Starts::from_slice(alloc, &starts)?;
+    let always = LineList::from_slice(alloc, &[3, 4, 7])?;
     Ok(Image::from_parts(Parts {
         width: 2,
         height: 1,
         contexts: 2,
         per_node: 4,
-        code: Code::from_slice(alloc, &LOAD_AND_STORE)?,
-        bodies: Bodies::from_slice(alloc, &bodies)?,
-        starts: Starts::from_slice(alloc, &starts)?,
-        always: LineList::from_slice(alloc, &[3, 4, 7])?,
+        code,
+        bodies,
+        starts,
+        always,
     }))
 }
 

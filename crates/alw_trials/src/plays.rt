@@ -19,20 +19,9 @@ pub struct Play {
     pub rows: &'static str,
 }
 
-/// A row in words, of which those behind the last are empty.
-type Words<'a> = [&'a str; 8];
-
-// The words of a row, the first eight of them.
-fn words_of(row: &str) -> Words<'_> {
-    let mut words = [""; 8];
-    let mut count = 0;
-    for word in row.split(' ') {
-        if count < 8 {
-            words[count] = word;
-            count += 1;
-        }
-    }
-    words
+// The word of a row at this place, from 0. Empty where the row has none there.
+fn word(row: &str, place: usize) -> &str {
+    row.split(' ').nth(place).unwrap_or("")
 }
 
 // The number that a word spells, in this base.
@@ -49,20 +38,21 @@ fn number_in(base: u32, word: &str) -> u32 {
     number
 }
 
-fn number(word: &str) -> u32 {
-    number_in(10, word)
+// The number at a place of a row.
+fn number(row: &str, place: usize) -> u32 {
+    number_in(10, word(row, place))
 }
 
-fn short(word: &str) -> u16 {
-    (number(word) % 65_536) as u16
+fn short(row: &str, place: usize) -> u16 {
+    (number(row, place) % 65_536) as u16
 }
 
-fn byte(word: &str) -> u8 {
-    (number(word) % 256) as u8
+fn byte(row: &str, place: usize) -> u8 {
+    (number(row, place) % 256) as u8
 }
 
-fn node(word: &str) -> NodeNo {
-    NodeNo(short(word))
+fn node(row: &str, place: usize) -> NodeNo {
+    NodeNo(short(row, place))
 }
 
 // The words of a program.
@@ -80,9 +70,8 @@ fn code_of(alloc: Global, text: &str) -> Result<Code, Fail> {
 fn starts_of(alloc: Global, text: &str) -> Result<Starts, Fail> {
     let mut starts = Starts::empty(alloc);
     for start in text.split(", ") {
-        let [at, slot, address, ..] = words_of(start);
         if starts.len() < 100 {
-            starts.push((node(at), byte(slot), number(address)))?;
+            starts.push((node(start, 0), byte(start, 1), number(start, 2)))?;
         }
     }
     Ok(starts)
@@ -90,15 +79,16 @@ fn starts_of(alloc: Global, text: &str) -> Result<Starts, Fail> {
 
 // The parts of the image of a run.
 fn parts_of(alloc: Global, play: &Play) -> Result<Parts, Fail> {
-    let [width, contexts, lines, ..] = words_of(play.sizes);
+    let code = code_of(alloc, play.code)?;
+    let starts = starts_of(alloc, play.starts)?;
     Ok(Parts {
-        width: byte(width),
+        width: byte(play.sizes, 0),
         height: 1,
-        contexts: byte(contexts),
-        per_node: short(lines),
-        code: code_of(alloc, play.code)?,
+        contexts: byte(play.sizes, 1),
+        per_node: short(play.sizes, 2),
+        code,
         bodies: Bodies::empty(alloc),
-        starts: starts_of(alloc, play.starts)?,
+        starts,
         always: LineList::empty(alloc),
     })
 }
@@ -110,8 +100,12 @@ fn image_of(alloc: Global, play: &Play) -> Result<Image, Fail> {
 
 // The parameters of a run.
 fn params_of(play: &Play) -> Result<Params, Fail> {
-    let [_, _, _, pointers, sets, limit, ..] = words_of(play.sizes);
-    Ok(Params::new(byte(pointers), number(sets), number(limit), 0).ok_or("no parameters")?)
+    let (pointers, sets, limit) = (
+        byte(play.sizes, 3),
+        number(play.sizes, 4),
+        number(play.sizes, 5),
+    );
+    Ok(Params::new(pointers, sets, limit, 0).ok_or("no parameters")?)
 }
 
 /// The machine of a run, at its start.
@@ -120,35 +114,28 @@ pub fn started(alloc: Global, play: &Play) -> Result<Machine, Fail> {
     Ok(Machine::start(alloc, &image, &params_of(play)?)?)
 }
 
-// The event of a row.
-fn event(row: &Words<'_>) -> Option<Event> {
-    let [_, kind, first, second, ..] = *row;
-    match kind {
-        "I" => Some(Event::Instr { node: node(first) }),
+/// The event of a row.
+pub fn event_of(row: &str) -> Option<Event> {
+    match word(row, 1) {
+        "I" => Some(Event::Instr { node: node(row, 2) }),
         "D" => Some(Event::Deliver {
-            from: node(first),
-            to: node(second),
+            from: node(row, 2),
+            to: node(row, 3),
         }),
-        "H" => Some(Event::Handle { node: node(first) }),
+        "H" => Some(Event::Handle { node: node(row, 2) }),
         "E" => Some(Event::Evict {
-            node: node(first),
-            set: number(second),
+            node: node(row, 2),
+            set: number(row, 3),
         }),
         _ => None,
     }
 }
 
-/// The event of a row, by its text.
-pub fn event_of(row: &str) -> Option<Event> {
-    event(&words_of(row))
-}
-
 /// The event of a row with its stamp.
 pub fn entry_of(row: &str) -> Option<Entry> {
-    let words = words_of(row);
     Some(Entry {
-        stamp: number(words[0]),
-        event: event(&words)?,
+        stamp: number(row, 0),
+        event: event_of(row)?,
     })
 }
 

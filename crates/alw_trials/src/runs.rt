@@ -126,15 +126,30 @@ fn is_whole(machine: &mut Machine, event: Event) -> Result<bool, Fail> {
     }
 }
 
+// Each event of the rows of a run happens where it may, or leaves all as it was.
+fn are_whole(machine: &mut Machine, rows: &str) -> Result<bool, Fail> {
+    for row in rows.split(", ") {
+        let event = event_of(row).ok_or("no event")?;
+        if !is_whole(machine, event)? {
+            return Ok(false);
+        }
+    }
+    Ok(true)
+}
+
+// That of a run, and how many of its events happened.
+fn whole_run(alloc: Global, play: &Play) -> Result<(bool, u32), Fail> {
+    let mut machine = started(alloc, play)?;
+    let whole = are_whole(&mut machine, play.rows);
+    let count = machine.journal().len();
+    drop(machine);
+    Ok((whole?, count))
+}
+
 // An event that doesn't happen leaves all as it was, since it isn't enabled or for want of memory (`rt try --test --fail-alloc N`).
 #[test]
 fn refused_step(rt: HostRuntime) -> Result<(), Fail> {
-    let mut machine = started(rt.alloc(), &TWO_AT_WORK)?;
-    for row in TWO_AT_WORK.rows.split(", ") {
-        let event = event_of(row).ok_or("no event")?;
-        assert!(rt; is_whole(&mut machine, event)?);
-    }
-    assert_eq!(rt; machine.journal().len(), 8);
+    assert_eq!(rt; whole_run(rt.alloc(), &TWO_AT_WORK)?, (true, 8));
     Ok(())
 }
 
@@ -219,9 +234,14 @@ end
 fn state_after(seed: u64, count: u32) -> u64 {
     let mut draws = Draws { state: seed };
     for _ in 0..count {
-        draws.draw();
+        go_on(&mut draws);
     }
     draws.state
+}
+
+// Draws a number, which isn't used.
+fn go_on(draws: &mut Draws) {
+    draws.draw();
 }
 
 // Takes a machine to an end by a seed. Where memory is refused on the way it goes on with the draws that are
