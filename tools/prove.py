@@ -1,7 +1,7 @@
 #!/usr/bin/env python3
 """Proves the crates of the program side by side: tools/prove.py SCRATCH.
 
-A crate begins once those below it stand, first the one with the longest chain of others above it, by lines of code. It takes the processors that no
+A crate begins once those below it stand, first the one with the longest chain of others above it, by lines of code and by how many crates each reads. It takes the processors that no
 other waits for, at most four, and two where no other chain is longer. The toolchain lets one command at a time work in a checkout, so each works in a lane: a copy of the sources below
 SCRATCH. What it makes goes to the checkout, and to the other lanes by links. The program's own crate comes last, in the checkout. Standard error tells
 which crates stand. Ends with 1 where one isn't proved, and says what the toolchain said of it.
@@ -24,6 +24,8 @@ SOURCES = ('src', 'specs', 'proofs')
 CRATE = re.compile(r'^(\w+)[^:\n]*:(.*)$', re.M)
 FAULT = re.compile(r'^error|failed|not run', re.M)
 MOST_JOBS = 4
+# The lines of code that take as long to prove as the first read of a crate below.
+READ = 40
 JOB_BYTES = 1_500_000_000
 
 
@@ -80,9 +82,13 @@ def crates_of_program(root):
 
 
 def chains(root, crates):
-    """The lines of code of the longest chain of crates from each one upward."""
-    length = {name: sum(file.read_bytes().count(b'\n') for file in (root / 'crates' / name / 'src').rglob('*.rt')) for name in crates}
-    above = {name: [other for other, below in crates.items() if name in below] for name in crates}
+    """The longest chain of crates from each one upward, where a crate counts its lines of code and READ more for each crate below it."""
+    below, length = {}, {}
+    for name, used in crates.items():
+        below[name] = set(used).union(*(below[other] for other in used))
+        lines = sum(file.read_bytes().count(b'\n') for file in (root / 'crates' / name / 'src').rglob('*.rt'))
+        length[name] = lines + READ * len(below[name])
+    above = {name: [other for other, used in crates.items() if name in used] for name in crates}
     longest = {}
     for name in reversed(crates):
         longest[name] = length[name] + max((longest[other] for other in above[name]), default=0)
