@@ -39,26 +39,18 @@ pub fn image_of(
     starts: Starts,
     always: &[u32],
 ) -> Result<Image, Fail> {
-    let (code, always) = lists_of(alloc, words, always)?;
+    if words.len() > 100 || always.len() > 100 {
+        return Err("too long".into());
+    }
     let image = Image::from_parts(Parts {
         width: sizes.width,
         height: sizes.height,
         contexts: sizes.contexts,
         per_node: sizes.per_node,
-        code,
+        code: Code::from_slice(alloc, words)?,
         bodies: Bodies::empty(alloc),
         starts,
-        always,
+        always: LineList::from_slice(alloc, always)?,
     });
     Ok(image.ok_or("no image")?)
-}
-
-// Words of code and Trap-Always lines, as lists.
-fn lists_of(alloc: Global, words: &[u32], always: &[u32]) -> Result<(Code, LineList), Fail> {
-    if words.len() > 100 || always.len() > 100 {
-        return Err("too long".into());
-    }
-    let code = Code::from_slice(alloc, words)?;
-    let always = LineList::from_slice(alloc, always)?;
-    Ok((code, always))
 }

@@ -234,14 +234,9 @@ end
 fn state_after(seed: u64, count: u32) -> u64 {
     let mut draws = Draws { state: seed };
     for _ in 0..count {
-        go_on(&mut draws);
+        draws.draw();
     }
     draws.state
-}
-
-// Draws a number, which isn't used.
-fn go_on(draws: &mut Draws) {
-    draws.draw();
 }
 
 // Takes a machine to an end by a seed. Where memory is refused on the way it goes on with the draws that are
