@@ -24,10 +24,10 @@ use std::marker::Model;
 /// their number. A hold keeps a line that has arrived for a slot in the cache until the slot has run.
 #[derive(Drop)]
 pub struct Contexts {
-    places: [Resident; 4],
     count: u8,
     current: u8,
     holds: u8,
+    places: [Resident; 4],
 }
 
 impl Model for Contexts {

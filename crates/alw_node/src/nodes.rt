@@ -30,14 +30,15 @@ use std::marker::Model;
 use std::sync::Arc;
 
 /// A node of the machine: its share of the image, its contexts and cache, its home lines, and its
-/// clock (Lamport 1978).
+/// clock (Lamport 1978). What each turn reads stands together: the program at the end of the share, the
+/// clock, and the current slot at the front of the processor side.
 #[derive(Drop)]
 pub struct Node {
     share: Share,
-    params: Params,
+    clock: u32,
     proc: Proc,
     memory: Memory,
-    clock: u32,
+    params: Params,
 }
 
 impl Model for Node {

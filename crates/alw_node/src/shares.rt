@@ -19,10 +19,10 @@ pub struct Share {
     height: u8,
     contexts: u8,
     per_node: u16,
-    program: Arc<Program, Global>,
     bodies: Bodies,
     starts: Starts,
     always: LineList,
+    program: Arc<Program, Global>,
 }
 
 impl Model for Share {
