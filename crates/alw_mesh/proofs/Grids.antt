@@ -1,6 +1,6 @@
 -- The nodes and links that a machine keeps, after an event.
-use Rattle.std.proofs.Common.{◌≡◌, ℕ, ◌<◌, ◌≤◌, ◌==◌, Bool, true, not, ◌&&◌, IsTrue, Option, List, [], map, set, slice_index_or, length, refl, sym, ap, subst, ◌∙◌, arith}
-use Rattle.std.proofs.lemmas.List.{length-set, map-set}
+use Rattle.std.proofs.Common.{◌≡◌, ℕ, ◌-◌, ◌<◌, ◌≤◌, Bool, true, false, ◌&&◌, IsTrue, Option, None, List, [], set, get_or, slice_index_or, length, refl, sym, ap, subst, ◌∙◌, arith}
+use Rattle.std.proofs.lemmas.List.{get_or-set_same, get_or_read, length-set, map-set}
 use Rattle.alw_num.specs.declared.addresses.NodeNo.{NodeNo}
 use Rattle.alw_num.proofs.Weigh.{at_nodes}
 use Rattle.alw_msg.specs.declared.messages.Msg.{Msg}
@@ -10,10 +10,12 @@ use Rattle.alw_msg.specs.Sending.{Sending}
 use Rattle.alw_image.specs.declared.parts.Parts.{Parts}
 use Rattle.alw_image.specs.Images.{node_count}
 use Rattle.alw_image.specs.Parameters.{Parameters}
+use Rattle.sparc_table.specs.declared.outcomes.Outcome.TheVariants.{Done}
 use Rattle.alw_model.specs.declared.steps.Did.{Did}
+use Rattle.alw_model.specs.declared.steps.Did.TheVariants.{Turn}
 use Rattle.alw_model.specs.Contexts.{Slot}
 use Rattle.alw_model.specs.Counts.{is_turn}
-use Rattle.alw_model.specs.NodeStates.{NodeState, is_enabled_at}
+use Rattle.alw_model.specs.NodeStates.{is_enabled_at}
 use Rattle.alw_model.specs.NodeSteps.{Stepped, node_step}
 use Rattle.alw_model.specs.Machine.{MachineState, node_at, taken_by, links_sent, is_enabled, stepped_by, step}
 use Rattle.law_lines.specs.Links.{GoBelow}
@@ -28,9 +30,11 @@ use Rattle.alw_tally.specs.Remaining.{remains_of, remains_after, MayFollow, AreF
 use Rattle.alw_tally.proofs.Following.{remains_are, may_follow}
 use Rattle.alw_node.specs.Nodes.{Whole, MessageIsGiven}
 use Rattle.alw_mesh.specs.declared.stepping.Acted.{Acted}
-use Rattle.alw_mesh.specs.Grids.{Happens}
-use Rattle.alw_mesh.specs.Keeping.{machine_of, no_whole, whole_in, NodeIsOf, AreNodes, IsGrid, NodesAreWithin, taken_from, after_taking, HasTrapPc, may_act, acted_by, Acts}
+use Rattle.alw_mesh.specs.declared.stepping.Happening.{Happening}
+use Rattle.alw_mesh.specs.Grids.{IsQuietTurn, Happens}
+use Rattle.alw_mesh.specs.Keeping.{machine_of, no_whole, whole_in, NodeIsOf, IsGrid, NodesAreWithin, taken_from, after_taking, HasTrapPc, may_act, acted_by, Acts}
 use Rattle.alw_mesh.proofs.Turning.{left_step, used_is, pc_is}
+use Rattle.alw_mesh.proofs.Quiet.{takes_none, sends_none, uses_none, traps_not}
 use Rattle.alw_mesh.proofs.OneNode.{state_at, enabled_there, step_there}
 use Rattle.alw_mesh.proofs.Moves.{taken_is, links_are_taken, taking_keeps_nodes, taking_keeps_room, links_are_sent, goes_below, named, given}
 
@@ -146,6 +150,23 @@ module _ {image : Parts} {parameters : Parameters} {nodes : List Whole} {traffic
         let did_is = acts_so.did ∙ ap (λ (s : Stepped). s.did) stepped_is in
         subst (λ (p : Remains × Did). MayFollow p.0 event p.1) (λ i. (sym grid.remains_are i, sym did_is i)) (may_follow image parameters here event grid.aimed.nodes enabled few)
 
+    -- the node that stands at the place now
+    pub acted_there : (whole : Whole) → whole ≡ get_or nodes' place whole → whole.state ≡ stepped.node
+    acted_there whole read =
+        let is : nodes' ≡ set nodes place (record (whole_in nodes place) { state = (acted_by (whole_in nodes place) event taken).node }) = acts.nodes_are in
+        let room : place < length nodes = rw place_is is_kept in
+        let there : place < length nodes' = rw (is, length-set nodes place (record (whole_in nodes place) { state = (acted_by (whole_in nodes place) event taken).node })) room in
+        ap (λ (w : Whole). w.state) (get_or_read nodes' place whole there read no_whole ∙ ((λ i. get_or (is i) place no_whole) ∙ get_or-set_same nodes place _ no_whole room))
+        ∙ (λ i. (acted_by (whole_in nodes (place_is i)) event (taken_at i)).node)
+
+    -- a quiet turn leaves the links as they are
+    pub links_stay : IsQuietTurn event acted.did acted.changes_holds → traffic' ≡ after_sends traffic' at sent'.messages
+    links_stay turn =
+        let none = acts_so.sends ∙ sends_none event acted.did acted.changes_holds turn own.parts own.parameters own.number own.state head acts_so.did in
+        let room_is : traffic'.room ≡ traffic'.room - 0 = omega arith in
+        let stays : traffic' ≡ after_sends traffic' at [] = λ i. record { nodes = traffic'.nodes; room = room_is i; links = traffic'.links } in
+        stays ∙ sym (ap (after_sends traffic' at) none)
+
     module _ {traffic_after : Traffic} (moved : traffic_after ≡ after_sends traffic' at sent'.messages) where
       moved_so : traffic_after ≡ traffic_next
       moved_so = moved ∙ (λ i. after_sends (traffic_is i) at (acts_so.sends i))
@@ -155,11 +176,11 @@ module _ {image : Parts} {parameters : Parameters} {nodes : List Whole} {traffic
           let remains_is = changed ∙ ap (remains_after remains event) acts_so.did in
           subst (λ (p : List Whole × (Traffic × Remains)). IsGrid image parameters p.0 p.1.0 p.1.1) (sym (λ i. (acts_so.nodes_are i, (moved_so i, remains_is i)))) grid_next
 
-      pub happens : (number : NodeNo) (used : Bool) → sent.room ≡ node_count image → number.0 ≡ at → used ≡ (is_turn acted.did && acted.changes_holds)
+      pub happens : (number : NodeNo) (used quiet : Bool) (pc : ℕ) → (quiet ≡ true → IsQuietTurn event acted.did acted.changes_holds) → sent.room ≡ node_count image → number.0 ≡ at → used ≡ (is_turn acted.did && acted.changes_holds) → HasTrapPc stepped.node.slots pc acted.did
           → Happens (record { image = image; parameters = parameters; machine = here; room = traffic.room })
           (record { image = image; parameters = parameters; machine = machine_of nodes' traffic_after.links; room = traffic_after.room }) event sent'
-          (record { told = record { node = number; did = acted.did; taken = taken; used = used; pc = acted.pc }; changes_holds = acted.changes_holds })
-      happens number used room number_is used_of =
+          (record { told = record { node = number; did = acted.did; taken = taken; used = used; pc = pc }; changes_holds = acted.changes_holds; quiet = quiet })
+      happens number used quiet pc turn room number_is used_of has =
           let before = node_at here at in
           let left = left_step image parameters at before event (taken_by image here event) in
           let did_is : acted.did ≡ (stepped_by image parameters here event).did = acts_so.did ∙ ap (λ (s : Stepped). s.did) stepped_is in
@@ -175,8 +196,23 @@ module _ {image : Parts} {parameters : Parameters} {nodes : List Whole} {traffic
               did = did_is;
               taken = taken_at ∙ head_is;
               used = used_of ∙ ((λ i. is_turn (did_is i) && holds_are i) ∙ used_is before _ _ left);
-              pc = pc_is before _ _ acted.pc left (subst (λ (p : List Slot × Did). HasTrapPc p.0 acted.pc p.1) (λ i. ((stepped_is i).node.slots, did_is i)) acts_so.pc);
+              pc = pc_is before _ _ pc left (subst (λ (p : List Slot × Did). HasTrapPc p.0 pc p.1) (λ i. ((stepped_is i).node.slots, did_is i)) has);
               sends_are = acts_so.sends ∙ ap (λ (s : Stepped). s.sends) stepped_is;
             };
+            quiet = turn;
             holds = holds_are;
           }
+
+      -- and so it is told
+      pub happens_quietly : (number : NodeNo) (slot : ℕ) → acted.did ≡ Turn slot Done → IsQuietTurn event acted.did acted.changes_holds → sent.room ≡ node_count image → number.0 ≡ at
+          → Happens (record { image = image; parameters = parameters; machine = here; room = traffic.room })
+          (record { image = image; parameters = parameters; machine = machine_of nodes' traffic_after.links; room = traffic_after.room }) event sent'
+          (record { told = record { node = number; did = Turn slot Done; taken = None; used = false; pc = 0 }; changes_holds = false; quiet = true })
+      happens_quietly number slot did_is turn room number_is =
+          let none : taken ≡ None = taken_at ∙ takes_none event acted.did acted.changes_holds turn traffic in
+          let told_is : ◌≡◌ {A = Happening} (record { told = record { node = number; did = acted.did; taken = taken; used = false; pc = 0 }; changes_holds = acted.changes_holds; quiet = true })
+          (record { told = record { node = number; did = Turn slot Done; taken = None; used = false; pc = 0 }; changes_holds = false; quiet = true })
+          = λ i. record { told = record { node = number; did = did_is i; taken = none i; used = false; pc = 0 }; changes_holds = turn.stays i; quiet = true } in
+          subst (λ (h : Happening). Happens (record { image = image; parameters = parameters; machine = here; room = traffic.room })
+          (record { image = image; parameters = parameters; machine = machine_of nodes' traffic_after.links; room = traffic_after.room }) event sent' h) told_is
+          (happens number false true 0 (λ _. turn) room number_is (uses_none event acted.did acted.changes_holds turn) (traps_not event acted.did acted.changes_holds turn stepped.node.slots))

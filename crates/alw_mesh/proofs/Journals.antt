@@ -33,7 +33,7 @@ use Rattle.alw_ready.proofs.MainEvents.{filter_main}
 use Rattle.alw_mesh.specs.declared.stepping.Happening.{Happening}
 use Rattle.alw_mesh.specs.Grids.{Grid, grid_start, Happens}
 use Rattle.alw_mesh.specs.Histories.{History, state_of, entry_of, grown, stamps_of, may_be_next, IsRun, sent_last, last_sends}
-use Rattle.alw_mesh.specs.Keeping.{is_quiet, IsMachine}
+use Rattle.alw_mesh.specs.Keeping.{IsMachine}
 use Rattle.alw_mesh.specs.Ends.{next_events}
 use Rattle.alw_mesh.proofs.OneNode.{few_nodes}
 use Rattle.alw_mesh.proofs.Remaining.{remains_few}
@@ -209,11 +209,11 @@ module _ {grid : Grid} {journal : List Entry} {joined : ℕ} {sent : Sending} {t
 
       -- behind a quiet turn before the limit they fit as they were
       pub rows_stay : (stamp limit : ℕ) → stamp ≡ stamp_at grid.image grid.machine event → limit ≡ after.parameters.limit → stamp < limit
-          → is_quiet event happening.told.did happening.changes_holds ≡ true → RowsFit after.image after.parameters after.machine ready
+          → happening.quiet ≡ true → RowsFit after.image after.parameters after.machine ready
       rows_stay stamp limit stamp_is limit_is early quiet =
           let aimed = subst (IsAimed grid.image) (sym is.state_is) (state_aimed grid.image grid.parameters journal is.run.legal) in
           let allowed = ap (λ (p : Parameters). p.limit) happens.parameters in
-          let stay = quiet_rows grid.image grid.parameters grid.machine event happening.told.did happening.changes_holds ready quiet aimed may (happens.told 0).did happens.holds
+          let stay = quiet_rows event happening.told.did happening.changes_holds (happens.quiet quiet) grid.image grid.parameters grid.machine ready aimed may (happens.told 0).did happens.holds
           (omega (arith, stamp_is, limit_is, allowed)) is.run.parameters.limit is.rows in
           subst (λ (p : Parts × (Parameters × MachineState)). RowsFit p.0 p.1.0 p.1.1 ready) (λ i. (sym happens.image i, (sym happens.parameters i, sym happens.machine i))) stay
 

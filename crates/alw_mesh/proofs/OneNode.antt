@@ -1,5 +1,5 @@
 -- One of the nodes that a machine keeps: by its share of the image it does what the machine's definitions say of its number.
-use Rattle.std.proofs.Common.{◌≡◌, ℕ, ◌+◌, ◌/◌, ◌<◌, ◌≤◌, ◌==◌, ◌&&◌, Bool, not, Option, List, map, get_or, set, length, refl, sym, ap, subst, ◌∙◌, arith}
+use Rattle.std.proofs.Common.{◌≡◌, ℕ, ◌+◌, ◌/◌, ◌<◌, ◌≤◌, ◌==◌, ◌&&◌, Bool, not, Option, List, get_or, set, length, sym, ap, subst, ◌∙◌, arith}
 use Rattle.std.proofs.Math.ListN.{get_or-map}
 use Rattle.std.proofs.lemmas.List.{get_or_read}
 use Rattle.std.proofs.lemmas.Nat.{mul-le}
@@ -19,9 +19,8 @@ use Rattle.alw_model.specs.Counts.{is_turn}
 use Rattle.alw_ready.specs.Changes.{hold_count}
 use Rattle.alw_node.specs.Nodes.{Whole, Steps}
 use Rattle.alw_node.proofs.KeptMembers.{enabled_same, step_same}
-use Rattle.alw_mesh.specs.declared.stepping.Acted.{Acted}
 use Rattle.alw_mesh.proofs.Turning.{Left, left_step, none_given}
-use Rattle.alw_mesh.specs.Keeping.{machine_of, no_whole, whole_in, NodeIsOf, AreNodes, HasTrapPc, acted_by, Acts}
+use Rattle.alw_mesh.specs.Keeping.{machine_of, no_whole, whole_in, NodeIsOf, AreNodes, acted_by, Acts}
 
 -- the home of a line exists
 pub home_exists : (image : Parts) → IsImage image → (line per_node home : ℕ) → per_node ≡ image.per_node → home ≡ line / per_node → line < line_count image → home < node_count image
@@ -48,12 +47,12 @@ module _ (image : Parts) (parameters : Parameters) where
     step_there = (λ i. node_step (of.share i) (of.parameters_are i) (of.number i) whole.state event head) ∙ step_same image n parameters n whole.state event head
 
 -- a node that was read takes its step, and is put back
-pub acts : (nodes : List Whole) (at : ℕ) (event : Event) (taken : Option Msg) (sent sent' : Sending) (node node' : Whole) (did : Did) (before pc free : ℕ) (changes : Bool)
+pub acts : (nodes : List Whole) (at : ℕ) (event : Event) (taken : Option Msg) (sent sent' : Sending) (node node' : Whole) (did : Did) (before free : ℕ) (changes : Bool)
     → at < length nodes → node ≡ get_or nodes at node → Steps node node' sent sent' did (acted_by node event taken)
     → before ≡ hold_count node.state.slots → changes ≡ (not (before == 0 && is_turn did) && not (hold_count node'.state.slots == before))
-    → free + length sent'.messages ≡ sent'.room → HasTrapPc node'.state.slots pc did
-    → Acts nodes (set nodes at node') at event taken sent sent' (record { did = did; changes_holds = changes; pc = pc })
-acts nodes at event taken sent sent' node node' did before pc free changes here read steps held changed fits has =
+    → free + length sent'.messages ≡ sent'.room
+    → Acts nodes (set nodes at node') at event taken sent sent' (record { did = did; changes_holds = changes })
+acts nodes at event taken sent sent' node node' did before free changes here read steps held changed fits =
     let is : node ≡ whole_in nodes at = get_or_read nodes at node here read no_whole in
     let slots = ap (λ (w : Whole). w.state.slots) steps.node ∙ ap (λ (w : Whole). (acted_by w event taken).node.slots) is in
     let room = ap (λ (s : Sending). s.room) steps.sends in
@@ -68,5 +67,4 @@ acts nodes at event taken sent sent' node node' did before pc free changes here 
       sends = ap (λ (s : Sending). s.messages) steps.sends ∙ ap (λ (w : Whole). (acted_by w event taken).sends) is;
       did = steps.outcome ∙ ap (λ (w : Whole). (acted_by w event taken).did) is;
       holds = changed_so ∙ (λ i. not (hold_count (slots i) == hold_count (is i).state.slots));
-      pc = subst (λ (after : List Slot). HasTrapPc after pc did) slots has;
     }

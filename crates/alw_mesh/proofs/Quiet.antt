@@ -6,11 +6,11 @@ use Rattle.alw_num.specs.declared.addresses.NodeNo.{NodeNo}
 use Rattle.alw_num.specs.declared.states.Mode.{Mode}
 use Rattle.sparc_table.specs.declared.outcomes.Need.{Need}
 use Rattle.sparc_table.specs.declared.outcomes.Need.TheVariants as needs
-use Rattle.sparc_table.specs.declared.outcomes.Outcome.TheVariants.{Done, Miss, Out, Halt, Trap}
+use Rattle.sparc_table.specs.declared.outcomes.Outcome.TheVariants.{Done, Trap}
 use Rattle.sparc_table.specs.Turns.{need_of}
 use Rattle.alw_msg.specs.declared.messages.Msg.{Msg}
 use Rattle.alw_msg.specs.declared.events.Event.{Event}
-use Rattle.alw_msg.specs.declared.events.Event.TheVariants.{Instr, Handle, Deliver, Evict}
+use Rattle.alw_msg.specs.declared.events.Event.TheVariants.{Instr, Handle}
 use Rattle.alw_msg.specs.Events.{node_of}
 use Rattle.alw_msg.specs.Lists.{is_nonempty}
 use Rattle.alw_msg.specs.Statuses.{is_ready}
@@ -18,11 +18,12 @@ use Rattle.alw_image.specs.declared.parts.Parts.{Parts}
 use Rattle.alw_image.specs.Images.{node_count, line_count}
 use Rattle.alw_image.specs.Parameters.{Parameters}
 use Rattle.alw_model.specs.declared.steps.Did.{Did}
-use Rattle.alw_model.specs.declared.steps.Did.TheVariants.{Turn, Missed, Took, Packet, Handled, Evicted}
+use Rattle.alw_model.specs.declared.steps.Did.TheVariants.{Turn}
 use Rattle.alw_model.specs.Caches.{Copy, granted_copy}
 use Rattle.alw_model.specs.Contexts.{Slot, slot_at, no_slot, running}
-use Rattle.alw_model.specs.NodeStates.{NodeState}
-use Rattle.alw_model.specs.NodeSteps.{Stepped, access, instr_by, instr}
+use Rattle.alw_model.specs.Counts.{is_turn}
+use Rattle.alw_model.specs.NodeStates.{NodeState, stamp_of}
+use Rattle.alw_model.specs.NodeSteps.{Stepped, access, instr_by, instr, node_step}
 use Rattle.alw_model.specs.Machine.{MachineState, node_at, no_node, is_enabled, has_halted, stamp_at, stepped_by, step}
 use Rattle.alw_model.proofs.Journals.{and_parts}
 use Rattle.law_lines.proofs.Steps.{enabled_is}
@@ -39,7 +40,9 @@ use Rattle.alw_ready.specs.Changes.{changes_holds, is_wide, is_wide_event, RowsF
 use Rattle.alw_ready.proofs.MainEvents.{may_in_time}
 use Rattle.alw_ready.proofs.Leaves.{rows_left}
 use Rattle.alw_ready.proofs.Renewing.{sent_all}
-use Rattle.alw_mesh.specs.Keeping.{is_quiet}
+use Rattle.alw_links.specs.Traffic.{Traffic}
+use Rattle.alw_mesh.specs.Grids.{IsQuietTurn}
+use Rattle.alw_mesh.specs.Keeping.{taken_from, after_taking, HasTrapPc}
 use Rattle.alw_mesh.proofs.Turning.{Left, left_step}
 
 -- a turn sends nothing, and its slot is the current one after it
@@ -137,21 +140,41 @@ module _ (parts : Parts) (parameters : Parameters) (s : MachineState) (at : Node
       (record { instr = says.instr ∙ (may ∙ sym instr_after); handle = says.handle ∙ sym handle_after; senders = λ from. refl }) in
       sent_all parts parameters next at.0 rows (subst (λ (p : List (ℕ × Msg) × List Row). RowsFitBut parts parameters next at.0 p.0 p.1) (λ x. (silent x, set-get_or rows at.0 no_row x)) left)
 
--- the same of an event that is one
-pub quiet_rows : (parts : Parts) (parameters : Parameters) (s : MachineState) (event : Event) (did : Did) (changes : Bool) (rows : List Row) → is_quiet event did changes ≡ true → IsAimed parts s
-    → IsTrue (may_happen parts parameters s event) → did ≡ (stepped_by parts parameters s event).did → changes ≡ changes_holds (node_at s (node_of event)) (stepped_by parts parameters s event).node
-    → stamp_at parts s event < parameters.limit → parameters.limit ≤ 1048576 → RowsFit parts parameters s rows → RowsFit parts parameters (step parts parameters s event) rows
-quiet_rows parts parameters s (Instr at) (Turn slot Done) false rows is aimed may did holds early small fit = quiet_keeps parts parameters s at slot aimed may (sym did) (sym holds) early small rows fit
-quiet_rows parts parameters s (Instr at) (Turn slot Done) true rows is aimed may did holds early small fit = absurd (cc)
-quiet_rows parts parameters s (Instr at) (Turn slot (Miss line mode)) changes rows is aimed may did holds early small fit = absurd (cc)
-quiet_rows parts parameters s (Instr at) (Turn slot (Out word)) changes rows is aimed may did holds early small fit = absurd (cc)
-quiet_rows parts parameters s (Instr at) (Turn slot Halt) changes rows is aimed may did holds early small fit = absurd (cc)
-quiet_rows parts parameters s (Instr at) (Turn slot (Trap type)) changes rows is aimed may did holds early small fit = absurd (cc)
-quiet_rows parts parameters s (Instr at) (Missed slot) changes rows is aimed may did holds early small fit = absurd (cc)
-quiet_rows parts parameters s (Instr at) Took changes rows is aimed may did holds early small fit = absurd (cc)
-quiet_rows parts parameters s (Instr at) Packet changes rows is aimed may did holds early small fit = absurd (cc)
-quiet_rows parts parameters s (Instr at) (Handled kind state) changes rows is aimed may did holds early small fit = absurd (cc)
-quiet_rows parts parameters s (Instr at) Evicted changes rows is aimed may did holds early small fit = absurd (cc)
-quiet_rows parts parameters s (Handle at) did changes rows is aimed may so holds early small fit = absurd (cc)
-quiet_rows parts parameters s (Deliver from to) did changes rows is aimed may so holds early small fit = absurd (cc)
-quiet_rows parts parameters s (Evict at emptied) did changes rows is aimed may so holds early small fit = absurd (cc)
+-- an event that is one
+module _ (event : Event) (did : Did) (changes : Bool) (turn : IsQuietTurn event did changes) where
+  -- it takes no message, sends none, uses no hold and traps not, and what remains to be done stays
+  pub takes_none : (traffic : Traffic) → taken_from traffic event ≡ None
+  takes_none traffic = ap (taken_from traffic) turn.event_is
+
+  pub takes_off_none : (traffic : Traffic) → traffic ≡ after_taking traffic event
+  takes_off_none traffic = sym (ap (after_taking traffic) turn.event_is)
+
+  pub sends_none : (parts : Parts) (parameters : Parameters) (number : ℕ) (node : NodeState) (head : Option Msg) → did ≡ (node_step parts parameters number node event head).did
+      → (node_step parts parameters number node event head).sends ≡ []
+  sends_none parts parameters number node head so =
+      let did_is = ap (λ (e : Event). (node_step parts parameters number node e head).did) (sym turn.event_is) ∙ (sym so ∙ turn.did_is) in
+      let stepped = node_step parts parameters number node (Instr turn.at) head in
+      ap (λ (e : Event). (node_step parts parameters number node e head).sends) turn.event_is
+      ∙ (subst (Alone stepped.sends stepped.node.current) did_is (alone parts parameters number (stamp_of node.clock head) node (running node.slots node.current))).0
+
+  pub uses_none : false ≡ (is_turn did && changes)
+  uses_none = sym (λ i. is_turn (turn.did_is i) && turn.stays i)
+
+  pub traps_not : (slots : List Slot) → HasTrapPc slots 0 did
+  traps_not slots = subst (HasTrapPc slots 0) (sym turn.did_is) tt
+
+  pub remains_stay : (remains : Remains) → remains ≡ remains_after remains event did
+  remains_stay remains = sym (λ i. remains_after remains (turn.event_is i) (turn.did_is i))
+
+  -- which main events may happen stays
+  pub quiet_rows : (parts : Parts) (parameters : Parameters) (s : MachineState) (rows : List Row) → IsAimed parts s → IsTrue (may_happen parts parameters s event)
+      → did ≡ (stepped_by parts parameters s event).did → changes ≡ changes_holds (node_at s (node_of event)) (stepped_by parts parameters s event).node
+      → stamp_at parts s event < parameters.limit → parameters.limit ≤ 1048576 → RowsFit parts parameters s rows → RowsFit parts parameters (step parts parameters s event) rows
+  quiet_rows parts parameters s rows aimed may so holds early small fit =
+      let stepped_is = ap (stepped_by parts parameters s) turn.event_is in
+      let holds_are : changes_holds (node_at s (node_of event)) (stepped_by parts parameters s event).node ≡ changes_holds (node_at s turn.at.0) (stepped_by parts parameters s (Instr turn.at)).node
+      = λ i. changes_holds (node_at s (node_of (turn.event_is i))) (stepped_is i).node in
+      subst (λ (e : Event). RowsFit parts parameters (step parts parameters s e) rows) (sym turn.event_is)
+      (quiet_keeps parts parameters s turn.at turn.slot aimed (subst (λ (e : Event). IsTrue (may_happen parts parameters s e)) turn.event_is may)
+      (ap (λ (t : Stepped). t.did) (sym stepped_is) ∙ (sym so ∙ turn.did_is)) (sym holds_are ∙ (sym holds ∙ turn.stays))
+      (subst (λ (e : Event). stamp_at parts s e < parameters.limit) turn.event_is early) small rows fit)

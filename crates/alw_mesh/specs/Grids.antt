@@ -1,18 +1,22 @@
 -- The nodes of a machine and the links between them, as a machine's state.
-use Rattle.std.specs.Prelude.{◌≡◌, ℕ, ◌<◌, ◌≤◌, ◌/◌, ◌%◌, List, length}
-use Rattle.alw_msg.specs.declared.messages.Msg.{Msg}
+use Rattle.std.specs.Prelude.{◌≡◌, ℕ, ◌<◌, ◌≤◌, ◌/◌, ◌%◌, Bool, true, false, length}
+use Rattle.alw_num.specs.declared.addresses.NodeNo.{NodeNo}
 use Rattle.alw_msg.specs.declared.events.Event.{Event}
+use Rattle.alw_msg.specs.declared.events.Event.TheVariants.{Instr}
 use Rattle.alw_msg.specs.Events.{node_of}
 use Rattle.alw_msg.specs.Sending.{Sending}
 use Rattle.alw_image.specs.declared.parts.Parts.{Parts}
 use Rattle.alw_image.specs.Images.{node_count}
 use Rattle.alw_image.specs.Parameters.{Parameters}
-use Rattle.alw_model.specs.Machine.{MachineState, machine_start, no_node, node_at, stepped_by, step}
+use Rattle.sparc_table.specs.declared.outcomes.Outcome.TheVariants.{Done}
+use Rattle.alw_model.specs.declared.steps.Did.{Did}
+use Rattle.alw_model.specs.declared.steps.Did.TheVariants.{Turn}
+use Rattle.alw_model.specs.Machine.{MachineState, machine_start, node_at, stepped_by, step}
 use Rattle.alw_model.specs.Runs.{moment_of}
 use Rattle.alw_ready.specs.Changes.{changes_holds}
 use Rattle.alw_mesh.specs.declared.stepping.Happening.{Happening}
 use Rattle.alw_tally.specs.Happenings as tellings
-use Rattle.alw_node.specs.Nodes.{Whole, IsNode}
+use Rattle.alw_node.specs.Nodes.{Whole}
 use Rattle.alw_node.specs.Shares.{share_of}
 
 -- an image, parameters and a state, and the number of messages more that the links have room for
@@ -38,6 +42,14 @@ pub record IsSlotOf (grid : Grid) (context : ℕ) (whole : Whole) (slot : ℕ) :
   pub slot_is : slot ≡ context % grid.image.contexts
   pub within : slot < length whole.state.slots
 
+-- an event, which did this, was a quiet turn: it was Done, and ended no hold
+pub record IsQuietTurn (event : Event) (did : Did) (changes : Bool) : Type 0 where
+  pub at : NodeNo
+  pub slot : ℕ
+  pub event_is : event ≡ Instr at
+  pub did_is : did ≡ Turn slot Done
+  pub stays : changes ≡ false
+
 -- an event has happened: it has left the machine that it leaves, and what is told of it, with its sends, is the event of a run
 pub record Happens (before after : Grid) (event : Event) (sent : Sending) (happening : Happening) : Type 0 where
   pub image : after.image ≡ before.image
@@ -46,4 +58,5 @@ pub record Happens (before after : Grid) (event : Event) (sent : Sending) (happe
   pub room : sent.room ≡ node_count before.image
   pub few : length sent.messages ≤ node_count before.image
   pub told : (stamp : ℕ) → tellings.HappeningIsOf happening.told sent.messages (moment_of before.image before.parameters before.machine (record { stamp = stamp; event = event }))
+  pub quiet : happening.quiet ≡ true → IsQuietTurn event happening.told.did happening.changes_holds
   pub holds : happening.changes_holds ≡ changes_holds (node_at before.machine (node_of event)) (stepped_by before.image before.parameters before.machine event).node

@@ -1,15 +1,15 @@
 -- What a machine keeps beside its image, its parameters and its journal, and what holds of it.
-use Rattle.std.specs.Prelude.{◌≡◌, ℕ, ◌<◌, ◌≤◌, Bool, false, not, Option, None, List, [], map, length, slice_index_or, slice_set}
+use Rattle.std.specs.Prelude.{◌≡◌, ℕ, ◌<◌, ◌≤◌, Bool, Option, None, List, [], map, length, slice_index_or, slice_set}
 use Rattle.alw_msg.specs.declared.messages.Msg.{Msg}
 use Rattle.alw_msg.specs.declared.events.Event.{Event}
-use Rattle.alw_msg.specs.declared.events.Event.TheVariants.{Instr, Deliver}
+use Rattle.alw_msg.specs.declared.events.Event.TheVariants.{Deliver}
 use Rattle.alw_msg.specs.declared.events.Entry.{Entry}
 use Rattle.alw_msg.specs.Lists.{front}
 use Rattle.alw_msg.specs.Sending.{Sending}
 use Rattle.alw_image.specs.declared.parts.Parts.{Parts}
 use Rattle.alw_image.specs.Images.{IsImage, node_count}
 use Rattle.alw_image.specs.Parameters.{Parameters}
-use Rattle.sparc_table.specs.declared.outcomes.Outcome.TheVariants.{Done, Trap}
+use Rattle.sparc_table.specs.declared.outcomes.Outcome.TheVariants.{Trap}
 use Rattle.alw_msg.specs.declared.contexts.Status.{Status}
 use Rattle.alw_msg.specs.declared.contexts.Status.TheVariants.{Trapped}
 use Rattle.alw_model.specs.declared.steps.Did.{Did}
@@ -111,12 +111,6 @@ pub record Acts (nodes nodes' : List Whole) (at : ℕ) (event : Event) (taken : 
   pub sends : sent'.messages ≡ (acted_by (whole_in nodes at) event taken).sends
   pub did : acted.did ≡ (acted_by (whole_in nodes at) event taken).did
   pub holds : acted.changes_holds ≡ changes_holds (whole_in nodes at).state (acted_by (whole_in nodes at) event taken).node
-  pub pc : HasTrapPc (acted_by (whole_in nodes at) event taken).node.slots acted.pc acted.did
-
--- an event, which did this, is a quiet turn: it is Done, and ends no hold
-abbrev pub is_quiet : Event → Did → Bool → Bool
-is_quiet (Instr at) (Turn slot Done) changes = not changes
-is_quiet event did changes = false
 
 -- ---- the machine
 

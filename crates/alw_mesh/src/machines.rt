@@ -4,7 +4,6 @@ ghost use Rattle.alw_mesh.specs.Histories.{Starts, Takes, Steps, may_be_next, en
 use crate::errors::{FitErr, StepErr, fit};
 use crate::meshes::Mesh;
 use crate::parts::MachineParts;
-use crate::stepping::is_quiet;
 use alw_image::{Image, Params};
 use alw_model::Did;
 use alw_msg::{Entry, Event, Journal, Sends};
@@ -98,12 +97,16 @@ impl Machine {
         let had_halted = self.mesh.has_halted();
         let happening = self.mesh.happen(event, &mut self.sent);
         let told = happening.told;
-        self.tally.add(self.mesh.image(), &told, &self.sent);
-        if is_quiet(event, told.did, happening.changes_holds)
-            && stamp < self.mesh.params().limit()
-        {
+        // A quiet turn has a compiled way of its own, to its end.
+        if happening.quiet {
+            self.tally.add(self.mesh.image(), &told, &self.sent);
+            if stamp < self.mesh.params().limit() {
+                return Ok(told.did);
+            }
+            self.ready.renew_all(&self.mesh);
             return Ok(told.did);
         }
+        self.tally.add(self.mesh.image(), &told, &self.sent);
         let changes = Changes {
             event,
             wide: is_wide(told.did, told.taken, happening.changes_holds),

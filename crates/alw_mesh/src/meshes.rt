@@ -15,7 +15,10 @@ ghost use Rattle.alw_mesh.specs.Keeping.{machine_of, AreNodes};
 ghost use Rattle.alw_mesh.specs.Joins.{IsGridOf};
 
 use crate::joining::{LinkLists, links_of, nodes_of, remains_at};
-use crate::stepping::{Happening, act, drop_head, head, is_in_time, nodes_start, uses_hold};
+use crate::stepping::{
+    Happening, act, drop_head, head, is_in_time, nodes_start, quiet_slot, quiet_turn, trap_pc,
+    uses_hold,
+};
 use alw_image::{Image, Params};
 use alw_links::Links;
 use alw_msg::{Event, Msg, Sends};
@@ -215,11 +218,11 @@ impl Mesh {
         ensures ok { OnOk result (self.new ≡ record self.old { room = max self.old.room (node_count self.old.image) }) }
         ensures err { OnErr result (self.new ≡ self.old) }
     {
-        let count = self.image.nodes();
-        self.links.reserve(u32::from(count))
+        self.links.reserve(self.nodes.len() as u32)
     }
 
-    /// An event happens. What it sends is in `sent`, and on its way.
+    /// An event happens. What it sends is in `sent`, and on its way. Behind a quiet turn, which sends
+    /// nothing, all but its node stays.
     #[inline(always)]
     pub fn happen(&mut self, event: Event, sent: &mut Sends) -> Happening
         requires enabled { IsTrue (is_enabled self.old.image self.old.parameters self.old.machine event) }
@@ -229,9 +232,13 @@ impl Mesh {
         ensures { Happens self.old self.new event sent.new result }
     {
         let number = event.node();
+        let place = usize::from(number.0);
         let head = head(&self.links, event);
         let taken = head.copied();
-        let acted = act(&mut self.nodes, usize::from(number.0), event, head, sent);
+        let acted = act(&mut self.nodes, place, event, head, sent);
+        if let Some(slot) = quiet_slot(event, acted.did, acted.changes_holds) {
+            return quiet_turn(number, slot);
+        }
         drop_head(&mut self.links, event);
         self.links.send_all(number, sent);
         self.remains.follow(event, acted.did);
@@ -241,9 +248,10 @@ impl Mesh {
                 did: acted.did,
                 taken,
                 used: uses_hold(acted.did, acted.changes_holds),
-                pc: acted.pc,
+                pc: trap_pc(&self.nodes[place], acted.did),
             },
             changes_holds: acted.changes_holds,
+            quiet: false,
         }
     }
 

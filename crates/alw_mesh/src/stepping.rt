@@ -1,12 +1,15 @@
-ghost use Rattle.std.specs.Prelude.{◌≡◌, ◌<◌, ◌≤◌, ◌==◌, ◌&&◌, not, true, length, nat_le, map, option_copied, IfOk};
+ghost use Rattle.std.specs.Prelude.{◌≡◌, ◌<◌, ◌≤◌, ◌==◌, ◌&&◌, not, true, false, None, length, nat_le, map, option_copied, IfOk, IfSome};
 ghost use Rattle.std.specs.List.{range_with_len};
 ghost use Rattle.std.specs.Arc.{arc_value};
 ghost use Rattle.alw_image.specs.Images.{node_count};
 ghost use Rattle.alw_model.specs.NodeStates.{stamp_of};
 ghost use Rattle.alw_model.specs.Counts.{is_turn};
+ghost use Rattle.alw_model.specs.declared.steps.Did.TheVariants.{Turn};
+ghost use Rattle.sparc_table.specs.declared.outcomes.Outcome.TheVariants.{Done};
 ghost use Rattle.alw_ready.specs.Changes.{hold_count};
 ghost use Rattle.alw_node.specs.Nodes.{whole_start, MessageIsGiven};
-ghost use Rattle.alw_mesh.specs.Keeping.{taken_from, after_taking, NodesAreWithin, HasTrapPc, whole_in, may_act, Acts, is_quiet};
+ghost use Rattle.alw_mesh.specs.Grids.{IsQuietTurn};
+ghost use Rattle.alw_mesh.specs.Keeping.{taken_from, after_taking, NodesAreWithin, HasTrapPc, whole_in, may_act, Acts};
 
 use alw_image::{Image, Params};
 use alw_links::Links;
@@ -97,13 +100,11 @@ pub fn trap_pc(node: &Node, did: Did) -> u32
     }
 }
 
-/// What a node did at an event, whether it has another number of holds than before, and the PC of the
-/// slot that trapped, where it was a trapping turn.
+/// What a node did at an event, and whether it has another number of holds than before.
 #[derive(Clone, Copy, PartialEq, Eq)]
 pub struct Acted {
     pub did: Did,
     pub changes_holds: bool,
-    pub pc: u32,
 }
 
 /// One event of a node, with the message that it takes.
@@ -128,7 +129,6 @@ pub fn act(
     Acted {
         did,
         changes_holds: changes_holds(node, did, holds),
-        pc: trap_pc(node, did),
     }
 }
 
@@ -141,21 +141,50 @@ fn changes_holds(node: &Node, did: Did, before: u32) -> bool
     !ends_none && node.holds() != before
 }
 
-/// What happened at an event, and whether its node has another number of holds than before.
+/// What happened at an event, whether its node has another number of holds than before, and whether it
+/// is known to have been a quiet turn.
 #[derive(Clone, Copy, PartialEq, Eq)]
 pub struct Happening {
     pub told: Happened,
     pub changes_holds: bool,
+    pub quiet: bool,
 }
 
-/// An event was a quiet turn: it was Done, and ended no hold. Behind it, before the limit, the same main
-/// events may happen as before it.
+/// The slot of a quiet turn, where an event was one: it was Done, and ended no hold. Behind it, before
+/// the limit, the same main events may happen as before it.
 #[inline(always)]
-pub fn is_quiet(event: Event, did: Did, changes_holds: bool) -> bool
-    ensures { result ≡ is_quiet event did changes_holds }
+pub fn quiet_slot(event: Event, did: Did, changes_holds: bool) -> Option<u8>
+    ensures { IfSome result (λ slot. (did ≡ Turn slot Done) × IsQuietTurn event did changes_holds) }
 {
-    let (Event::Instr { .. }, Did::Turn { outcome, .. }) = (event, did) else {
-        return false;
-    };
-    outcome == Outcome::Done && !changes_holds
+    match (event, did) {
+        (
+            Event::Instr { .. },
+            Did::Turn {
+                slot,
+                outcome: Outcome::Done,
+            },
+        ) if !changes_holds => Some(slot),
+        _ => None,
+    }
+}
+
+/// What happened at a quiet turn of a slot of a node.
+#[inline(always)]
+pub fn quiet_turn(node: NodeNo, slot: u8) -> Happening
+    ensures { result ≡ record { told = record { node = node; did = Turn slot Done; taken = None; used = false; pc = 0 }; changes_holds = false; quiet = true } }
+{
+    Happening {
+        told: Happened {
+            node,
+            did: Did::Turn {
+                slot,
+                outcome: Outcome::Done,
+            },
+            taken: None,
+            used: false,
+            pc: 0,
+        },
+        changes_holds: false,
+        quiet: true,
+    }
 }

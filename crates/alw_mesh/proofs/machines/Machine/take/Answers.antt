@@ -1,5 +1,5 @@
 -- A legal journal and its next entry.
-use Rattle.std.proofs.Common.{not, ◌&&◌, sym, ap, ◌∙◌}
+use Rattle.std.proofs.Common.{not, ◌&&◌, ap, ◌∙◌}
 use Rattle.alw_image.specs.Parameters.{Parameters}
 use Rattle.alw_model.specs.Machine.{has_halted}
 use Rattle.alw_tally.specs.Told.{told_with}
@@ -25,7 +25,7 @@ invariant_of-self-2 c =
     let happens = rw c.in_ok-reserve-2.ensures.ok at c.happen-happening.ensures in
     let had = c.has_halted-had_halted.ensures ∙ ap (λ (g : Grid). has_halted g.machine) c.in_ok-reserve-2.ensures.ok in
     machine_grows c.self.invariant c.args.event may happens c.stamp-stamp.result c.stamp-stamp.ensures c.in_ok-push.ensures.ok
-    (λ moment of. c.add.ensures.told moment of ∙ (λ i. told_with (c.image.ensures i) (c.reserve.ensures.told i) moment))
+    (λ moment of. c.add-2.ensures.told moment of ∙ (λ i. told_with (c.image-2.ensures i) (c.reserve.ensures.told i) moment))
     (rows_renewed c.self.invariant c.args.event may happens c.is_wide.result c.flips.result c.is_wide.ensures (c.flips.ensures ∙ (λ i. not (had i) && c.has_halted.ensures i)) c.renew.ensures)
 
 pub invariant_of-self-then-stamp-limit : goal.invariant_of-self-then-stamp-limit
@@ -35,7 +35,21 @@ invariant_of-self-then-stamp-limit c =
     machine_grows c.self.invariant c.args.event may happens c.stamp-stamp.result c.stamp-stamp.ensures c.in_ok-push.ensures.ok
     (λ moment of. c.add.ensures.told moment of ∙ (λ i. told_with (c.image.ensures i) (c.reserve.ensures.told i) moment))
     (rows_stay c.self.invariant c.args.event may happens c.stamp-stamp.result c.limit.result c.stamp-stamp.ensures (c.limit.ensures.value ∙ ap (λ (p : Parameters). p.limit) c.params.ensures)
-    c.if-stamp-limit.true (sym c.is_quiet.ensures ∙ c.if-is_quiet.true))
+    c.if-stamp-limit.true c.if-happening.true)
+
+pub invariant_of-self-then-happening : goal.invariant_of-self-then-happening
+invariant_of-self-then-happening c =
+    let may = next_may c.self.invariant c.args.event (rw (← c.self.view_is) at c.requires) in
+    let happens = rw c.in_ok-reserve-2.ensures.ok at c.happen-happening.ensures in
+    machine_grows c.self.invariant c.args.event may happens c.stamp-stamp.result c.stamp-stamp.ensures c.in_ok-push.ensures.ok
+    (λ moment of. c.add.ensures.told moment of ∙ (λ i. told_with (c.image.ensures i) (c.reserve.ensures.told i) moment))
+    c.renew_all.ensures
+
+pub returns-then-happening : goal.returns-then-happening
+returns-then-happening c =
+    let may = next_may c.self.invariant c.args.event (rw (← c.self.view_is) at c.requires) in
+    let happens = rw c.in_ok-reserve-2.ensures.ok at c.happen-happening.ensures in
+    rw (← c.self.view_is) (step_answers c.self.invariant c.args.event may happens c.stamp-stamp.result c.stamp-stamp.ensures c.in_ok-push.ensures.ok)
 
 pub returns-then-stamp-limit : goal.returns-then-stamp-limit
 returns-then-stamp-limit c =
