@@ -2,9 +2,10 @@
 """Proves the crates of the program side by side: tools/prove.py SCRATCH.
 
 A crate begins once those below it stand, first the one with the longest chain of others above it, by lines of code and by how many crates each reads. It takes the processors that no
-other waits for, at most four, and two where no other chain is longer. The toolchain lets one command at a time work in a checkout, so each works in a lane: a copy of the sources below
-SCRATCH. What it makes goes to the checkout, and to the other lanes by links. The program's own crate comes last, in the checkout. Standard error tells
-which crates stand. Ends with 1 where one isn't proved, and says what the toolchain said of it.
+other waits for, at most four. Where no other chain is longer it gets four jobs, beside which others have two processors. The toolchain lets one command at
+a time work in a checkout, so each works in a lane: a copy of the sources below SCRATCH. What it makes goes to the checkout, and to the other lanes by
+links. The program's own crate comes last, in the checkout. Standard error tells which crates stand. Ends with 1 where one isn't proved, and says what the
+toolchain said of it.
 """
 import os
 import re
@@ -24,6 +25,8 @@ SOURCES = ('src', 'specs', 'proofs')
 CRATE = re.compile(r'^(\w+)[^:\n]*:(.*)$', re.M)
 FAULT = re.compile(r'^error|failed|not run', re.M)
 MOST_JOBS = 4
+# The processors that the crate with the longest chain takes from the others. It gets more jobs than that, so that it is never the one that waits.
+CHAIN_PROCESSORS = 2
 # The lines of code that take as long to prove as the first read of a crate below.
 READ = 40
 JOB_BYTES = 1_500_000_000
@@ -145,22 +148,24 @@ class Proofs:
         return status, said
 
     def jobs_of(self, name, idle, waiting):
-        """How many of the idle processors a crate takes, where so many crates wait for them, with itself."""
+        """How many jobs a crate gets, and how many processors it takes from the others, where so many are idle and so many crates wait for them, with itself."""
         under_way = [other for other, _, _ in self.running.values()]
-        is_last = all(self.chains[name] >= self.chains[other] for other in [*self.left, *under_way])
-        return min(MOST_JOBS, idle, max(idle // waiting, 2 if is_last else 1))
+        if all(self.chains[name] >= self.chains[other] for other in [*self.left, *under_way]):
+            return min(MOST_JOBS, self.most), max(CHAIN_PROCESSORS, idle // waiting)
+        jobs = min(MOST_JOBS, max(1, idle // waiting))
+        return jobs, jobs
 
     def begin(self, pool):
         """Begins what can begin."""
         ready = [name for name in self.left if self.stand.issuperset(self.crates[name])]
         for at, name in enumerate(ready):
-            idle = self.most - sum(jobs for _, _, jobs in self.running.values())
+            idle = self.most - sum(taken for _, _, taken in self.running.values())
             if idle <= 0:
                 return
-            jobs = self.jobs_of(name, idle, len(ready) - at)
+            jobs, taken = self.jobs_of(name, idle, len(ready) - at)
             lane = self.free.pop()
             self.left.remove(name)
-            self.running[pool.submit(self.prove_in, lane, name, jobs)] = name, lane, jobs
+            self.running[pool.submit(self.prove_in, lane, name, jobs)] = name, lane, taken
 
     def end(self, done):
         """A crate stands: its library goes to all lanes. Answers whether it is proved."""
