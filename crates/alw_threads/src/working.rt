@@ -47,7 +47,7 @@ fn fit_workers(image: &Image, params: &Params, workers: u32) -> Result<(), Refus
     ensures { HasRoom workers params.now image.now result }
 {
     fit(image, params)?;
-    let nodes = u32::from(image.width()) * u32::from(image.height());
+    let nodes = u32::from(image.nodes());
     if workers > nodes {
         let fault = InputErr::WorkersDoNotFit(u64::from(workers), u64::from(nodes));
         return Err(Refusal::Fault(fault));
