@@ -1,18 +1,23 @@
--- What the links keep beside the messages, at the start and once one link has another list.
-use Rattle.std.proofs.Common.{◌≡◌, ℕ, zero, suc, ◌+◌, ◌-◌, ◌*◌, ◌<◌, ◌≤◌, ◌==◌, nat_lt, Bool, true, false, cond, ◌&&◌, List, [], ◌∷◌, ◌++◌, length, replicate}
-use Rattle.std.proofs.Common.{get_or, set, refl, sym, ap, ◌∙◌, arith}
-use Rattle.std.proofs.lemmas.Bool.{eq-eqb, ne_eqb, lt-ltb}
-use Rattle.std.proofs.lemmas.List.{get_or-set_same, get_or-set_other, get_or-replicate, length-replicate, length-set, length_push}
+-- What the links keep, at the start and once one link has another list.
+use Rattle.std.proofs.Common.{◌≡◌, ℕ, zero, suc, ◌*◌, ◌<◌, ◌≤◌, ◌==◌, nat_lt, Bool, true, false, cond, not, ◌&&◌, List, [], ◌∷◌, ◌++◌, length, replicate}
+use Rattle.std.proofs.Common.{get_or, set, refl, sym, ap, subst, ◌∙◌, arith}
+use Rattle.std.proofs.lemmas.Bool.{false≢true, eq-eqb, ne_eqb, lt-ltb}
+use Rattle.std.proofs.lemmas.Bool.Decides.{nat_tests}
+use Rattle.std.proofs.lemmas.List.{get_or-set_same, get_or-set_other, get_or-replicate, length-replicate, length-set, length-map}
 use Rattle.alw_num.specs.declared.node_sets.NodeSet.{NodeSet}
 use Rattle.alw_num.specs.Limits.{most_nodes}
 use Rattle.alw_num.specs.NodeSets.{no_nodes, has_node, add_node, drop_node, nodes_of}
+use Rattle.alw_num.specs.Weights.{digit, weigh}
 use Rattle.alw_num.proofs.Weigh.{is_node}
 use Rattle.alw_num.proofs.Sets.{has-none, has-add, has-drop}
 use Rattle.alw_msg.specs.declared.messages.Msg.{Msg}
 use Rattle.alw_msg.specs.Lists.{is_nonempty, behind}
-use Rattle.alw_links.specs.Traffic.{place_of, link_of, links_without, links_with, in_flight}
+use Rattle.alw_links.specs.declared.pools.Ends.{Ends}
+use Rattle.alw_links.specs.declared.pools.Place.{Place}
+use Rattle.alw_links.specs.Traffic.{place_of, link_of, links_without, links_with}
+use Rattle.alw_links.specs.Chains.{no_place, links_of, Spot, times_in, AreLinks, IsPool, IsPoolOf}
 use Rattle.alw_links.specs.Keeping.{nobody, AreSenders, IsTraffic}
-use Rattle.alw_links.proofs.Places.{place_below, link_set, in_flight-set, in_flight-at}
+use Rattle.alw_links.proofs.Places.{place_below, link_set}
 
 -- ---- the start
 
@@ -23,24 +28,50 @@ nobody_is_none = refl
 has-nobody : (k : ℕ) → has_node (nodes_of nobody) k ≡ false
 has-nobody k = ap (λ s. has_node s k) nobody_is_none ∙ has-none k
 
-in_flight-start : (n : ℕ) → in_flight (replicate n []) ≡ 0
-in_flight-start zero = refl
-in_flight-start (suc n) = omega (arith, in_flight-start n)
+abbrev pub no_ends : Ends
+no_ends = record { first = no_place; last = no_place }
+
+pub links-start : (n : ℕ) → links_of [] (replicate n no_ends) ≡ replicate n []
+links-start zero = refl
+links-start (suc n) = ap (λ (ls : List (List Msg)). [] ∷ ls) (links-start n)
 
 link-start : (n i : ℕ) → get_or {A = List Msg} (replicate n []) i [] ≡ []
 link-start zero i = refl
 link-start (suc n) zero = refl
 link-start (suc n) (suc i) = link-start n i
 
-pub starts : (nodes : ℕ) → nodes ≤ most_nodes → IsTraffic nodes (replicate (nodes * nodes) []) (replicate nodes nobody) [] 0
+linked-start : (n : ℕ) → AreLinks [] (replicate n no_ends) (replicate n [])
+linked-start zero = tt
+linked-start (suc n) = (record { first = refl; last = refl; path = tt }, linked-start n)
+
+weigh-start : (f : List Spot → ℕ) (n : ℕ) → f [] ≡ 0 → weigh f (replicate n []) ≡ 0
+weigh-start f zero e = refl
+weigh-start f (suc n) e = omega (arith, e, weigh-start f n e)
+
+pool-start : (n : ℕ) → IsPool [] (replicate n no_ends) no_place 0
+pool-start n = record {
+  chains = replicate n [];
+  loose = [];
+  linked = linked-start n;
+  starts = refl;
+  path = tt;
+  left = refl;
+  once = λ k. omega (arith, weigh-start (λ (chain : List Spot). times_in k chain) n refl, none_below k);
+  counted = omega (arith, weigh-start (λ (chain : List Spot). length chain) n refl);
+  few = omega arith;
+}
+  where
+    none_below : (k : ℕ) → digit (nat_lt k 0) ≡ 0
+    none_below k = grind (arith, nat_tests)
+
+pub starts : (nodes : ℕ) → nodes ≤ most_nodes → IsTraffic nodes (replicate (nodes * nodes) no_ends) (replicate nodes nobody) [] no_place 0
 starts nodes few = record {
   few_nodes = few;
-  links_are = length-replicate (nodes * nodes) [];
+  links_are = length-replicate (nodes * nodes) no_ends;
   senders_are = length-replicate nodes nobody;
   sent_by = λ from to l. (λ i. has_node (nodes_of (get_or-replicate nodes to nobody nobody l i)) from)
-      ∙ (has-nobody from ∙ nothing (nat_lt from nodes) _ (link-start (nodes * nodes) (place_of nodes from to)));
-  counted = in_flight-start (nodes * nodes);
-  few = omega arith;
+      ∙ (has-nobody from ∙ nothing (nat_lt from nodes) _ (ap (λ (ls : List (List Msg)). get_or ls (place_of nodes from to) []) (links-start (nodes * nodes)) ∙ link-start (nodes * nodes) (place_of nodes from to)));
+  pool = pool-start (nodes * nodes);
 }
   where
     nothing : (b : Bool) (link : List Msg) → link ≡ [] → false ≡ (b && is_nonempty link)
@@ -56,10 +87,6 @@ nonempty_push (first ∷ rest) msg = refl
 nonempty : (link : List Msg) → 1 ≤ length link → is_nonempty link ≡ true
 nonempty [] l = absurd (omega arith)
 nonempty (first ∷ rest) l = refl
-
-length-behind : (link : List Msg) → 1 ≤ length link → length (behind link) + 1 ≡ length link
-length-behind [] l = absurd (omega arith)
-length-behind (first ∷ rest) l = omega arith
 
 -- ---- one link has another list
 
@@ -77,49 +104,55 @@ module _ (nodes : ℕ) (links : List (List Msg)) (senders : List NodeSet) (from 
       (λ same. rw (eq-eqb a from same) refl)
       (λ other. rw (ne_eqb a from other) refl))))
 
-module _ (nodes : ℕ) (links : List (List Msg)) (senders : List NodeSet) (spare : List Msg) (count from to : ℕ) where
-  -- one link has another list, as long as `more` and `less` say, and the number of spare places has changed the other way
-  changes : (link : List Msg) (now : NodeSet) (left : List Msg) (next : ℕ) → IsTraffic nodes links senders spare count → from < nodes → to < nodes
-      → length link + length left ≡ length (link_of nodes links from to) + length spare → next + length (link_of nodes links from to) ≡ count + length link
-      → ((k : ℕ) → has_node (nodes_of now) k ≡ cond (k == from) (is_nonempty link) (has_node (nodes_of (get_or senders to nobody)) k))
-      → IsTraffic nodes (set links (place_of nodes from to) link) (set senders to now) left next
-  changes link now left next is f t whole counted told =
-      let place = place_of nodes from to in
-      let fits : place < length links = rw is.links_are (place_below nodes from to f t) in
+module _ (nodes : ℕ) (links : List Ends) (senders : List NodeSet) (places : List Place) (spare room from to : ℕ) (is : IsTraffic nodes links senders places spare room)
+    (f : from < nodes) (t : to < nodes) where
+  old : NodeSet
+  old = get_or senders to nobody
+
+  link : List Msg
+  link = link_of nodes (links_of places links) from to
+
+  pub place_within : place_of nodes from to < length links
+  place_within = rw is.links_are (place_below nodes from to f t)
+
+  -- one link has another list
+  changes : (msgs : List Msg) (now : NodeSet) (after : List Ends) (pool : List Place) (first left : ℕ) → IsPoolOf pool after first left (set (links_of places links) (place_of nodes from to) msgs)
+      → ((k : ℕ) → has_node (nodes_of now) k ≡ cond (k == from) (is_nonempty msgs) (has_node (nodes_of old) k)) → IsTraffic nodes after (set senders to now) pool first left
+  unfolding old
+  changes msgs now after pool first left is_pool told =
+      let long : length (links_of places links) ≡ nodes * nodes = length-map links _ ∙ is.links_are in
       record {
         few_nodes = is.few_nodes;
-        links_are = length-set links place link ∙ is.links_are;
+        links_are = sym (length-map after _) ∙ (ap length is_pool.lists_are ∙ (length-set (links_of places links) (place_of nodes from to) msgs ∙ long));
         senders_are = length-set senders to now ∙ is.senders_are;
-        sent_by = senders_set nodes links senders from to link now f t is.links_are is.senders_are is.sent_by told;
-        counted = omega (arith, in_flight-set links place link fits, is.counted);
-        few = omega (arith, is.few);
+        sent_by = subst (λ (ls : List (List Msg)). AreSenders nodes ls (set senders to now)) (sym is_pool.lists_are)
+            (senders_set nodes (links_of places links) senders from to msgs now f t long is.senders_are is.sent_by told);
+        pool = is_pool.pool;
       }
 
-  -- the sender of a message is told of
-  pub sends : (msg : Msg) (now : NodeSet) (left : List Msg) → IsTraffic nodes links senders spare count → from < nodes → to < nodes
-      → length left + 1 ≡ length spare → nodes_of now ≡ add_node (nodes_of (get_or senders to nobody)) from
-      → IsTraffic nodes (links_with nodes links from to msg) (set senders to now) left (count + 1)
-  sends msg now left is f t spent added =
-      let old = link_of nodes links from to in
-      changes (old ++ msg ∷ []) now left (count + 1) is f t (omega (arith, length_push old msg)) (omega (arith, length_push old msg)) (λ k.
-      (λ i. has_node (added i) k) ∙ (has-add (nodes_of (get_or senders to nobody)) from k
-      ∙ ap (λ b. cond (k == from) b (has_node (nodes_of (get_or senders to nobody)) k)) (sym (nonempty_push old msg))))
+  -- the sender of a message is among the senders, where the link was empty only then
+  pub sends : (msg : Msg) (now : NodeSet) (alone : Bool) (after : List Ends) (pool : List Place) (first left : ℕ) → IsPoolOf pool after first left (links_with nodes (links_of places links) from to msg)
+      → alone ≡ not (is_nonempty (link_of nodes (links_of places links) from to)) → nodes_of now ≡ cond alone (add_node (nodes_of (get_or senders to nobody)) from) (nodes_of (get_or senders to nobody))
+      → IsTraffic nodes after (set senders to now) pool first left
+  unfolding old link
+  sends msg now alone after pool first left is_pool alone_is told = changes (link ++ msg ∷ []) now after pool first left is_pool (λ k.
+      (λ i. has_node (told i) k) ∙ (joins alone k (is_nonempty link) refl alone_is ∙ ap (λ b. cond (k == from) b (has_node (nodes_of old) k)) (sym (nonempty_push link msg))))
+    where
+      joins : (alone : Bool) (k : ℕ) (some : Bool) → is_nonempty link ≡ some → alone ≡ not some → has_node (cond alone (add_node (nodes_of old) from) (nodes_of old)) k ≡ cond (k == from) true (has_node (nodes_of old) k)
+      joins true k some e a = has-add (nodes_of old) from k
+      joins false k true e a = is_node _ k from (λ same. rw (eq-eqb k from same, same) (is.sent_by from to t ∙ rw (lt-ltb from nodes f, e) refl)) (λ other. rw (ne_eqb k from other) refl)
+      joins false k false e a = absurd (false≢true a)
 
   -- of a link that had a message the head was taken, and its sender stays where the link has another
-  pub takes : (now : NodeSet) (left : List Msg) (more : Bool) → IsTraffic nodes links senders spare count → from < nodes → to < nodes
-      → length left ≡ length spare + 1 → 1 ≤ length (link_of nodes links from to) → more ≡ is_nonempty (behind (link_of nodes links from to))
-      → nodes_of now ≡ cond more (nodes_of (get_or senders to nobody)) (drop_node (nodes_of (get_or senders to nobody)) from)
-      → IsTraffic nodes (links_without nodes links from to) (set senders to now) left (count - 1)
-  takes now left more is f t room some others told =
-      let old = link_of nodes links from to in
-      let fits : place_of nodes from to < length links = rw is.links_are (place_below nodes from to f t) in
-      let was : has_node (nodes_of (get_or senders to nobody)) from ≡ true = is.sent_by from to t ∙ rw (lt-ltb from nodes f, nonempty old some) refl in
-      let counts : length (behind old) + 1 ≡ length old = length-behind old some in
-      changes (behind old) now left (count - 1) is f t (omega arith) (omega (arith, in_flight-at links (place_of nodes from to) fits, is.counted)) (λ k.
-      (λ i. has_node (told i) k) ∙ (stays more k was ∙ ap (λ b. cond (k == from) b (has_node (nodes_of (get_or senders to nobody)) k)) others))
+  pub takes : (now : NodeSet) (more : Bool) (after : List Ends) (pool : List Place) (first left : ℕ) → IsPoolOf pool after first left (links_without nodes (links_of places links) from to)
+      → 1 ≤ length (link_of nodes (links_of places links) from to) → more ≡ is_nonempty (behind (link_of nodes (links_of places links) from to))
+      → nodes_of now ≡ cond more (nodes_of (get_or senders to nobody)) (drop_node (nodes_of (get_or senders to nobody)) from) → IsTraffic nodes after (set senders to now) pool first left
+  unfolding old link
+  takes now more after pool first left is_pool some others told =
+      let was : has_node (nodes_of old) from ≡ true = is.sent_by from to t ∙ rw (lt-ltb from nodes f, nonempty link some) refl in
+      changes (behind link) now after pool first left is_pool (λ k.
+      (λ i. has_node (told i) k) ∙ (stays more k was ∙ ap (λ b. cond (k == from) b (has_node (nodes_of old) k)) others))
     where
-      stays : (more : Bool) (k : ℕ) → has_node (nodes_of (get_or senders to nobody)) from ≡ true
-          → has_node (cond more (nodes_of (get_or senders to nobody)) (drop_node (nodes_of (get_or senders to nobody)) from)) k
-          ≡ cond (k == from) more (has_node (nodes_of (get_or senders to nobody)) k)
-      stays false k was = has-drop (nodes_of (get_or senders to nobody)) from k
+      stays : (more : Bool) (k : ℕ) → has_node (nodes_of old) from ≡ true → has_node (cond more (nodes_of old) (drop_node (nodes_of old) from)) k ≡ cond (k == from) more (has_node (nodes_of old) k)
+      stays false k was = has-drop (nodes_of old) from k
       stays true k was = is_node _ k from (λ same. rw (eq-eqb k from same, same, was) refl) (λ other. rw (ne_eqb k from other) refl)

@@ -1,2 +1,5 @@
 pub mod Places
+mod Chains
+mod Moves
+mod Walks
 mod Keeping

@@ -1,15 +1,16 @@
 -- What a link has once a message has been sent or taken, what several sends come to, and when nothing is on the way.
-use Rattle.std.proofs.Common.{◌≡◌, ℕ, zero, suc, ◌+◌, ◌*◌, ◌<◌, ◌≤◌, ◌==◌, cond, not, ◌&&◌, List, [], ◌∷◌, ◌++◌, length, get_or, set, drop, slice_get, Some}
-use Rattle.std.proofs.Common.{refl, ap, ◌∙◌, arith}
+use Rattle.std.proofs.Common.{◌≡◌, ℕ, zero, suc, ◌+◌, ◌*◌, ◌<◌, ◌==◌, cond, not, ◌&&◌, List, [], ◌∷◌, ◌++◌, length, get_or, set, drop, slice_get, Some}
+use Rattle.std.proofs.Common.{refl, sym, ap, ◌∙◌, arith}
 use Rattle.std.specs.List.{list_any}
 use Rattle.std.proofs.lemmas.Bool.{eq-eqb, ne_eqb}
-use Rattle.std.proofs.lemmas.List.{get_or-set_same, get_or-set_other, drop_more, get_or_read}
+use Rattle.std.proofs.lemmas.List.{get_or-set_same, get_or-set_other, drop_more}
 use Rattle.std.proofs.lemmas.Option.{get_or_from_slice_get}
 use Rattle.std.proofs.lemmas.Nat.{mul-add-lt, same_from_place}
+use Rattle.alw_num.specs.Weights.{digit}
 use Rattle.alw_num.proofs.Weigh.{is_node}
 use Rattle.alw_msg.specs.declared.messages.Msg.{Msg}
 use Rattle.alw_msg.specs.Lists.{is_nonempty, behind}
-use Rattle.alw_links.specs.Traffic.{place_of, link_of, links_without, links_with, links_with_all, in_flight}
+use Rattle.alw_links.specs.Traffic.{Traffic, place_of, link_of, links_without, links_with, links_with_all, in_flight, after_take}
 
 module _ (nodes : ℕ) where
   -- the link of a pair has a place of its own
@@ -54,25 +55,23 @@ module _ (nodes : ℕ) where
       ap (links_with_all nodes links from) (drop_more sends i send l ∙ ap (λ (first : ℕ × Msg). first ∷ drop (i + 1) sends)
       (get_or_from_slice_get sends i send send e))
 
--- ---- the number of messages on the way
+-- ---- a link that has no message
 
-pub in_flight-set : (links : List (List Msg)) (i : ℕ) (link : List Msg) → i < length links → in_flight (set links i link) + length (get_or links i [])
-    ≡ in_flight links + length link
-in_flight-set [] i link l = absurd (omega arith)
-in_flight-set (first ∷ rest) zero link l = omega arith
-in_flight-set (first ∷ rest) (suc i) link l = omega (arith, in_flight-set rest i link (omega arith))
+-- nothing is taken from it
+pub taken_none : (nodes room : ℕ) (links : List (List Msg)) (from to : ℕ) → link_of nodes links from to ≡ []
+    → let traffic : Traffic = record { nodes = nodes; room = room; links = links } in traffic ≡ after_take traffic from to
+taken_none nodes room links from to none =
+    let more : room ≡ room + digit (is_nonempty (link_of nodes links from to)) = omega (arith, ap (λ (link : List Msg). digit (is_nonempty link)) none) in
+    let same = sym (stays links (place_of nodes from to) none) in
+    λ i. record { nodes = nodes; room = more i; links = same i }
+  where
+    stays : (links : List (List Msg)) (i : ℕ) → get_or links i [] ≡ [] → set links i (behind (get_or links i [])) ≡ links
+    stays [] i e = refl
+    stays (first ∷ rest) zero e = ap (λ (link : List Msg). link ∷ rest) (ap behind e ∙ sym e)
+    stays (first ∷ rest) (suc i) e = ap (λ (links : List (List Msg)). first ∷ links) (stays rest i e)
 
 -- nothing is on the way exactly where no link has a message
 pub in_flight-none : (links : List (List Msg)) → (in_flight links == 0) ≡ not (list_any is_nonempty links)
 in_flight-none [] = refl
 in_flight-none ([] ∷ rest) = ap (λ n. n == 0) (omega arith) ∙ in_flight-none rest
 in_flight-none ((msg ∷ more) ∷ rest) = ne_eqb _ 0 (λ e. omega arith)
-
--- no link has more than all of them
-pub in_flight-at : (links : List (List Msg)) (i : ℕ) → i < length links → length (get_or links i []) ≤ in_flight links
-in_flight-at links i l = omega (arith, in_flight-set links i [] l)
-
--- a link whose list is there to read, and has a message
-pub some_at : (links : List (List Msg)) (i : ℕ) (link : List Msg) → i < length links → link ≡ get_or links i link → 0 < length link
-    → 1 ≤ length (get_or links i [])
-some_at links i link l e some = omega (arith, ap length (get_or_read links i link l e []))

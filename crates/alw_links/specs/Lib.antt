@@ -1,2 +1,3 @@
 pub mod Traffic
+pub mod Chains
 pub mod Keeping

@@ -5,49 +5,36 @@ ghost use Rattle.alw_num.specs.NodeSets.{has_node, add_node, drop_node, nodes_of
 ghost use Rattle.alw_msg.specs.Lists.{is_nonempty, front};
 ghost use Rattle.alw_links.specs.Traffic.{link_in, in_flight, after_take, after_send, after_sends};
 
-use crate::moves::{pop, push};
-use alw_msg::{Kind, Msg, Sends};
-use alw_num::{Line, LineNo, MOST_NODES, NoMemory, NodeNo, NodeSet};
+use crate::iters::Link;
+use crate::pools::{END, Ends, Pool, pop, push, widen};
+use alw_msg::{Msg, Sends};
+use alw_num::{MOST_NODES, NoMemory, NodeNo, NodeSet};
 use std::alloc::Global;
-use std::collections::LinkedList;
 use std::marker::Model;
-
-// More messages than this are never held, on the links and as spare places together.
-const MOST: usize = 1 << 62;
-
-// What a spare place has: no message of a machine.
-const BLANK: Msg = Msg {
-    kind: Kind::BUSY,
-    line: LineNo(0),
-    src: NodeNo(0),
-    stamp: 0,
-    body: Line::ZERO,
-};
 
 /// The links of a machine: one for each ordered pair of nodes, a node with itself too, first in,
 /// first out (Lamport 1978).
 ///
-/// A message stands in a place that goes from list to list. `reserve` takes the memory of places,
-/// and no other call takes any.
+/// A message stands in a place of one pool, that goes from chain to chain. `reserve` takes the
+/// memory of places, and no other call takes any.
 #[derive(Drop)]
 pub struct Links {
     nodes: u32,
-    links: Vec<LinkedList<Msg>>,
+    links: Vec<Ends>,
     senders: Vec<NodeSet>,
-    spare: LinkedList<Msg>,
-    count: usize,
+    pool: Pool,
 }
 
 impl Model for Links {
-    ghost use Rattle.std.specs.Prelude.{length};
     ghost use Rattle.alw_links.specs.Traffic.{Traffic};
+    ghost use Rattle.alw_links.specs.Chains.{links_of};
     ghost use Rattle.alw_links.specs.Keeping.{IsTraffic};
 
     ghost Value = { Traffic };
 
-    ghost view = { λ l. record { nodes = l.nodes; room = length l.spare; links = l.links.items } };
+    ghost view = { λ l. record { nodes = l.nodes; room = l.pool.room; links = links_of l.pool.places.items l.links.items } };
 
-    ghost invariant = { λ l. IsTraffic l.nodes l.links.items l.senders.items l.spare l.count };
+    ghost invariant = { λ l. IsTraffic l.nodes l.links.items l.senders.items l.pool.places.items l.pool.spare l.pool.room };
 }
 
 impl Links {
@@ -57,26 +44,29 @@ impl Links {
         ensures { IfOk result (λ l. l ≡ record { nodes = nodes; room = 0; links = replicate (nodes * nodes) [] }) }
     {
         let pairs = (nodes * nodes) as usize;
-        let mut links = Vec::with_capacity(alloc, pairs)?;
-        for _ in 0..pairs {
-            links.push_reserved(LinkedList::new(alloc));
-        }
+        let empty = Ends {
+            first: END,
+            last: END,
+        };
         Ok(Links {
             nodes,
-            links,
+            links: vec![in alloc; empty; pairs]?,
             senders: vec![in alloc; NodeSet { low: 0, high: 0 }; nodes as usize]?,
-            spare: LinkedList::new(alloc),
-            count: 0,
+            pool: Pool {
+                places: Vec::new(alloc),
+                spare: END,
+                room: 0,
+            },
         })
     }
 
     /// Room for at least so many messages more, or all as it was. NoMemory also comes where there
-    /// would be more than 2^62 places. No call behind it takes memory.
+    /// would be 2^32 places. No call behind it takes memory.
     pub fn reserve(&mut self, count: u32) -> Result<(), NoMemory>
         ensures ok { OnOk result (self.new ≡ record self.old { room = max self.old.room count }) }
         ensures err { OnErr result (self.new ≡ self.old) }
     {
-        if self.spare.len() >= count as usize {
+        if self.pool.room >= count {
             return Ok(());
         }
         self.grow(count)
@@ -90,25 +80,15 @@ impl Links {
         ensures ok { OnOk result (self.new ≡ record self.old { room = count }) }
         ensures err { OnErr result (self.new ≡ self.old) }
     {
-        let had = self.spare.len();
-        if self.count > MOST - count as usize {
-            return Err(NoMemory);
-        }
-        let mut fresh = LinkedList::new(*self.spare.allocator());
-        for _ in had..count as usize {
-            fresh.push_back(BLANK)?;
-        }
-        let Ok(()) = self.spare.append(&mut fresh) else {
-            unreachable!();
-        };
-        Ok(())
+        let more = count - self.pool.room;
+        widen(&self.links, &mut self.pool, more)
     }
 
     /// The number of messages more that there is room for.
     pub fn room(&self) -> u64
         ensures { result ≡ self.now.room }
     {
-        self.spare.len() as u64
+        u64::from(self.pool.room)
     }
 
     /// A message more at the end of a link.
@@ -120,9 +100,8 @@ impl Links {
         ensures { self.new ≡ after_send self.old from.0 to.0 msg }
     {
         let at = place(self.nodes, from, to);
-        push(&mut self.links, &mut self.spare, at, msg);
-        self.count += 1;
-        self.senders[to.0 as usize].add(from);
+        let first = push(&mut self.links, &mut self.pool, at, msg);
+        enter(&mut self.senders[to.0 as usize], from, first);
     }
 
     /// What an event of a node sends goes to the ends of the node's links, in order.
@@ -148,9 +127,10 @@ impl Links {
         ensures links { self.new ≡ after_take self.old from.0 to.0 }
     {
         let at = place(self.nodes, from, to);
-        let msg = *self.links[at].front()?;
-        let more = pop(&mut self.links, &mut self.spare, at);
-        self.count -= 1;
+        if self.links[at].first == END {
+            return None;
+        }
+        let (msg, more) = pop(&mut self.links, &mut self.pool, at);
         leave(&mut self.senders[to.0 as usize], from, more);
         Some(msg)
     }
@@ -162,7 +142,12 @@ impl Links {
         requires to { to.0 < self.now.nodes }
         ensures { option_copied result ≡ front (link_in self.now from.0 to.0) }
     {
-        self.links[place(self.nodes, from, to)].front()
+        let first = self.links[place(self.nodes, from, to)].first;
+        if first == END {
+            None
+        } else {
+            Some(&self.pool.places[first as usize].msg)
+        }
     }
 
     /// Message i of a link, where the head is message 0. None exactly where the link has no more
@@ -172,17 +157,19 @@ impl Links {
         requires to { to.0 < self.now.nodes }
         ensures { result ≡ slice_get (link_in self.now from.0 to.0) i }
     {
-        let link = &self.links[place(self.nodes, from, to)];
-        link.iter().nth(i as usize).copied()
+        self.link(from, to).nth(i as usize).copied()
     }
 
     /// The messages of a link, its head first.
-    pub fn link(&self, from: NodeNo, to: NodeNo) -> &LinkedList<Msg>
+    pub fn link(&self, from: NodeNo, to: NodeNo) -> Link<'_>
         requires from { from.0 < self.now.nodes }
         requires to { to.0 < self.now.nodes }
-        ensures { result.now ≡ link_in self.now from.0 to.0 }
+        ensures { result ≡ link_in self.now from.0 to.0 }
     {
-        &self.links[place(self.nodes, from, to)]
+        Link::start(
+            &self.pool.places,
+            self.links[place(self.nodes, from, to)].first,
+        )
     }
 
     /// The nodes with something on the way to a node.
@@ -197,14 +184,14 @@ impl Links {
     pub fn len(&self) -> u64
         ensures { result ≡ in_flight self.now.links }
     {
-        self.count as u64
+        self.pool.places.len() as u64 - u64::from(self.pool.room)
     }
 
     /// No link has a message.
     pub fn is_empty(&self) -> bool
         ensures { result ≡ not (list_any is_nonempty self.now.links) }
     {
-        self.count == 0
+        self.pool.places.len() == self.pool.room as usize
     }
 }
 
@@ -215,6 +202,17 @@ fn place(nodes: u32, from: NodeNo, to: NodeNo) -> usize
     ensures { result ≡ from.0 * nodes + to.0 }
 {
     from.0 as usize * nodes as usize + to.0 as usize
+}
+
+// A message of a node was sent: the node is among the senders already, unless the link was empty.
+#[inline(always)]
+fn enter(senders: &mut NodeSet, from: NodeNo, first: bool)
+    requires { from.0 < MOST_NODES }
+    ensures { nodes_of senders.new ≡ (if first then add_node (nodes_of senders.old) from.0 else nodes_of senders.old) }
+{
+    if first {
+        senders.add(from);
+    }
 }
 
 // A message of a node was taken: the node leaves the senders, unless it has more on the way.

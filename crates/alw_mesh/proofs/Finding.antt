@@ -1,6 +1,7 @@
 -- The first of some messages that brings the bytes of a line.
-use Rattle.std.proofs.Common.{◌≡◌, ℕ, suc, ◌<◌, ◌==◌, cond, Some, List, [], ◌∷◌, ◌++◌, take, drop, length, get_or, sym, ap, ◌∙◌, append_assoc}
+use Rattle.std.proofs.Common.{◌≡◌, ℕ, suc, ◌<◌, ◌==◌, cond, Some, None, List, [], ◌∷◌, ◌++◌, take, drop, length, get_or, refl, sym, ap, ◌∙◌, append_assoc}
 use Rattle.std.proofs.lemmas.List.{take-append-drop}
+use Rattle.std.proofs.lemmas.Option.{none-some}
 use Rattle.std.proofs.lemmas.List.Concat.{flat_map-append}
 use Rattle.std.proofs.Math.Seq.{drop-cons}
 use Rattle.alw_num.specs.declared.addresses.Line.{Line}
@@ -37,3 +38,12 @@ module _ (one : Msg → List Line) (each : List Msg → List Line) (nothing : ea
       let last : each (msg ∷ behind) ≡ body ∷ each behind = more msg behind ∙ ap (λ bodies. bodies ++ each behind) brings in
       let split : each msgs ≡ body ∷ each behind = sym (ap each parts) ∙ (together (take k msgs) (msg ∷ behind) ∙ (λ i. none i ++ last i)) in
       sym (ap front split)
+
+-- the first of two lists
+pub front_here : (xs ys : List Line) (x : Line) → front xs ≡ Some x → front (xs ++ ys) ≡ Some x
+front_here [] ys x e = absurd (none-some x e)
+front_here (first ∷ rest) ys x e = e
+
+pub front_behind : (xs ys : List Line) → front xs ≡ None → front (xs ++ ys) ≡ front ys
+front_behind [] ys e = refl
+front_behind (first ∷ rest) ys e = absurd (none-some first (sym e))

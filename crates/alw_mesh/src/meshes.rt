@@ -20,13 +20,12 @@ use crate::stepping::{
     uses_hold,
 };
 use alw_image::{Image, Params};
-use alw_links::Links;
+use alw_links::{Link, Links};
 use alw_msg::{Event, Msg, Sends};
 use alw_node::{HomeView, Node, Nodes, Program};
 use alw_num::{LineNo, MOST_LINES, NoMemory, NodeNo, NodeSet, home_of};
 use alw_tally::{Happened, Remains};
 use std::alloc::Global;
-use std::collections::LinkedList;
 use std::marker::Model;
 use std::sync::Arc;
 
@@ -139,10 +138,10 @@ impl Mesh {
     }
 
     /// The messages on the link of two nodes, its head first.
-    pub fn link(&self, from: NodeNo, to: NodeNo) -> &LinkedList<Msg>
+    pub fn link(&self, from: NodeNo, to: NodeNo) -> Link<'_>
         requires from { from.0 < node_count self.now.image }
         requires to { to.0 < node_count self.now.image }
-        ensures { result.now ≡ link_at self.now.image self.now.machine from.0 to.0 }
+        ensures { result ≡ link_at self.now.image self.now.machine from.0 to.0 }
     {
         self.links.link(from, to)
     }

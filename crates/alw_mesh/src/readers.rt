@@ -20,12 +20,12 @@ ghost use Rattle.alw_mesh.specs.Readings.{node_in, slot_of, turns_in, counts_in,
 
 use crate::machines::Machine;
 use alw_image::{Image, Params};
+use alw_links::Link;
 use alw_model::Counts;
 use alw_msg::{Journal, Msg, Sends, Status};
 use alw_node::HomeView;
 use alw_num::{LINE_BYTES, Line, LineNo, MOST_LINES, Mode, NodeNo, SHARED_BASE, Width, lane};
 use sparc_table::Regs;
-use std::collections::LinkedList;
 
 impl Machine {
     /// The image that the machine was started from.
@@ -249,10 +249,10 @@ impl Machine {
     }
 
     /// The messages on the link of two nodes, its head first.
-    pub fn link(&self, from: NodeNo, to: NodeNo) -> &LinkedList<Msg>
+    pub fn link(&self, from: NodeNo, to: NodeNo) -> Link<'_>
         requires from { from.0 < node_count self.now.image }
         requires to { to.0 < node_count self.now.image }
-        ensures { result.now ≡ link_at self.now.image (state_of self.now) from.0 to.0 }
+        ensures { result ≡ link_at self.now.image (state_of self.now) from.0 to.0 }
     {
         self.mesh.link(from, to)
     }

@@ -8,10 +8,10 @@ ghost use Rattle.alw_memory.specs.Views.{IsViewOf};
 ghost use Rattle.alw_mesh.specs.Values.{brought_home, all_brought_home, brought_out, all_brought_out, owned_by, shown_at, OnlyBetween, FirstAlone};
 
 use crate::meshes::Mesh;
+use alw_links::Link;
 use alw_msg::{Kind, Msg};
 use alw_node::{HomeView, Node};
 use alw_num::{Line, LineNo, Mode, NodeNo, State};
-use std::collections::LinkedList;
 
 impl Mesh {
     /// The current value of a line: its one carrier's, or else its home's. A line whose home is Read-Only
@@ -120,8 +120,8 @@ fn brought_out(msg: &Msg, line: LineNo) -> Option<Line>
 }
 
 // The bytes of a line that the first of the messages on a link brings home. None where none does.
-fn brought_home_on(link: &LinkedList<Msg>, line: LineNo) -> Option<Line>
-    ensures { result ≡ front (all_brought_home line.0 link.now) }
+fn brought_home_on(link: Link<'_>, line: LineNo) -> Option<Line>
+    ensures { result ≡ front (all_brought_home line.0 link.entry) }
 {
     for msg in link {
         if let Some(body) = brought_home(msg, line) {
@@ -133,8 +133,8 @@ fn brought_home_on(link: &LinkedList<Msg>, line: LineNo) -> Option<Line>
 
 // The bytes of a line that the first of the messages on a link brings to be written. None where none
 // does.
-fn brought_out_on(link: &LinkedList<Msg>, line: LineNo) -> Option<Line>
-    ensures { result ≡ front (all_brought_out line.0 link.now) }
+fn brought_out_on(link: Link<'_>, line: LineNo) -> Option<Line>
+    ensures { result ≡ front (all_brought_out line.0 link.entry) }
 {
     for msg in link {
         if let Some(body) = brought_out(msg, line) {

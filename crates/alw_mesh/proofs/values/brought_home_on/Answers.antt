@@ -1,6 +1,6 @@
 -- The first message that brings something.
 use Rattle.std.proofs.Common.{◌≡◌, List, [], option_to_list, refl, sym, ap, subst, ◌∙◌}
-use Rattle.std.proofs.lemmas.Iterator.Consumers.{YieldsList-from_rest, YieldsList-so_far, YieldsList-turn}
+use Rattle.std.proofs.lemmas.Iterator.Consumers.{YieldsList-from_first, YieldsList-so_far, YieldsList-turn}
 use Rattle.alw_msg.specs.declared.messages.Msg.{Msg}
 use Rattle.alw_mesh.specs.Values.{brought_home, all_brought_home}
 use Rattle.alw_mesh.proofs.Finding.{home_more, first_is}
@@ -9,9 +9,9 @@ use Rattle.alw_mesh.proofs.values.brought_home_on.Goals as goal
 pub returns-in-Some-brought_home : goal.returns-in-Some-brought_home
 returns-in-Some-brought_home c =
     let line = c.args.line.0 in
-    let road = YieldsList-from_rest c.args.link.now c.into_iter-msg-iterator.ensures.into_iter_gives.0 in
+    let road = YieldsList-from_first (λ msg. msg.now) (λ rest. rest) c.args.link c.into_iter-msg-iterator.ensures.into_iter_gives in
     let turn = YieldsList-turn road c.loop-msg.yielded _ c.loop-msg.yielded_by _ _ c.in-Some.msg c.in-Some.is c.next.ensures.steps in
     let so_far = YieldsList-so_far road c.loop-msg.yielded _ c.loop-msg.yielded_by in
     let (_, _, none) = c.loop-msg.invariant in
-    first_is (brought_home line) (all_brought_home line) refl (home_more line) c.args.link.now _ c.in-Some.msg.now c.in-Some-brought_home.body turn.0
+    first_is (brought_home line) (all_brought_home line) refl (home_more line) c.args.link _ c.in-Some.msg.now c.in-Some-brought_home.body turn.0
     (subst (λ (msgs : List Msg). all_brought_home line msgs ≡ []) so_far none) turn.1 (sym c.brought_home.ensures ∙ ap option_to_list c.in-Some-brought_home.is)

@@ -1,8 +1,12 @@
-use Rattle.std.proofs.Common.{◌≡◌, ◌*◌, arith}
-use Rattle.alw_links.proofs.Keeping.{starts}
+-- No link has a place, and there is none.
+use Rattle.std.proofs.Common.{◌*◌, refl}
+use Rattle.alw_links.proofs.Keeping.{starts, links-start}
 use Rattle.alw_links.proofs.links.Links.start.Goals as goal
 
 pub invariant_of-result : goal.invariant_of-result
 invariant_of-result c =
-    let pairs : c.loop.counter ≡ c.args.nodes * c.args.nodes = omega arith in
-    rw (c.loop.invariant.0, pairs, c.in_ok-vec.ensures.items_if_clones_equal (λ y e. e), c.new-2.ensures) (starts c.args.nodes c.requires)
+    rw (c.in_ok-vec.ensures.items_if_clones_equal (λ y e. e), c.in_ok-vec-2.ensures.items_if_clones_equal (λ y e. e), c.new.ensures.items) (starts c.args.nodes c.requires)
+
+pub returns : goal.returns
+returns c =
+    rw (c.in_ok-vec.ensures.items_if_clones_equal (λ y e. e), c.new.ensures.items, links-start (c.args.nodes * c.args.nodes)) refl
