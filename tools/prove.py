@@ -1,11 +1,11 @@
 #!/usr/bin/env python3
 """Proves the crates of the program side by side: tools/prove.py SCRATCH.
 
-A crate begins once those below it stand, first the one with the longest chain of others above it, by lines of code and by how many crates each reads. It takes the processors that no
-other waits for, at most four. Where no other chain is longer it gets four jobs, beside which others have two processors. The toolchain lets one command at
-a time work in a checkout, so each works in a lane: a copy of the sources below SCRATCH. What it makes goes to the checkout, and to the other lanes by
-links. The program's own crate comes last, in the checkout. Standard error tells which crates stand. Ends with 1 where one isn't proved, and says what the
-toolchain said of it.
+A crate begins once those below it stand, first the one with the longest chain of others above it, by lines of code and by how many crates each reads.
+It takes the processors that no other waits for, at most four. Where no other chain is longer it gets four jobs, if memory holds them, beside which
+others have two processors. The toolchain lets one command at a time work in a checkout, so each works in a lane: a copy of the sources below SCRATCH.
+What it makes goes to the checkout, and to the other lanes by links. The program's own crate comes last, in the checkout. Standard error tells which
+crates stand. Ends with 1 where one isn't proved, and says what the toolchain said of it.
 """
 import os
 import re
@@ -25,7 +25,7 @@ SOURCES = ('src', 'specs', 'proofs')
 CRATE = re.compile(r'^(\w+)[^:\n]*:(.*)$', re.M)
 FAULT = re.compile(r'^error|failed|not run', re.M)
 MOST_JOBS = 4
-# The processors that the crate with the longest chain takes from the others. It gets more jobs than that, so that it is never the one that waits.
+# The processors that the crate with the longest chain takes from the others. It gets more jobs than that, since all that stand above it wait for it.
 CHAIN_PROCESSORS = 2
 # The lines of code that take as long to prove as the first read of a crate below.
 READ = 40
@@ -99,10 +99,10 @@ def chains(root, crates):
 
 
 def jobs_that_fit():
-    """How many jobs the processors and the memory that is free hold."""
+    """How many processors there are, and how many jobs the memory that is free holds."""
     processors = len(os.sched_getaffinity(0))
     free = re.search(r'^MemAvailable: *(\d+)', Path('/proc/meminfo').read_text(), re.M)
-    return max(1, min(processors, int(free[1]) * 1024 // JOB_BYTES) if free else processors)
+    return processors, max(1, int(free[1]) * 1024 // JOB_BYTES) if free else processors
 
 
 # ---- proving
@@ -113,7 +113,8 @@ class Proofs:
 
     def __init__(self, root, scratch):
         self.root, self.crates = root, crates_of_program(root)
-        self.most, self.chains = jobs_that_fit(), chains(root, self.crates)
+        self.processors, self.fit = jobs_that_fit()
+        self.most, self.chains = min(self.processors, self.fit), chains(root, self.crates)
         self.left = sorted((name for name in self.crates if name != PROGRAM), key=lambda name: -self.chains[name])
         self.stand, self.running, self.checks = set(), {}, set()
         self.free = [self.lane(scratch / f'lane-{number}') for number in range(min(self.most, len(self.left)))]
@@ -148,10 +149,14 @@ class Proofs:
         return status, said
 
     def jobs_of(self, name, idle, waiting):
-        """How many jobs a crate gets, and how many processors it takes from the others, where so many are idle and so many crates wait for them, with itself."""
-        under_way = [other for other, _, _ in self.running.values()]
+        """How many jobs a crate gets, and how many processors it takes from the others, where so many are idle and so many crates wait, with itself.
+
+        The crate with the longest chain gets as many jobs as the memory holds beside those under way, idle processors or not.
+        """
+        under_way = [other for other, _, _, _ in self.running.values()]
         if all(self.chains[name] >= self.chains[other] for other in [*self.left, *under_way]):
-            return min(MOST_JOBS, self.most), max(CHAIN_PROCESSORS, idle // waiting)
+            held = sum(jobs for _, _, jobs, _ in self.running.values())
+            return max(1, min(MOST_JOBS, self.processors, self.fit - held)), max(CHAIN_PROCESSORS, idle // waiting)
         jobs = min(MOST_JOBS, max(1, idle // waiting))
         return jobs, jobs
 
@@ -159,17 +164,17 @@ class Proofs:
         """Begins what can begin."""
         ready = [name for name in self.left if self.stand.issuperset(self.crates[name])]
         for at, name in enumerate(ready):
-            idle = self.most - sum(taken for _, _, taken in self.running.values())
+            idle = self.most - sum(taken for _, _, _, taken in self.running.values())
             if idle <= 0:
                 return
             jobs, taken = self.jobs_of(name, idle, len(ready) - at)
             lane = self.free.pop()
             self.left.remove(name)
-            self.running[pool.submit(self.prove_in, lane, name, jobs)] = name, lane, taken
+            self.running[pool.submit(self.prove_in, lane, name, jobs)] = name, lane, jobs, taken
 
     def end(self, done):
         """A crate stands: its library goes to all lanes. Answers whether it is proved."""
-        name, lane, _ = self.running.pop(done)
+        name, lane, _, _ = self.running.pop(done)
         status, said = done.result()
         if status != 0:
             return self.fail(name, said)
