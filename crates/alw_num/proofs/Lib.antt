@@ -7,3 +7,4 @@ pub mod Ranks
 pub mod MapLengths
 pub mod Lists
 mod Sums
+mod Quotients

@@ -3,6 +3,7 @@
 
 mod addresses;
 mod byte_list;
+mod divisors;
 mod draws;
 mod memory;
 mod node_sets;
@@ -16,6 +17,7 @@ pub use addresses::{
     line_of, with_lane,
 };
 pub use byte_list::Bytes;
+pub use divisors::Divisor;
 pub use draws::Draws;
 pub use memory::NoMemory;
 pub use node_sets::{MOST_NODES, NodeSet};
