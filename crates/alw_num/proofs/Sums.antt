@@ -51,37 +51,6 @@ module _ (counts : List ℕ) where
   pub place_exists : (k place left : ℕ) → IsPlace counts k place left → place < length counts
   place_exists k place left found = cases_lt_then (length counts) place (λ l. l) (λ l. absurd (omega (arith, found.below, beyond place l)))
 
-  -- of two parts one after the other, the first or the second has number k
-  halved : (low middle high k first left half rest : ℕ) → sum_before counts low + left ≡ k → k < sum_before counts high → sum_before counts low + first ≡ sum_before counts middle
-      → (left < first → (half ≡ 0) × (rest ≡ left)) → (first ≤ left → (half ≡ 1) × (first + rest ≡ left))
-      → ((half ≡ 0) × ((sum_before counts low + rest ≡ k) × (k < sum_before counts middle))) ⊎ ((half ≡ 1) × ((sum_before counts middle + rest ≡ k) × (k < sum_before counts high)))
-  halved low middle high k first left half rest before below part one two = cases_lt_then first left
-      (λ l. let in_first = one l in inl (in_first.0, (omega (arith, in_first.1), omega arith)))
-      (λ l. let in_second = two l in inr (in_second.0, (omega (arith, in_second.1), below)))
-
-  -- two halvings find one of four
-  pub one_of_four : (at k half left odd rest : ℕ) → sum_before counts at + k < sum_before counts (at + 4)
-      → (k < slice_index counts at + slice_index counts (at + 1) → (half ≡ 0) × (left ≡ k)) → (slice_index counts at + slice_index counts (at + 1) ≤ k → (half ≡ 1) × (slice_index counts at + slice_index counts (at + 1) + left ≡ k))
-      → (left < slice_index counts (at + 2 * half) → (odd ≡ 0) × (rest ≡ left)) → (slice_index counts (at + 2 * half) ≤ left → (odd ≡ 1) × (slice_index counts (at + 2 * half) + rest ≡ left))
-      → IsPlace counts (sum_before counts at + k) (at + 2 * half + odd) rest
-  one_of_four at k half left odd rest below first second even uneven =
-      let next : at + 1 + 1 ≡ at + 2 = omega arith in
-      let last : at + 4 ≡ at + 2 + 2 = omega arith in
-      let two : sum_before counts at + (slice_index counts at + slice_index counts (at + 1)) ≡ sum_before counts (at + 2) = omega (arith, sum_more at, sum_more (at + 1), ap (sum_before counts) next) in
-      ⊎_elim
-      (λ low. one_of_two at (omega (arith, low.0)) low.1.0 low.1.1)
-      (λ high. one_of_two (at + 2) (omega (arith, high.0)) high.1.0 (omega (arith, high.1.1, ap (sum_before counts) last)))
-      (halved at (at + 2) (at + 4) (sum_before counts at + k) (slice_index counts at + slice_index counts (at + 1)) k half left refl below two first second)
-    where
-      one_of_two : (p : ℕ) → at + 2 * half ≡ p → sum_before counts p + left ≡ sum_before counts at + k → sum_before counts at + k < sum_before counts (p + 2) → IsPlace counts (sum_before counts at + k) (at + 2 * half + odd) rest
-      one_of_two p is before within =
-          let here : slice_index counts (at + 2 * half) ≡ slice_index counts p = ap (slice_index counts) is in
-          let next : p + 1 + 1 ≡ p + 2 = omega arith in
-          ⊎_elim
-          (λ low. is_place p (at + 2 * half + odd) (sum_before counts at + k) rest (omega (arith, low.0, is)) low.1.0 low.1.1)
-          (λ high. is_place (p + 1) (at + 2 * half + odd) (sum_before counts at + k) rest (omega (arith, high.0, is)) high.1.0 (omega (arith, high.1.1, ap (sum_before counts) next)))
-          (halved p (p + 1) (p + 2) (sum_before counts at + k) (slice_index counts (at + 2 * half)) left odd rest before within (omega (arith, sum_more p, here)) even uneven)
-
   -- a part of all places has every number
   pub in_all : (width k : ℕ) → length counts ≤ width → k < total counts → IsInPart width counts k 0 k
   in_all width k l below =

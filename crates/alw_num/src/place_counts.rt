@@ -7,7 +7,7 @@ use std::alloc::Global;
 use std::marker::Model;
 
 /// Counts by place, at most 256, with the sums of each 4, 16 and 64 places and of all. A number of what
-/// they count is found from the largest parts down: two comparisons say which of four parts has it.
+/// they count is found from the largest parts down: three comparisons say which of four parts has it.
 #[derive(Drop)]
 pub struct PlaceCounts {
     places: u32,
@@ -136,8 +136,7 @@ impl PlaceCounts {
     }
 }
 
-// Which of the four sums from a place on has number k, and what is left of k there. The second
-// comparison reads its sum by a computed index, so that the compiler makes no branch of it.
+// Which of the four sums from a place on has number k, and what is left of k there.
 #[inline(always)]
 fn one_of_four(sums: &[u32], at: usize, k: u32) -> (usize, u32)
     requires within { at + 4 ≤ length sums.now }
@@ -146,19 +145,37 @@ fn one_of_four(sums: &[u32], at: usize, k: u32) -> (usize, u32)
     ensures place { IsPlace sums.now (sum_before sums.now at + k) result.0 result.1 }
     ensures within { result.0 < at + 4 }
 {
-    let (half, left) = half_of(sums[at] + sums[at + 1], k);
-    let (odd, left) = half_of(sums[at + 2 * half], left);
-    (at + 2 * half + odd, left)
+    let first = sums[at];
+    let second = first + sums[at + 1];
+    let third = second + sums[at + 2];
+    let (part, left) = part_of(first, second, third, k);
+    (at + part, left)
 }
 
-// Which of two has number k, 0 or 1, where the first counts so many, and what is left of k there.
+// Which of four parts has number k, and what is left of k there, where the first counts so many, the first
+// two so many, and the first three. The tests don't wait for each other, and none becomes a branch: the
+// part is their sum.
 #[inline(always)]
-fn half_of(first: u32, k: u32) -> (usize, u32)
-    ensures two { result.0 ≤ 1 }
+fn part_of(first: u32, second: u32, third: u32, k: u32) -> (usize, u32)
+    requires second { first ≤ second }
+    requires third { second ≤ third }
+    ensures four { result.0 ≤ 3 }
     ensures first { k < first → (result.0 ≡ 0) × (result.1 ≡ k) }
-    ensures second { first ≤ k → (result.0 ≡ 1) × (first + result.1 ≡ k) }
+    ensures second { first ≤ k → k < second → (result.0 ≡ 1) × (first + result.1 ≡ k) }
+    ensures third { second ≤ k → k < third → (result.0 ≡ 2) × (second + result.1 ≡ k) }
+    ensures fourth { third ≤ k → (result.0 ≡ 3) × (third + result.1 ≡ k) }
 {
-    if k < first { (0, k) } else { (1, k - first) }
+    let part = usize::from(k >= first) + usize::from(k >= second) + usize::from(k >= third);
+    let before = if k >= third {
+        third
+    } else if k >= second {
+        second
+    } else if k >= first {
+        first
+    } else {
+        0
+    };
+    (part, k - before)
 }
 
 // A sum after one of what it sums up was exchanged for another.
