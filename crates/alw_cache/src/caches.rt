@@ -1,4 +1,4 @@
-ghost use Rattle.std.specs.Prelude.{◌≡◌, ◌<◌, ◌≤◌, ◌%◌, IfOk, IfSome, IsTrue, is_some};
+ghost use Rattle.std.specs.Prelude.{◌≡◌, ◌<◌, ◌≤◌, IfOk, IfSome, IsTrue, is_some};
 ghost use Rattle.std.specs.Option.{option_map};
 ghost use Rattle.alw_num.specs.declared.states.Mode.{Mode};
 ghost use Rattle.alw_num.specs.Maps.{empty_map, value_at, with_value};
@@ -6,7 +6,7 @@ ghost use Rattle.alw_model.specs.Caches.{set_of, copy_at, granted_copy, replaced
 ghost use Rattle.alw_cache.specs.Places.{copy_of, evicted_of, seen_of, line_of, ArePlaced};
 
 use crate::places::{Evicted, Place};
-use alw_num::{Line, LineNo, Mode, NoMemory};
+use alw_num::{Divisor, Line, LineNo, Mode, NoMemory};
 use std::alloc::Global;
 use std::marker::Model;
 
@@ -14,7 +14,7 @@ use std::marker::Model;
 /// belongs in set `l mod sets`, and a set holds one copy or nothing.
 #[derive(Drop)]
 pub struct Cache {
-    sets: u32,
+    sets: Divisor,
     places: Vec<Place>,
 }
 
@@ -36,7 +36,10 @@ impl Cache {
         ensures { IfOk result (λ c. c ≡ record { sets = sets; copies = empty_map }) }
     {
         let places = vec![in alloc; Place::EMPTY; sets as usize]?;
-        Ok(Cache { sets, places })
+        Ok(Cache {
+            sets: Divisor::of(sets),
+            places,
+        })
     }
 
     /// The number of sets.
@@ -45,7 +48,16 @@ impl Cache {
         ensures some { 1 ≤ result }
         ensures placed { ArePlaced self.now }
     {
-        self.sets
+        self.sets.value()
+    }
+
+    /// The set of a line.
+    #[inline(always)]
+    pub fn set(&self, line: LineNo) -> u32
+        ensures set { result ≡ set_of self.now.sets line.0 }
+        ensures within { result < self.now.sets }
+    {
+        self.sets.remainder(line.0)
     }
 
     /// The mode and the bytes of a line's copy. None exactly where the line is Invalid.
@@ -82,7 +94,7 @@ impl Cache {
         ensures replaced { result ≡ option_map evicted_of (replaced self.old.sets self.old.copies line.0) }
     {
         let leaves = self.another(line);
-        let set = (line.0 % self.sets) as usize;
+        let set = self.sets.remainder(line.0) as usize;
         self.places[set] = Place {
             line: line.0,
             mode: Some(mode),
@@ -98,7 +110,7 @@ impl Cache {
         ensures copy { result ≡ option_map evicted_of (copy_at self.old.sets self.old.copies line.0) }
     {
         let copy = self.copy(line)?;
-        let set = (line.0 % self.sets) as usize;
+        let set = self.sets.remainder(line.0) as usize;
         self.places[set] = Place::EMPTY;
         Some(copy)
     }
@@ -108,7 +120,7 @@ impl Cache {
         requires { IsTrue (is_some (granted_copy self.old.sets self.old.copies line.0 Mode.Write)) }
         ensures { self.new ≡ record self.old { copies = with_value self.old.copies (set_of self.old.sets line.0) (copy_of line.0 Mode.Write body) } }
     {
-        let set = (line.0 % self.sets) as usize;
+        let set = self.sets.remainder(line.0) as usize;
         self.places[set].body = body;
     }
 
@@ -116,7 +128,7 @@ impl Cache {
     fn copy(&self, line: LineNo) -> Option<Evicted>
         ensures { result ≡ option_map evicted_of (copy_at self.now.sets self.now.copies line.0) }
     {
-        let copy = self.standing(line.0 % self.sets)?;
+        let copy = self.standing(self.sets.remainder(line.0))?;
         if copy.line == line { Some(copy) } else { None }
     }
 
@@ -124,7 +136,7 @@ impl Cache {
     fn another(&self, line: LineNo) -> Option<Evicted>
         ensures { result ≡ option_map evicted_of (replaced self.now.sets self.now.copies line.0) }
     {
-        let copy = self.standing(line.0 % self.sets)?;
+        let copy = self.standing(self.sets.remainder(line.0))?;
         if copy.line == line { None } else { Some(copy) }
     }
 }

@@ -1,5 +1,5 @@
 -- What is at a line's place of a memory side as it is kept, and what an event there comes to.
-use Rattle.std.proofs.Common.{◌≡◌, ◌≢◌, ℕ, ◌+◌, ◌*◌, ◌/◌, ◌%◌, ◌<◌, ◌≤◌, Bool, true, false, None, ◌∷◌, List, length, slice_set, slice_index_or, refl, sym, ap}
+use Rattle.std.proofs.Common.{◌≡◌, ◌≢◌, ℕ, ◌+◌, ◌-◌, ◌*◌, ◌/◌, ◌%◌, ◌<◌, ◌≤◌, Bool, true, false, None, ◌∷◌, List, length, slice_set, slice_index_or, refl, sym, ap}
 use Rattle.std.proofs.Common.{◌∙◌, subst, arith}
 use Rattle.std.proofs.lemmas.List.{length-set}
 use Rattle.std.specs.Vec.{with_item}
@@ -34,10 +34,18 @@ use Rattle.alw_memory.proofs.Deliveries.{packets_after, did_after, with_homes, d
 use Rattle.alw_memory.proofs.Handlings.{handled, handling_room, front_packet}
 use Rattle.alw_memory.proofs.Tables.{others_stay, table_stands, table_room}
 
-module _ (m : Inside) (v : Memory) (is : memory_in m ≡ v) (kept : MemoryIsKept m) (n : ℕ) (n_is : n ≡ m.per_node) (line : ℕ) (home : HomeLine)
-    (read : home ≡ slice_index_or m.homes.items (line % n) home) where
-  place_is : line % n ≡ line % m.per_node
-  place_is = ap (λ k. line % k) n_is
+-- the place of a line of this home
+pub place_of : (m : Inside) (v : Memory) → memory_in m ≡ v → MemoryIsKept m → (line : ℕ) → line / v.per_node ≡ v.number
+    → (m.first ≤ line) × (line - m.first ≡ line % v.per_node)
+place_of m v is kept line of =
+    let at = line_is line v.per_node v.number of in
+    let first : m.first ≡ v.number * v.per_node = kept.first ∙ ap (λ (x : Memory). x.number * x.per_node) is in
+    (omega (arith, at, first), omega (arith, at, first))
+
+module _ (m : Inside) (v : Memory) (is : memory_in m ≡ v) (kept : MemoryIsKept m) (line place : ℕ) (placed : place ≡ line % v.per_node) (home : HomeLine)
+    (read : home ≡ slice_index_or m.homes.items place home) where
+  place_is : place ≡ line % m.per_node
+  place_is = placed ∙ ap (λ (x : Memory). line % x.per_node) (sym is)
 
   within : line % m.per_node < length m.homes.items
   within = omega (arith, kept.memory.per_node.0, kept.lines)
@@ -73,15 +81,15 @@ module _ (m : Inside) (v : Memory) (is : memory_in m ≡ v) (kept : MemoryIsKept
         omega (arith, (all.entries (line % v.per_node)).sound.few, ap (λ (d : Directory). count_nodes d.hardware) seen, ap (λ (x : Memory). x.pointers) is)
 
     module _ (after : Inside) (e : HomeEntry) (packets : List Msg)
-        (sizes : memory_in after ≡ with_homes (memory_in m) (memory_in after).homes after.packets.items)
-        (homes : after.homes.items ≡ slice_set m.homes.items (line % n) (home_line e home.always)) (waits : after.packets.items ≡ packets)
+        (sizes : memory_in after ≡ with_homes (memory_in m) (memory_in after).homes after.packets.items) (first : after.first ≡ m.first)
+        (homes : after.homes.items ≡ slice_set m.homes.items place (home_line e home.always)) (waits : after.packets.items ≡ packets)
         (others : (l : ℕ) → l ≢ line → set_of_line after.soft l ≡ set_of_line m.soft l) where
       -- another entry there, with a table that has the sets of the other lines
       pub changed : memory_in after ≡ with_homes v (with_entry v line (directory_of e (set_of_line after.soft line) home.always)) packets
       changed =
-          let first : after.number.0 * after.per_node ≡ m.number.0 * m.per_node = ap (λ (x : Memory). x.number * x.per_node) sizes in
+          let begins : after.number.0 * after.per_node ≡ m.number.0 * m.per_node = ap (λ (x : Memory). x.number * x.per_node) sizes in
           let there : (memory_in after).homes ≡ with_entry (memory_in m) line (directory_of e (set_of_line after.soft line) home.always) =
-          ap (λ k. entries_from k after.homes.items after.soft) first
+          ap (λ k. entries_from k after.homes.items after.soft) begins
           ∙ (ap (λ hs. entries_from (m.number.0 * m.per_node) hs after.soft)
           (homes ∙ ap (λ k. slice_set m.homes.items k (home_line e home.always)) place_is)
           ∙ entries_set (m.number.0 * m.per_node) m.homes.items m.soft after.soft (line % m.per_node) line (home_line e home.always) within at others) in
@@ -93,8 +101,9 @@ module _ (m : Inside) (v : Memory) (is : memory_in m ≡ v) (kept : MemoryIsKept
           let size = ap (λ (x : Memory). x.per_node) sizes in
           record {
             memory = memory;
-            lines = omega (arith, ap length homes, length-set m.homes.items (line % n) (home_line e home.always), kept.lines, size);
+            lines = omega (arith, ap length homes, length-set m.homes.items place (home_line e home.always), kept.lines, size);
             table = subst (λ (x : Memory). IsTable x.number x.per_node after.soft) (sym sizes) table;
+            first = first ∙ (kept.first ∙ sym (ap (λ (x : Memory). x.number * x.per_node) sizes));
             room = omega (arith, room, size);
           }
 
@@ -109,14 +118,14 @@ pub record Becomes (v : Memory) (after : Inside) (sent sent' : Sending) (did : D
 
 -- ---- a message to memory
 
-module _ (m : Inside) (v : Memory) (is : memory_in m ≡ v) (kept : MemoryIsKept m) (n : ℕ) (n_is : n ≡ m.per_node) (msg : Msg) (home : HomeLine)
-    (read : home ≡ slice_index_or m.homes.items (msg.line.0 % n) home) (of : msg.line.0 / v.per_node ≡ v.number) (from : msg.src.0 < v.nodes)
+module _ (m : Inside) (v : Memory) (is : memory_in m ≡ v) (kept : MemoryIsKept m) (msg : Msg) (place : ℕ) (placed : place ≡ msg.line.0 % v.per_node)
+    (home : HomeLine) (read : home ≡ slice_index_or m.homes.items place home) (of : msg.line.0 / v.per_node ≡ v.number) (from : msg.src.0 < v.nodes)
     (sent : Sending) (begun : SendsAreBegun v.number v.nodes sent) where
   stands : IsMemory v
   stands = subst IsMemory is kept.memory
 
   here : home_at v msg.line.0 ≡ directory_of home.entry (set_of_line m.soft msg.line.0) home.always
-  here = seen m v is kept n n_is msg.line.0 home read of
+  here = seen m v is kept msg.line.0 place placed home read of
 
   pub delivery_has_room : HasRoom home.entry.pointers msg.src.0 sent
   delivery_has_room = subst (λ (d : Directory). HasRoom d.hardware msg.src.0 sent) here (delivery_room v msg sent stands begun from (msg.line.0 % v.per_node))
@@ -128,13 +137,13 @@ module _ (m : Inside) (v : Memory) (is : memory_in m ≡ v) (kept : MemoryIsKept
 
   pub delivery : (after : Inside) (e : HomeEntry) (result : Acted) (traps : Bool) (sent' : Sending)
       → memory_in after ≡ with_homes (memory_in m) (memory_in after).homes after.packets.items
-      → after.homes.items ≡ slice_set m.homes.items (msg.line.0 % n) (home_line e home.always) → after.soft ≡ m.soft
+      → after.first ≡ m.first → after.homes.items ≡ slice_set m.homes.items place (home_line e home.always) → after.soft ≡ m.soft
       → after.packets.items ≡ packets_after m.packets.items msg traps → m.per_node ≤ deque_capacity after.packets
       → to_memory msg.kind ≡ true → is_in_progress (home_at v msg.line.0).meta ≡ false
       → ((software : Nodes) → (always : Bool)
       → Delivers m.pointers (directory_of home.entry software always) (directory_of e software always) sent sent' result msg)
       → traps ≡ has_trapped result → Becomes v after sent sent' (did_after traps) (takes sent.stamp v msg (content msg))
-  delivery after e result traps sent' sizes homes soft waits room goes free delivers when =
+  delivery after e result traps sent' sizes first homes soft waits room goes free delivers when =
       let software = set_of_line m.soft msg.line.0 in
       let d : Directory = directory_of e software home.always in
       let same : Delivers v.pointers (home_at v msg.line.0) d sent sent' result msg =
@@ -142,13 +151,13 @@ module _ (m : Inside) (v : Memory) (is : memory_in m ≡ v) (kept : MemoryIsKept
       (subst (λ k. Delivers k (directory_of home.entry software home.always) d sent sent' result msg) (ap (λ (x : Memory). x.pointers) is)
       (delivers software home.always)) in
       let step = delivered v msg d result sent sent' stands begun goes from of free same traps when in
-      let is_after = changed m v is kept n n_is msg.line.0 home read of after e (packets_after m.packets.items msg traps) sizes homes waits
+      let is_after = changed m v is kept msg.line.0 place placed home read of after e (packets_after m.packets.items msg traps) sizes first homes waits
       (λ l other. ap (λ (t : Table). set_of_line t l) soft) in
       let becomes : memory_in after ≡ with_homes v (with_entry v msg.line.0 d) (packets_after v.packets msg traps) = is_after
       ∙ (λ k. with_homes v (with_entry v msg.line.0 (directory_of e (set_of_line (soft k) msg.line.0) home.always))
       (packets_after (is k).packets msg traps)) in
       record {
-        kept = kept_after m v is kept n n_is msg.line.0 home read of after e (packets_after m.packets.items msg traps) sizes homes waits
+        kept = kept_after m v is kept msg.line.0 place placed home read of after e (packets_after m.packets.items msg traps) sizes first homes waits
             (λ l other. ap (λ (t : Table). set_of_line t l) soft) (subst IsMemory (sym becomes) step.stands)
             (subst (IsTable m.number.0 m.per_node) (sym soft) kept.table) room;
         steps = subst (λ (x : Memory). Steps v x sent sent' (did_after traps) (takes sent.stamp v msg (content msg))) (sym becomes) step.steps;
@@ -162,19 +171,30 @@ pub front_is : (m : Inside) (v : Memory) → memory_in m ≡ v → MemoryIsKept 
 front_is m v is kept packet rest front =
     subst (λ (x : Memory). IsPacket x.nodes x.per_node x.number packet) is (front_packet (memory_in m) packet rest kept.memory front)
 
-module _ (m : Inside) (v : Memory) (is : memory_in m ≡ v) (kept : MemoryIsKept m) (n : ℕ) (n_is : n ≡ m.per_node) (packet : Msg) (rest : List Msg)
-    (front : m.packets.items ≡ packet ∷ rest) (home : HomeLine) (read : home ≡ slice_index_or m.homes.items (packet.line.0 % n) home) where
+-- its line has a place
+pub front_place : (m : Inside) (v : Memory) → memory_in m ≡ v → MemoryIsKept m → (packet : Msg) (rest : List Msg) → m.packets.items ≡ packet ∷ rest
+    → (m.first ≤ packet.line.0) × (packet.line.0 - m.first < length m.homes.items)
+front_place m v is kept packet rest front =
+    let place = place_of m v is kept packet.line.0 (front_is m v is kept packet rest front).home in
+    let size = ap (λ (x : Memory). x.per_node) is in
+    (place.0, omega (arith, place.1, size, kept.memory.per_node.0, kept.lines))
+
+module _ (m : Inside) (v : Memory) (is : memory_in m ≡ v) (kept : MemoryIsKept m) (packet : Msg) (rest : List Msg) (front : m.packets.items ≡ packet ∷ rest)
+    (home : HomeLine) (read : home ≡ slice_index_or m.homes.items (packet.line.0 - m.first) home) where
   valid : IsMemory v
   valid = subst IsMemory is kept.memory
 
   one : IsPacket v.nodes v.per_node v.number packet
   one = front_is m v is kept packet rest front
 
+  placed : packet.line.0 - m.first ≡ packet.line.0 % v.per_node
+  placed = (place_of m v is kept packet.line.0 one.home).1
+
   queue : v.packets ≡ packet ∷ rest
   queue = ap (λ (x : Memory). x.packets) (sym is) ∙ front
 
   entry_is : home_at v packet.line.0 ≡ directory_of home.entry (set_of_line m.soft packet.line.0) home.always
-  entry_is = seen m v is kept n n_is packet.line.0 home read one.home
+  entry_is = seen m v is kept packet.line.0 _ placed home read one.home
 
   pub is_progress : home.entry.meta ≡ Progress
   is_progress = ap (λ (d : Directory). d.meta) (sym entry_is)
@@ -190,12 +210,12 @@ module _ (m : Inside) (v : Memory) (is : memory_in m ≡ v) (kept : MemoryIsKept
         (handling_room v sent packet.src.0 (home_at v packet.line.0) begun one.from (valid.entries (packet.line.0 % v.per_node)))
 
     pub handling : (after : Inside) (e : HomeEntry) (sent' : Sending) → memory_in after ≡ with_homes (memory_in m) (memory_in after).homes after.packets.items
-        → after.homes.items ≡ slice_set m.homes.items (packet.line.0 % n) (home_line e home.always) → after.packets.items ≡ rest
+        → after.first ≡ m.first → after.homes.items ≡ slice_set m.homes.items (packet.line.0 - m.first) (home_line e home.always) → after.packets.items ≡ rest
         → m.per_node ≤ deque_capacity after.packets
         → Handles (directory_of home.entry (set_of_line m.soft packet.line.0) home.always) (directory_of e (set_of_line after.soft packet.line.0) home.always)
         m.soft after.soft sent sent' packet
         → Becomes v after sent sent' (Handled packet.kind home.entry.state) (handle_front sent.stamp v v.packets)
-    handling after e sent' sizes homes waits room handles =
+    handling after e sent' sizes first homes waits room handles =
         let D = directory_of home.entry (set_of_line m.soft packet.line.0) home.always in
         let d : Directory = directory_of e (set_of_line after.soft packet.line.0) home.always in
         let keeping = keeping_of (full_map_of D) packet.src.0 (content packet) in
@@ -205,9 +225,9 @@ module _ (m : Inside) (v : Memory) (is : memory_in m ≡ v) (kept : MemoryIsKept
         let others : (l : ℕ) → l ≢ packet.line.0
         → set_of_line after.soft l ≡ set_of_line m.soft l = λ l other. ap (λ (t : Table). set_of_line t l) handles.soft
         ∙ others_stay m.soft packet.line.0 d.software keeping l other in
-        let becomes = changed m v is kept n n_is packet.line.0 home read one.home after e rest sizes homes waits others in
+        let becomes = changed m v is kept packet.line.0 _ placed home read one.home after e rest sizes first homes waits others in
         record {
-          kept = kept_after m v is kept n n_is packet.line.0 home read one.home after e rest sizes homes waits others (subst IsMemory (sym becomes) step.stands)
+          kept = kept_after m v is kept packet.line.0 _ placed home read one.home after e rest sizes first homes waits others (subst IsMemory (sym becomes) step.stands)
               (subst (IsTable m.number.0 m.per_node) (sym handles.soft)
               (table_stands m.number.0 m.per_node packet.line.0 m.soft d.software keeping (rw (← is) at one.home) kept.table)) room;
           steps = subst (λ (x : Memory). Steps v x sent sent' (Handled packet.kind home.entry.state) (handle_front sent.stamp v v.packets)) (sym becomes)

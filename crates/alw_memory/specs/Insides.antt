@@ -17,9 +17,10 @@ memory_in m = record {
   packets = m.packets.items;
 }
 
--- it is one, with a home line for each of its lines, a table of its lines, and room for a packet for each
+-- it is one, with a home line for each of its lines, the first of which is kept, a table of its lines, and room for a packet for each
 pub record MemoryIsKept (m : Inside) : Type 0 where
   pub memory : IsMemory (memory_in m)
   pub lines : length m.homes.items ≡ m.per_node
+  pub first : m.first ≡ m.number.0 * m.per_node
   pub table : IsTable m.number.0 m.per_node m.soft
   pub room : m.per_node ≤ deque_capacity m.packets

@@ -1,4 +1,4 @@
-ghost use Rattle.std.specs.Prelude.{◌≡◌, ◌<◌, ◌≤◌, ◌*◌, ◌/◌, IfOk, IsTrue, false, not, length, slice_get};
+ghost use Rattle.std.specs.Prelude.{◌≡◌, ◌<◌, ◌≤◌, ◌*◌, ◌/◌, ◌%◌, IfOk, IsTrue, false, not, length, slice_get};
 ghost use Rattle.alw_msg.specs.Kinds.{to_memory};
 ghost use Rattle.alw_msg.specs.Contents.{content};
 ghost use Rattle.alw_msg.specs.Lists.{is_nonempty};
@@ -37,6 +37,7 @@ pub struct Memory {
     number: NodeNo,
     nodes: u32,
     per_node: u16,
+    first: u32,
     pointers: u8,
     homes: Vec<HomeLine>,
     soft: SoftDir,
@@ -75,6 +76,7 @@ impl Memory {
             number: node,
             nodes,
             per_node,
+            first: u32::from(node.0) * u32::from(per_node),
             pointers: params.pointers(),
             homes,
             soft,
@@ -84,9 +86,10 @@ impl Memory {
 
     /// A line of this home isn't in Trans-In-Progress.
     pub fn is_free(&self, line: LineNo) -> bool
+        requires home { line.0 / self.now.per_node ≡ self.now.number }
         ensures { result ≡ not (is_in_progress (home_at self.now line.0).meta) }
     {
-        let place = (line.0 % u32::from(self.per_node)) as usize;
+        let place = self.place(line);
         !is_in_progress(self.homes[place].entry.meta)
     }
 
@@ -124,7 +127,7 @@ impl Memory {
         requires { line.0 / self.now.per_node ≡ self.now.number }
         ensures { IsViewOf result (home_at self.now line.0) }
     {
-        let home = &self.homes[(line.0 % u32::from(self.per_node)) as usize];
+        let home = &self.homes[self.place(line)];
         HomeView {
             state: home.entry.state,
             meta: home.entry.meta,
@@ -160,7 +163,7 @@ impl Memory {
         requires free { is_in_progress (home_at self.old msg.now.line.0).meta ≡ false }
         ensures { Steps self.old self.new sent.old sent.new result (takes sent.old.stamp self.old msg.now (content msg.now)) }
     {
-        let place = (msg.line.0 % u32::from(self.per_node)) as usize;
+        let place = self.place(msg.line);
         let acted = deliver(&mut self.homes[place].entry, self.pointers, msg, sent);
         if !has_trapped(acted) {
             return Did::Took;
@@ -177,7 +180,7 @@ impl Memory {
         let Some(packet) = self.packets.pop_front() else {
             return Did::Took;
         };
-        let place = (packet.line.0 % u32::from(self.per_node)) as usize;
+        let place = (packet.line.0 - self.first) as usize;
         let home = &mut self.homes[place];
         let state = home.entry.state;
         handle(&mut home.entry, &mut self.soft, home.always, &packet, sent);
@@ -185,6 +188,16 @@ impl Memory {
             kind: packet.kind,
             state,
         }
+    }
+
+    // The place of a line among those of this home.
+    #[inline(always)]
+    fn place(&self, line: LineNo) -> usize
+        requires { line.0 / self.now.per_node ≡ self.now.number }
+        ensures place { result ≡ line.0 % self.now.per_node }
+        ensures within { result < self.now.per_node }
+    {
+        (line.0 - self.first) as usize
     }
 }
 

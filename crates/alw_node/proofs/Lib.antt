@@ -1,3 +1,4 @@
+pub mod Fitting
 pub mod Given
 pub mod KeptMembers
 pub mod Takings

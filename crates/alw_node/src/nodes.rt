@@ -139,6 +139,19 @@ impl Node {
         }
     }
 
+    /// Nothing keeps back a message that is fit for its link.
+    #[inline(always)]
+    pub fn may_arrive(&self, from: NodeNo, msg: &Msg) -> bool
+        requires fit { is_fit self.now.parts from.0 self.now.number msg.now ≡ true }
+        ensures { result ≡ may_reach self.now.parts self.now.parameters self.now.state msg.now.line.0 (content msg.now) }
+    {
+        if msg.kind.is_to_memory() {
+            self.memory.is_free(msg.line)
+        } else {
+            self.proc.may_take(msg)
+        }
+    }
+
     /// The node's number.
     pub fn number(&self) -> NodeNo
         ensures number { result.0 ≡ self.now.number }
@@ -296,7 +309,9 @@ impl Node {
     fn may_take_from(&self, from: NodeNo, msg: &Msg) -> bool
         ensures { result ≡ may_take_from self.now from.0 msg.now }
     {
-        u32::from(from.0) < self.memory.nodes() && self.is_fit(from, msg) && self.may_reach(msg)
+        u32::from(from.0) < self.memory.nodes()
+            && self.is_fit(from, msg)
+            && self.may_arrive(from, msg)
     }
 
     // A message is fit for the link from a node: sent by that node, about a line that exists, with a
@@ -312,18 +327,6 @@ impl Node {
             && msg.line.0 < self.proc.lines()
             && msg.stamp < u32::MAX
             && home == u32::from(end.0)
-    }
-
-    // Nothing keeps a message on its link.
-    #[inline(always)]
-    fn may_reach(&self, msg: &Msg) -> bool
-        ensures { result ≡ may_reach self.now.parts self.now.parameters self.now.state msg.now.line.0 (content msg.now) }
-    {
-        if msg.kind.is_to_memory() {
-            self.memory.is_free(msg.line)
-        } else {
-            self.proc.may_take(msg)
-        }
     }
 }
 

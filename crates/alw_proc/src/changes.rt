@@ -1,4 +1,4 @@
-ghost use Rattle.std.specs.Prelude.{◌≡◌, ◌<◌, ◌≤◌, ◌/◌, ℕ, [], length, nat_lt, IsTrue};
+ghost use Rattle.std.specs.Prelude.{◌≡◌, ◌<◌, ◌/◌, ℕ, [], length, nat_lt, IsTrue};
 ghost use Rattle.alw_num.specs.Maps.{value_at, without_value, passes, passes_if_some};
 ghost use Rattle.alw_model.specs.Caches.{replaced};
 ghost use Rattle.alw_model.specs.Contexts.{is_held};
@@ -13,7 +13,7 @@ use crate::shared::Shared;
 use alw_cache::Cache;
 use alw_ctx::Contexts;
 use alw_msg::{Kind, Sends};
-use alw_num::{Line, LineNo, Mode};
+use alw_num::{Divisor, Line, LineNo, Mode};
 use sparc_exec::{Outcome, Program};
 
 /// A turn of a slot over the node's cache: on the slot's registers and the cache's copies where they stand.
@@ -48,12 +48,11 @@ pub fn ask(
     slot: u8,
     line: LineNo,
     mode: Mode,
-    per_node: u16,
+    per_node: Divisor,
     sent: &mut Sends,
 )
     requires slot { slot < 4 }
     requires free { (l : ℕ) → OpeningIsNotOf slot (value_at openings.old l) }
-    requires per_node { 1 ≤ per_node }
     requires home { line.0 / per_node < 65536 }
     requires empty { sent.old.messages ≡ [] }
     requires room { 0 < sent.old.room }
@@ -75,7 +74,7 @@ pub fn ask(
 pub fn replaces_held(contexts: &Contexts, cache: &Cache, line: LineNo) -> bool
     ensures { result ≡ passes (λ copy. is_held contexts.now.slots copy.line) (replaced cache.now.sets cache.now.copies line.0) }
 {
-    match cache.held(line.0 % cache.sets()) {
+    match cache.held(cache.set(line)) {
         Some(other) => other != line && contexts.is_held(other),
         None => false,
     }

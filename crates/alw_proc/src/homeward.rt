@@ -1,37 +1,35 @@
-ghost use Rattle.std.specs.Prelude.{◌≡◌, ◌<◌, ◌≤◌, ◌*◌, ◌/◌, [], ◌∷◌, IfSome};
+ghost use Rattle.std.specs.Prelude.{◌≡◌, ◌<◌, ◌≤◌, ◌*◌, ◌/◌, [], IfSome};
 ghost use Rattle.std.specs.Option.{option_map};
 ghost use Rattle.alw_num.specs.Maps.{value_at};
 ghost use Rattle.alw_msg.specs.Sending.{with_message};
 ghost use Rattle.alw_model.specs.Caches.{set_of, copy_at, fill, invalidate, evict, evicted};
 ghost use Rattle.alw_cache.specs.Places.{copy_of};
-ghost use Rattle.alw_proc.specs.Processors.{HoldsLine, SendsAreBegun};
+ghost use Rattle.alw_proc.specs.Processors.{HoldsLine};
 ghost use Rattle.alw_proc.specs.Homeward.{with_requests, copy_left};
 
 use alw_cache::{Cache, Evicted};
 use alw_msg::{Kind, Sends};
-use alw_num::{Line, LineNo, Mode, home_of};
+use alw_num::{Divisor, Line, LineNo, Mode, NodeNo};
 
 /// The lines of shared data, at most so many, and how many of them each node keeps.
 #[derive(Clone, Copy)]
 pub struct Homes {
     pub lines: u32,
-    pub per_node: u16,
+    pub per_node: Divisor,
 }
 
 /// Sends a message to the home of a line.
-pub fn send(kind: Kind, line: LineNo, body: Line, per_node: u16, sent: &mut Sends)
-    requires per_node { 1 ≤ per_node }
+pub fn send(kind: Kind, line: LineNo, body: Line, per_node: Divisor, sent: &mut Sends)
     requires home { line.0 / per_node < 65536 }
     requires empty { sent.old.messages ≡ [] }
     requires room { 0 < sent.old.room }
     ensures { sent.new ≡ with_message sent.old (line.0 / per_node) kind line body }
 {
-    sent.push(home_of(line, u32::from(per_node)), kind, line, body);
+    sent.push(NodeNo(per_node.quotient(line.0) as u16), kind, line, body);
 }
 
 /// A copy that has left a cache goes home as REPM where it is Read-Write, and is dropped else.
-pub fn give_up(left: Option<Evicted>, per_node: u16, sent: &mut Sends)
-    requires per_node { 1 ≤ per_node }
+pub fn give_up(left: Option<Evicted>, per_node: Divisor, sent: &mut Sends)
     requires home { IfSome left (λ copy. copy.line.0 / per_node < 65536) }
     requires empty { sent.old.messages ≡ [] }
     requires room { 0 < sent.old.room }
@@ -60,8 +58,7 @@ pub fn fill(cache: &mut Cache, line: LineNo, mode: Mode, body: Line, homes: Home
 }
 
 /// INV: the line is Invalid afterwards. UPDATE answers where it was Read-Write, and else ACKC.
-pub fn invalidate(cache: &mut Cache, line: LineNo, per_node: u16, sent: &mut Sends)
-    requires per_node { 1 ≤ per_node }
+pub fn invalidate(cache: &mut Cache, line: LineNo, per_node: Divisor, sent: &mut Sends)
     requires home { line.0 / per_node < 65536 }
     requires empty { sent.old.messages ≡ [] }
     requires room { 0 < sent.old.room }

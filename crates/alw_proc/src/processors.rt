@@ -3,7 +3,7 @@ ghost use Rattle.std.specs.Option.{option_map};
 ghost use Rattle.alw_num.specs.Maps.{value_at, passes};
 ghost use Rattle.alw_num.specs.Weights.{digit, weigh};
 ghost use Rattle.alw_msg.specs.Kinds.{to_memory};
-ghost use Rattle.alw_image.specs.Images.{node_count, line_count};
+ghost use Rattle.alw_image.specs.Images.{node_count};
 ghost use Rattle.alw_model.specs.Contexts.{running, slot_at, is_held, all_halted};
 ghost use Rattle.alw_msg.specs.Contents.{content};
 ghost use Rattle.alw_model.specs.declared.steps.Did.TheVariants.{Took};
@@ -23,7 +23,7 @@ use alw_ctx::Contexts;
 use alw_image::{Image, Params};
 use alw_model::Did;
 use alw_msg::{Kind, Msg, Sends, Status};
-use alw_num::{Line, LineNo, Mode, NoMemory, NodeNo};
+use alw_num::{Divisor, Line, LineNo, Mode, NoMemory, NodeNo};
 use sparc_exec::{Outcome, Program};
 use sparc_table::Regs;
 use std::alloc::Global;
@@ -36,7 +36,7 @@ pub struct Proc {
     number: NodeNo,
     width: u8,
     height: u8,
-    per_node: u16,
+    per_node: Divisor,
     contexts: Contexts,
     shared: Shared,
     openings: Openings,
@@ -70,7 +70,7 @@ impl Proc {
             number: node,
             width: image.width(),
             height: image.height(),
-            per_node: image.per_node(),
+            per_node: Divisor::of(u32::from(image.per_node())),
             contexts: Contexts::start(image, node),
             shared: Shared { cache, lines },
             openings: Openings::none(),
@@ -166,6 +166,9 @@ impl Proc {
         requires { to_memory msg.now.kind ≡ false }
         ensures { result ≡ may_take self.now msg.now.line.0 (content msg.now) }
     {
+        if self.contexts.holds() == 0 {
+            return true;
+        }
         match msg.kind {
             Kind::INV => !self.contexts.is_held(msg.line),
             Kind::RDATA | Kind::WDATA => !replaces_held(

@@ -8,5 +8,5 @@ pub returns : goal.returns
 returns c =
     ap not (c.is_in_progress.ensures
     ∙ ap is_in_progress (sym
-    (meta_seen c.self.inside c.args.self.now c.self.view_is c.self.invariant c.from.result c.from.ensures c.args.line.0 c.index.result.now
+    (meta_seen c.self.inside c.args.self.now c.self.view_is c.self.invariant c.args.line.0 c.place-place.result c.place-place.ensures.place c.index.result.now
     c.index.ensures)))

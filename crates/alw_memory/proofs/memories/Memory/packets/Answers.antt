@@ -1,5 +1,5 @@
 -- There is a packet for each line in Trans-In-Progress, and so at most one for each home line.
-use Rattle.std.proofs.Common.{◌≡◌, ◌≤◌, length, refl, arith}
+use Rattle.std.proofs.Common.{◌≤◌, length, refl, arith}
 use Rattle.alw_num.proofs.Weigh.{weigh-le, weigh-one, digit_le}
 use Rattle.alw_model.specs.LimitLess.{Directory, is_in_progress}
 use Rattle.alw_model.specs.Sides.{Memory}

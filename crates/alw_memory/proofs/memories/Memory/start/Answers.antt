@@ -1,5 +1,5 @@
 -- Each part at the start.
-use Rattle.std.proofs.Common.{◌*◌, sym, subst, arith}
+use Rattle.std.proofs.Common.{◌*◌, refl, sym, subst, arith}
 use Rattle.std.proofs.lemmas.List.FromFn.{length-map-range_with_len}
 use Rattle.alw_memory.specs.Memories.{IsMemory}
 use Rattle.alw_memory.specs.Lines.{line_start}
@@ -26,6 +26,7 @@ invariant_of-result c =
           (subst IsMemory (sym (starts_from image params number))
           (starts_as_one image params number c.nodes.ensures.allowed c.pointers.ensures.allowed c.requires));
       lines = rw (c.in_ok-homes.ensures, c.per_node-per_node.ensures) (length-map-range_with_len (line_start image) (number * image.per_node) image.per_node);
+      first = rw (c.from-3.ensures, c.from-4.ensures) refl;
       table = rw (c.in_ok-soft.ensures, c.from.ensures, c.from-2.ensures, c.per_node-per_node.ensures) (table_starts number image.per_node);
       room = omega (arith, c.in_ok-packets.ensures.capacity, c.per_node-per_node.ensures);
     }
