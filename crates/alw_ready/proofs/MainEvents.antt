@@ -9,6 +9,7 @@ use Rattle.alw_num.proofs.Sets.{AscendsFrom, times_before, members_are}
 use Rattle.alw_num.proofs.Weigh.{is_node, digit_same, digit_other}
 use Rattle.alw_msg.specs.declared.messages.Msg.{Msg}
 use Rattle.alw_msg.specs.declared.events.Event.{Event}
+use Rattle.alw_msg.specs.declared.events.Event.TheVariants.{Instr, Handle, Deliver, Evict}
 use Rattle.alw_msg.specs.Events.{node_of}
 use Rattle.alw_msg.specs.Lists.{is_nonempty, front}
 use Rattle.alw_image.specs.declared.parts.Parts.{Parts}
@@ -22,6 +23,7 @@ use Rattle.law_lines.proofs.Steps.{enabled_is}
 use Rattle.alw_ready.specs.declared.rows.Row.{Row}
 use Rattle.alw_ready.specs.Rows.{instr_at, handle_at, delivery, event_if, row_events, events_from, events_of, row_at}
 use Rattle.alw_ready.specs.Fits.{may_happen, is_in_time, SaysBut, RowFits, RowsFit, nobody}
+use Rattle.alw_ready.specs.Changes.{ComesFromBelow}
 
 -- ---- numbers that pass a test
 
@@ -144,6 +146,13 @@ module _ (parts : Parts) (parameters : Parameters) (s : MachineState) where
       let p = and_parts (is_enabled parts parameters s (delivery from at)) _ is in
       let q = and_parts (nat_lt from (node_count parts)) _ (enabled_is parts parameters s (delivery from at) p.0).may_be in
       ltb-true from (node_count parts) q.0
+
+  -- so an event that may happen takes from a node, if any
+  pub comes_from : (event : Event) → may_happen parts parameters s event ≡ true → ComesFromBelow (node_count parts) event
+  comes_from (Instr at) is = tt
+  comes_from (Handle at) is = tt
+  comes_from (Deliver from to) is = sender_exists from.0 to.0 is
+  comes_from (Evict at set) is = tt
 
   module _ (rows : List Row) (fit : RowsFit parts parameters s rows) where
     pub filter_main : events_of rows ≡ filter (may_happen parts parameters s) (main_events parts)

@@ -1,6 +1,6 @@
 -- Rows are looked at again: senders one by one, the rows that were sent to, and all rows.
 use Rattle.std.proofs.Common.{◌≡◌, ◌≢◌, ℕ, ◌+◌, ◌<◌, ◌==◌, nat_lt, Bool, true, false, cond, ◌&&◌, Some, zero, suc, List, [], ◌∷◌, length, set, drop, slice_get, IsTrue, refl, sym, ap, subst, ◌∙◌, arith}
-use Rattle.std.proofs.lemmas.Bool.{true≢false, eq-eqb, ne_eqb, false_from_ne_true}
+use Rattle.std.proofs.lemmas.Bool.{true≢false, and_from, ltb-true, lt-ltb, eq-eqb, ne_eqb, false_from_ne_true}
 use Rattle.std.proofs.lemmas.List.{get_or-set_same, get_or-set_other, length-set}
 use Rattle.std.proofs.lemmas.Option.{same_Some}
 use Rattle.alw_num.specs.Maps.{passes}
@@ -61,6 +61,21 @@ module _ (test : ℕ → Bool) where
   pub found_all : (found rest : Nodes) → AreFound test found rest → rest ≡ no_nodes → (from : ℕ) → has_node found from ≡ test from
   found_all found rest so_far none from = so_far from (ap (λ S. has_node S from) none ∙ has-none from)
 
+-- all that are left have numbers below this one
+abbrev pub AreBelow : ℕ → Nodes → Type 0
+AreBelow n rest = (from : ℕ) → has_node rest from ≡ true → from < n
+
+module _ (n : ℕ) (rest : Nodes) where
+  pub all_below : (test : ℕ → Bool) → ((from : ℕ) → has_node rest from ≡ (nat_lt from n && test from)) → AreBelow n rest
+  all_below test has from is = ltb-true from n (and_parts (nat_lt from n) _ (sym (has from) ∙ is)).0
+
+  pub fewer_below : (less : Nodes) (m : ℕ) → AreBelow n rest → less ≡ drop_node rest m → AreBelow n less
+  fewer_below less m below is from here = below from (kept (from == m) (has_node rest from) (sym (has-drop rest m from) ∙ (sym (ap (λ S. has_node S from) is) ∙ here)))
+    where
+      kept : (b c : Bool) → cond b false c ≡ true → c ≡ true
+      kept true c e = absurd (true≢false (sym e))
+      kept false c e = e
+
 -- a node less is left
 pub fewer : (rest less : Nodes) (n : ℕ) → members rest ≡ n ∷ members (drop_node rest n) → less ≡ drop_node rest n → count_nodes less < count_nodes rest
 fewer rest less n first is = omega (arith, ap length first, ap count_nodes is)
@@ -78,10 +93,10 @@ module _ (parts : Parts) (parameters : Parameters) (s : MachineState) where
       there (msg ∷ rest) may = refl
 
   -- so at first those without a message are found: none of them may be delivered
-  pub found_none : (at : ℕ) (found rest : Nodes) → found ≡ no_nodes → ((from : ℕ) → from < node_count parts → has_node rest from ≡ is_nonempty (link_at parts s from at)) → AreFound (λ from. may_happen parts parameters s (delivery from at)) found rest
+  pub found_none : (at : ℕ) (found rest : Nodes) → found ≡ no_nodes → ((from : ℕ) → has_node rest from ≡ (nat_lt from (node_count parts) && is_nonempty (link_at parts s from at))) → AreFound (λ from. may_happen parts parameters s (delivery from at)) found rest
   found_none at found rest empty senders from none =
       ap (λ S. has_node S from) empty ∙ (has-none from ∙ sym (false_from_ne_true (may_happen parts parameters s (delivery from at)) (λ may.
-      true≢false (sym (has_message from at may) ∙ (sym (senders from (sender_exists parts parameters s from at may)) ∙ none)))))
+      true≢false (sym (and_from (nat_lt from (node_count parts)) _ (lt-ltb from (node_count parts) (sender_exists parts parameters s from at may)) (has_message from at may)) ∙ (sym (senders from) ∙ none)))))
 
   -- ---- the rows that were sent to
 

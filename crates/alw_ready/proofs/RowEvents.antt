@@ -1,7 +1,7 @@
 -- The events of rows: how many they are, and which is number k.
-use Rattle.std.proofs.Common.{◌≡◌, ◌≢◌, ℕ, zero, suc, add-zero, ◌+◌, ◌-◌, ◌*◌, ◌%◌, ◌^◌, ◌<◌, ◌≤◌, ◌==◌, Bool, true, false, cond, not, ◌&&◌, List, [], ◌∷◌, ◌++◌, length, map, replicate, get_or, set, slice_get, slice_index, Some, refl, sym, ap, ◌∙◌, arith}
+use Rattle.std.proofs.Common.{◌≡◌, ℕ, zero, suc, add-zero, ◌+◌, ◌-◌, ◌^◌, ◌<◌, ◌≤◌, ◌==◌, Bool, true, false, cond, not, List, [], ◌∷◌, ◌++◌, length, map, replicate, get_or, set, slice_get, slice_index, Some, refl, sym, ap, ◌∙◌, arith}
 use Rattle.std.proofs.lemmas.List.{length-append, length-map, length-set, length-replicate, map-set, set-get_or, get_or_read, get_or-map}
-use Rattle.std.proofs.lemmas.Bool.{true≢false, and_from, eqb-true, eq-eqb, ne_eqb, false_from_ne_true, true_from_ne_false}
+use Rattle.std.proofs.lemmas.Bool.{eq-eqb, ne_eqb}
 use Rattle.std.proofs.Math.Bool.{beq}
 use Rattle.std.proofs.lemmas.Option.{slice_get-map}
 use Rattle.std.specs.Option.{option_map}
@@ -12,9 +12,9 @@ use Rattle.alw_num.proofs.Sets.{same_nodes, has-add, count-add}
 use Rattle.alw_num.proofs.Weigh.{is_node, digit_le}
 use Rattle.alw_num.proofs.Words.{count_at_most}
 use Rattle.alw_msg.specs.declared.events.Event.{Event}
-use Rattle.alw_model.proofs.Journals.{and_parts}
 use Rattle.alw_ready.specs.declared.rows.Row.{Row}
 use Rattle.alw_ready.specs.Rows.{instr_at, handle_at, delivery, event_if, row_events, row_count, events_from, events_of, no_row, row_at, RowsAreCounted}
+use Rattle.alw_ready.specs.Changes.{SenderIsLookedAt}
 use Rattle.alw_num.specs.PlaceCounts.{sum_before, total, IsPlace}
 
 -- ---- one row
@@ -132,70 +132,33 @@ module _ (rows : List Row) (counts : List ℕ) (are : RowsAreCounted rows counts
     counted = next_is ∙ ((λ x. set (are.counted x) place (count_is x)) ∙ sym (map-set row_count rows place row));
   }
 
--- rows that are found to be equal
-same_bits : (a b : Bool) → beq a b ≡ true → a ≡ b
+-- bits that are found to be equal, or not
+pub same_bits : (a b : Bool) → beq a b ≡ true → a ≡ b
 same_bits true true is = refl
 same_bits false false is = refl
 same_bits true false is = sym is
 same_bits false true is = is
 
-pub same_row : (a b : Row) → (beq a.in_time b.in_time && (beq a.instr b.instr && (beq a.handle b.handle && (a.senders.low == b.senders.low && (a.senders.high == b.senders.high))))) ≡ true → a ≡ b
-same_row a b is =
-    let p = and_parts (beq a.in_time b.in_time) _ is in
-    let q = and_parts (beq a.instr b.instr) _ p.1 in
-    let r = and_parts (beq a.handle b.handle) _ q.1 in
-    let s = and_parts (a.senders.low == b.senders.low) _ r.1 in
-    λ x. record {
-      in_time = same_bits _ _ p.0 x;
-      instr = same_bits _ _ q.0 x;
-      handle = same_bits _ _ r.0 x;
-      senders = record { low = eqb-true _ _ s.0 x; high = eqb-true _ _ s.1 x };
-    }
-
--- a row that stands there already changes nothing
-pub set_again : (rows : List Row) (at : ℕ) (old row : Row) → old ≡ get_or rows at old → old ≡ row → rows ≡ set rows at row
-set_again rows at old row here is = sym (set-get_or rows at old) ∙ ap (set rows at) (sym here ∙ is)
+pub other_bits : (a b : Bool) → beq a b ≡ false → a ≡ not b
+other_bits true true is = is
+other_bits false false is = sym is
+other_bits true false is = refl
+other_bits false true is = refl
 
 -- ---- a sender that comes or goes
 
--- sets of two words in range are one where they have the same nodes
-pub same_set : (one other : NodeSet) → one.low < 2 ^ 128 → other.low < 2 ^ 128 → one.high < 2 ^ 128 → other.high < 2 ^ 128 → nodes_of one ≡ nodes_of other → one ≡ other
-unfolding nodes_of
-same_set one other a b c d same =
-    let bits : one.high % 2 ^ 128 * 2 ^ 128 + one.low % 2 ^ 128 ≡ other.high % 2 ^ 128 * 2 ^ 128 + other.low % 2 ^ 128 = ap (λ (set : Nodes). set.bits) same in
-    let low : one.low ≡ other.low = omega (arith, a, b, c, d, bits) in
-    let high : one.high ≡ other.high = omega (arith, a, b, c, d, bits) in
-    λ x. record { low = low x; high = high x }
-
-pub different_sets : (one other : NodeSet) → one.low < 2 ^ 128 → other.low < 2 ^ 128 → one.high < 2 ^ 128 → other.high < 2 ^ 128 → (one.low == other.low && (one.high == other.high)) ≡ false → nodes_of one ≢ nodes_of other
-different_sets one other a b c d differ same =
-    let is : one ≡ other = same_set one other a b c d same in
-    true≢false (sym (and_from (one.low == other.low) (one.high == other.high) (eq-eqb one.low other.low (ap (λ (set : NodeSet). set.low) is)) (eq-eqb one.high other.high (ap (λ (set : NodeSet). set.high) is))) ∙ differ)
-
 -- a sender more or less, where it wasn't so already
-pub sender_counted : (P Q : Nodes) (n : ℕ) (may : Bool) → ((k : ℕ) → has_node Q k ≡ cond (k == n) may (has_node P k)) → Q ≢ P → count_nodes Q + digit (not may) ≡ count_nodes P + digit may
-sender_counted P Q n true put other =
+pub sender_counted : (P Q : Nodes) (n : ℕ) (may : Bool) → ((k : ℕ) → has_node Q k ≡ cond (k == n) may (has_node P k)) → has_node P n ≡ not may → count_nodes Q + digit (not may) ≡ count_nodes P + digit may
+sender_counted P Q n true put new =
     let more : Q ≡ add_node P n = same_nodes Q (add_node P n) (λ k. put k ∙ sym (has-add P n k)) in
-    let new : has_node P n ≡ false = false_from_ne_true (has_node P n) (λ here. other (same_nodes Q P (λ k. put k ∙ stays k here))) in
     omega (arith, ap count_nodes more, count-add P n, ap digit new)
-  where
-    stays : (k : ℕ) → has_node P n ≡ true → cond (k == n) true (has_node P k) ≡ has_node P k
-    stays k here = is_node _ k n
-        (λ same. ap (λ b. cond b true (has_node P k)) (eq-eqb k n same) ∙ sym (ap (has_node P) same ∙ here))
-        (λ apart. ap (λ b. cond b true (has_node P k)) (ne_eqb k n apart))
-sender_counted P Q n false put other =
+sender_counted P Q n false put was =
     let gone : has_node Q n ≡ false = put n ∙ ap (λ b. cond b false (has_node P n)) (eq-eqb n n refl) in
-    let was : has_node P n ≡ true = true_from_ne_false (has_node P n) (λ none. other (same_nodes Q P (λ k. put k ∙ stays k none))) in
-    let more : P ≡ add_node Q n = same_nodes P (add_node Q n) (λ k. back k was ∙ sym (has-add Q n k)) in
+    let more : P ≡ add_node Q n = same_nodes P (add_node Q n) (λ k. back k ∙ sym (has-add Q n k)) in
     omega (arith, ap count_nodes more, count-add Q n, ap digit gone)
   where
-    stays : (k : ℕ) → has_node P n ≡ false → cond (k == n) false (has_node P k) ≡ has_node P k
-    stays k none = is_node _ k n
-        (λ same. ap (λ b. cond b false (has_node P k)) (eq-eqb k n same) ∙ sym (ap (has_node P) same ∙ none))
-        (λ apart. ap (λ b. cond b false (has_node P k)) (ne_eqb k n apart))
-
-    back : (k : ℕ) → has_node P n ≡ true → has_node P k ≡ cond (k == n) true (has_node Q k)
-    back k was = is_node _ k n
+    back : (k : ℕ) → has_node P k ≡ cond (k == n) true (has_node Q k)
+    back k = is_node _ k n
         (λ same. ap (has_node P) same ∙ was ∙ sym (ap (λ b. cond b true (has_node Q k)) (eq-eqb k n same)))
         (λ apart. sym (put k ∙ ap (λ b. cond b false (has_node P k)) (ne_eqb k n apart)) ∙ sym (ap (λ b. cond b true (has_node Q k)) (ne_eqb k n apart)))
 
@@ -208,7 +171,7 @@ module _ (row : Row) (senders : NodeSet) (from : ℕ) (may : Bool) (count : ℕ)
       go true is = omega (arith, few_senders row, digit_le row.instr, digit_le row.handle)
       go false is = omega arith
 
-  module _ (put : (k : ℕ) → has_node (nodes_of senders) k ≡ cond (k == from) may (has_node (nodes_of row.senders) k)) (other : nodes_of senders ≢ nodes_of row.senders) where
+  module _ (put : (k : ℕ) → has_node (nodes_of senders) k ≡ cond (k == from) may (has_node (nodes_of row.senders) k)) (other : has_node (nodes_of row.senders) from ≡ not may) where
     pub counts_some : row.in_time ≡ true → may ≡ false → 0 < count
     counts_some timely gone =
         let is : count ≡ digit row.instr + (digit row.handle + count_nodes (nodes_of row.senders)) = count_is ∙ ap (λ b. cond b (digit row.instr + (digit row.handle + count_nodes (nodes_of row.senders))) 0) timely in
@@ -227,13 +190,36 @@ module _ (row : Row) (senders : NodeSet) (from : ℕ) (may : Bool) (count : ℕ)
         go true before after = step may (sender_counted (nodes_of row.senders) (nodes_of senders) from may put other) before after
         go false before after = after
 
+-- a row that is read twice is one
+pub read_again : (rows : List Row) (at : ℕ) (one other : Row) → at < length rows → one ≡ get_or rows at one → other ≡ get_or rows at other → one ≡ other
+read_again rows at one other here first second = get_or_read rows at one here first no_row ∙ sym (get_or_read rows at other here second no_row)
+
 -- a row whose sender came or went, in its place
-pub sender_set : (rows : List Row) (counts : List ℕ) → RowsAreCounted rows counts → (place count next from : ℕ) (may : Bool) (read write : Row) (senders : NodeSet) (after : List ℕ) → place < length rows
-    → read ≡ get_or rows place read → write ≡ get_or rows place write → count ≡ slice_index counts place
-    → ((k : ℕ) → has_node (nodes_of senders) k ≡ cond (k == from) may (has_node (nodes_of read.senders) k)) → nodes_of senders ≢ nodes_of read.senders
-    → next ≡ cond read.in_time (cond may (count + 1) (count - 1)) 0 → after ≡ set counts place next → RowsAreCounted (set rows place (record write { senders = senders })) after
-sender_set rows counts are place count next from may read write senders after here reads writes was put other next_is after_is =
-    let same : read ≡ write = get_or_read rows place read here reads no_row ∙ sym (get_or_read rows place write here writes no_row) in
-    let count_is : count ≡ row_count read = at_counted rows counts are place count read here reads was in
-    let more : next ≡ row_count (record read { senders = senders }) = counted_on read senders from may count count_is put other next next_is in
-    set_counted rows counts are place next (record write { senders = senders }) after after_is (more ∙ ap (λ (row : Row). row_count (record row { senders = senders })) same)
+pub sender_set : (rows : List Row) (counts : List ℕ) → RowsAreCounted rows counts → (place count next from : ℕ) (may : Bool) (row : Row) (senders : NodeSet) (after : List ℕ)
+    → ((k : ℕ) → has_node (nodes_of senders) k ≡ cond (k == from) may (has_node (nodes_of row.senders) k)) → has_node (nodes_of row.senders) from ≡ not may
+    → count ≡ row_count row → next ≡ cond row.in_time (cond may (count + 1) (count - 1)) 0 → after ≡ set counts place next → RowsAreCounted (set rows place (record row { senders = senders })) after
+sender_set rows counts are place count next from may row senders after put other count_is next_is after_is =
+    set_counted rows counts are place next (record row { senders = senders }) after after_is (counted_on row senders from may count count_is put other next next_is)
+
+-- such a sender was looked at, and all else of the rows stays
+pub sender_looked : (rows : List Row) (at from : ℕ) (may : Bool) (row : Row) (senders : NodeSet) → at < length rows → row ≡ get_or rows at row
+    → ((k : ℕ) → has_node (nodes_of senders) k ≡ cond (k == from) may (has_node (nodes_of row.senders) k)) → SenderIsLookedAt (λ event. may) from at rows (set rows at (record row { senders = senders }))
+sender_looked rows at from may row senders here read put =
+    let is : row ≡ row_at rows at = get_or_read rows at row here read no_row in
+    record {
+      senders = senders;
+      rows_are = ap (λ (r : Row). set rows at (record r { senders = senders })) is;
+      looked = λ k. put k ∙ ap (λ (r : Row). cond (k == from) may (has_node (nodes_of r.senders) k)) is;
+    }
+
+-- a sender that is as it was said to be: nothing changes
+pub sender_stays : (rows : List Row) (at from : ℕ) (may : Bool) (row : Row) → at < length rows → row ≡ get_or rows at row → has_node (nodes_of row.senders) from ≡ may → SenderIsLookedAt (λ event. may) from at rows rows
+sender_stays rows at from may row here read was =
+    let is : row ≡ row_at rows at = get_or_read rows at row here read no_row in
+    record {
+      senders = row.senders;
+      rows_are = sym (ap (λ (r : Row). set rows at (record (row_at rows at) { senders = r.senders })) is ∙ set-get_or rows at no_row);
+      looked = λ k. is_node _ k from
+          (λ it. ap (has_node (nodes_of row.senders)) it ∙ (was ∙ sym (ap (λ b. cond b may (has_node (nodes_of (row_at rows at).senders) k)) (eq-eqb k from it))))
+          (λ apart. ap (λ (r : Row). has_node (nodes_of r.senders) k) is ∙ sym (ap (λ b. cond b may (has_node (nodes_of (row_at rows at).senders) k)) (ne_eqb k from apart)));
+    }

@@ -65,6 +65,11 @@ abbrev pub is_fed_for : ℕ → List (ℕ × Msg) → Event → Bool
 is_fed_for sender sends (Deliver from to) = is_fed sender sends from.0 to.0
 is_fed_for sender sends _ = false
 
+-- a delivery is from a node of a number below this one
+abbrev pub ComesFromBelow : ℕ → Event → Type 0
+ComesFromBelow count (Deliver from to) = from.0 < count
+ComesFromBelow count _ = Unit {0}
+
 -- a row once the instruction, the handler and the deliveries from some senders were looked at again, with all other senders as they were
 pub record RowIsRenewed (test : Event → Bool) (at : ℕ) (again : ℕ → Bool) (before after : Row) : Type 0 where
   pub instr : after.instr ≡ test (instr_at at)

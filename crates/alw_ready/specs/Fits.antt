@@ -1,11 +1,14 @@
 -- Rows that fit a machine: they say which of its main events are enabled within the limit.
-use Rattle.std.specs.Prelude.{◌≡◌, ℕ, ◌-◌, ◌^◌, ◌<◌, Bool, true, false, ◌&&◌, ◌||◌, nat_lt, List, length}
+use Rattle.std.specs.Prelude.{◌≡◌, ℕ, ◌-◌, ◌^◌, ◌<◌, Bool, true, false, ◌&&◌, ◌||◌, nat_lt, Some, List, length, IsTrue}
 use Rattle.alw_num.specs.NodeSets.{has_node, nodes_of}
 use Rattle.alw_msg.specs.declared.events.Event.{Event}
+use Rattle.alw_msg.specs.declared.messages.Msg.{Msg}
+use Rattle.alw_msg.specs.Lists.{front}
 use Rattle.alw_image.specs.declared.parts.Parts.{Parts}
 use Rattle.alw_image.specs.Images.{node_count}
 use Rattle.alw_image.specs.Parameters.{Parameters}
-use Rattle.alw_model.specs.Machine.{MachineState, node_at, is_enabled, is_within_limit, has_halted}
+use Rattle.alw_model.specs.Messages.{is_fit}
+use Rattle.alw_model.specs.Machine.{MachineState, node_at, link_at, is_enabled, is_within_limit, has_halted}
 use Rattle.alw_ready.specs.declared.rows.Row.{Row}
 use Rattle.alw_ready.specs.Rows.{instr_at, handle_at, delivery, row_at}
 
@@ -16,6 +19,11 @@ may_happen parts parameters machine event = is_enabled parts parameters machine 
 -- a node is in time: its clock isn't the greatest, and is below the limit, unless every context has halted
 abbrev pub is_in_time : Parameters → MachineState → ℕ → Bool
 is_in_time parameters machine at = nat_lt (node_at machine at).clock (2 ^ 32 - 1) && (nat_lt (node_at machine at).clock parameters.limit || has_halted machine)
+
+-- the message at the head of every link is fit for its link
+abbrev pub HeadsAreFit : Parts → MachineState → Type 0
+HeadsAreFit parts machine =
+    (from to : ℕ) → from < node_count parts → to < node_count parts → (msg : Msg) → front (link_at parts machine from to) ≡ Some msg → IsTrue (is_fit parts from to msg)
 
 -- a row says which main events of a node pass a test, deliveries from some senders aside
 pub record SaysBut (test : Event → Bool) (at : ℕ) (aside : ℕ → Bool) (row : Row) : Type 0 where

@@ -1,5 +1,5 @@
 -- What is kept of each node, and the main events that it says are enabled within the limit.
-use Rattle.std.specs.Prelude.{◌≡◌, ℕ, ◌+◌, ◌≤◌, Bool, false, cond, List, [], ◌∷◌, ◌++◌, map, length, slice_index_or}
+use Rattle.std.specs.Prelude.{◌≡◌, ℕ, ◌+◌, ◌≤◌, Bool, false, cond, Some, List, [], ◌∷◌, ◌++◌, map, length, slice_get, slice_index_or}
 use Rattle.alw_num.specs.declared.addresses.NodeNo.{NodeNo}
 use Rattle.alw_num.specs.NodeSets.{members, count_nodes, nodes_of}
 use Rattle.alw_num.specs.Weights.{digit}
@@ -49,3 +49,7 @@ row_at rows at = slice_index_or rows at no_row
 pub record RowsAreCounted (rows : List Row) (counts : List ℕ) : Type 0 where
   pub few : length rows ≤ 256
   pub counted : counts ≡ map row_count rows
+
+-- divisors by place, from 1 on
+abbrev pub AreDivisors : List ℕ → Type 0
+AreDivisors divisors = (i divisor : ℕ) → slice_get divisors i ≡ Some divisor → divisor ≡ i + 1

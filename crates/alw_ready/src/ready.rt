@@ -1,10 +1,10 @@
-ghost use Rattle.std.specs.Prelude.{◌≡◌, ◌<◌, ◌≤◌, length, replicate, slice_get, slice_set, Some, IfOk, IsTrue};
-ghost use Rattle.alw_ready.specs.Rows.{events_of, no_row};
+ghost use Rattle.std.specs.Prelude.{◌≡◌, ◌<◌, ◌≤◌, ◌%◌, length, replicate, slice_get, slice_set, Some, IfOk};
+ghost use Rattle.alw_ready.specs.Rows.{events_of, no_row, AreDivisors};
 ghost use Rattle.alw_ready.specs.Changes.{SenderIsLookedAt};
 
-use crate::rows::{Row, are_same, count_with, put};
+use crate::rows::{Row, change, count_with};
 use alw_msg::Event;
-use alw_num::{MOST_NODES, NoMemory, NodeNo, PlaceCounts};
+use alw_num::{Divisor, MOST_NODES, NoMemory, NodeNo, PlaceCounts};
 use std::alloc::Global;
 use std::marker::Model;
 
@@ -13,18 +13,19 @@ use std::marker::Model;
 pub struct Ready {
     rows: Vec<Row>,
     tally: PlaceCounts,
+    divisors: Vec<Divisor>,
 }
 
 impl Model for Ready {
     ghost use Rattle.std.specs.Prelude.{List};
     ghost use Rattle.alw_ready.specs.declared.rows.Row.{Row};
-    ghost use Rattle.alw_ready.specs.Rows.{RowsAreCounted};
+    ghost use Rattle.alw_ready.specs.Rows.{RowsAreCounted, AreDivisors};
 
     ghost Value = { List Row };
 
     ghost view = { λ r. r.rows.items };
 
-    ghost invariant = { λ r. RowsAreCounted r.rows.items r.tally };
+    ghost invariant = { λ r. RowsAreCounted r.rows.items r.tally × AreDivisors r.divisors.items };
 }
 
 impl Ready {
@@ -38,7 +39,12 @@ impl Ready {
         for _node in 0..nodes {
             rows.push_reserved(Row::none());
         }
-        Ok(Ready { rows, tally })
+        let divisors = divisors(alloc, 4 * nodes)?;
+        Ok(Ready {
+            rows,
+            tally,
+            divisors,
+        })
     }
 
     /// The number of nodes.
@@ -57,12 +63,34 @@ impl Ready {
 
     /// Event number k in the schedule's order: by node, and of a node an instruction, an action of the
     /// handler, and deliveries by sender.
+    #[inline(always)]
     pub fn nth(&self, k: u32) -> Event
         requires { k < length (events_of self.now) }
         ensures { slice_get (events_of self.now) k ≡ Some result }
     {
         let (place, k) = self.tally.find(k);
         self.rows[place].nth(NodeNo(place as u16), k)
+    }
+
+    /// The event that a number draws: all numbers of one remainder by the count draw the same.
+    #[inline(always)]
+    pub fn drawn(&self, number: u32) -> Event
+        requires { 0 < length (events_of self.now) }
+        ensures { slice_get (events_of self.now) (number % length (events_of self.now)) ≡ Some result }
+    {
+        self.nth(self.remainder(number, self.count()))
+    }
+
+    // What is left of a number by a count. Counts of at most four events a node have their divisors.
+    #[inline(always)]
+    fn remainder(&self, number: u32, count: u32) -> u32
+        requires { 0 < count }
+        ensures { result ≡ number % count }
+    {
+        match self.divisors.get((count - 1) as usize) {
+            Some(divisor) => divisor.remainder(number),
+            None => number % count,
+        }
     }
 
     /// The row of a node.
@@ -81,11 +109,9 @@ impl Ready {
         ensures { self.new ≡ slice_set self.old node.0 row }
     {
         let place = usize::from(node.0);
-        if self.rows[place] == row {
-            return;
-        }
-        self.tally.set(place, row.count());
-        self.rows[place] = row;
+        let kept = &mut self.rows[place];
+        *kept = row;
+        self.tally.set(place, kept.count());
     }
 
     /// A delivery from a sender may happen or not. All else of the row stays, and its events are counted
@@ -93,17 +119,27 @@ impl Ready {
     #[inline(always)]
     pub(crate) fn set_sender(&mut self, to: NodeNo, from: NodeNo, may: bool)
         requires here { to.0 < length self.old }
-        requires below { IsTrue may → from.0 < MOST_NODES }
+        requires below { from.0 < MOST_NODES }
         ensures { SenderIsLookedAt (λ event. may) from.0 to.0 self.old self.new }
     {
         let place = usize::from(to.0);
-        let row = self.rows[place];
-        let senders = put(row.senders, from, may);
-        if are_same(senders, row.senders) {
+        if self.rows[place].senders.has(from) == may {
             return;
         }
-        let count = count_with(&row, self.tally.at(place), may);
+        let row = &mut self.rows[place];
+        change(&mut row.senders, from, may);
+        let count = count_with(row, self.tally.at(place), may);
         self.tally.set(place, count);
-        self.rows[place].senders = senders;
     }
+}
+
+// The divisors from 1 to this one.
+fn divisors(alloc: Global, most: u32) -> Result<Vec<Divisor>, NoMemory>
+    ensures { IfOk result (λ made. AreDivisors made.items) }
+{
+    let mut divisors = Vec::with_capacity(alloc, most as usize)?;
+    for count in 0..most {
+        divisors.push_reserved(Divisor::of(count + 1));
+    }
+    Ok(divisors)
 }

@@ -1,4 +1,4 @@
-ghost use Rattle.std.specs.Prelude.{◌≡◌, ◌≢◌, ℕ, ◌+◌, ◌-◌, ◌^◌, ◌<◌, ◌==◌, cond, slice_get, Some, IsTrue, IsFalse};
+ghost use Rattle.std.specs.Prelude.{◌≡◌, ℕ, ◌+◌, ◌-◌, ◌^◌, ◌<◌, ◌==◌, cond, slice_get, Some, IsTrue, IsFalse};
 ghost use Rattle.alw_num.specs.NodeSets.{has_node, nodes_of, members, count_nodes};
 ghost use Rattle.alw_num.specs.Weights.{digit};
 ghost use Rattle.alw_ready.specs.Rows.{row_events, row_count, no_row};
@@ -84,7 +84,7 @@ pub(crate) fn count_with(row: &Row, count: u16, came: bool) -> u16
 // The senders with one of them, or without it.
 #[inline(always)]
 pub(crate) fn put(senders: NodeSet, from: NodeNo, may: bool) -> NodeSet
-    requires { IsTrue may → from.0 < MOST_NODES }
+    requires { from.0 < MOST_NODES }
     ensures { (k : ℕ) → has_node (nodes_of result) k ≡ cond (k == from.0) may (has_node (nodes_of senders) k) }
 {
     if may {
@@ -94,13 +94,17 @@ pub(crate) fn put(senders: NodeSet, from: NodeNo, may: bool) -> NodeSet
     }
 }
 
-// Two sets have the same senders.
+// One of the senders comes or goes. One word is written.
 #[inline(always)]
-pub(crate) fn are_same(one: NodeSet, other: NodeSet) -> bool
-    ensures same { IsTrue result → one ≡ other }
-    ensures different { IsFalse result → nodes_of one ≢ nodes_of other }
+pub(crate) fn change(senders: &mut NodeSet, from: NodeNo, may: bool)
+    requires { from.0 < MOST_NODES }
+    ensures { (k : ℕ) → has_node (nodes_of senders.new) k ≡ cond (k == from.0) may (has_node (nodes_of senders.old) k) }
 {
-    one == other
+    if may {
+        senders.add(from);
+    } else {
+        senders.remove(from);
+    }
 }
 
 // 1 where a test holds, and else 0.
