@@ -75,7 +75,7 @@ impl NodeCell {
         requires { node.0 < node_count image.now }
         ensures { IfOk result (λ c. c ≡ cell_start image.now params.now node.0) }
     {
-        let program = Arc::new(alloc, Program::of(alloc, image.code())?)?;
+        let program = Arc::new(alloc, Program::of(image.code())?)?;
         NodeCell::start_shared(alloc, image, params, node, &program)
     }
 

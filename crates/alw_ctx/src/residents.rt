@@ -72,6 +72,11 @@ impl Resident {
         ensures sizes { (P.lines port.new ≡ P.lines port.old) × (P.places port.new ≡ P.places port.old) }
     {
         let outcome = code.turn(&mut self.regs, port);
+        if matches!(outcome, Outcome::Done) {
+            self.status = Status::Ready;
+            self.hold = None;
+            return Outcome::Done;
+        }
         self.status = left_by(&self.regs, outcome);
         self.hold = None;
         outcome

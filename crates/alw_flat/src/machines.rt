@@ -57,7 +57,7 @@ impl Flat {
     pub fn start(alloc: Global, image: &Image) -> Result<Flat, NoMemory>
         ensures { IfOk result (λ f. f ≡ record { parts = for_turns image.now; flat = flat_start image.now }) }
     {
-        let code = Program::of(alloc, image.code())?;
+        let code = Program::of(image.code())?;
         let memory = Memory::start(alloc, image, image.lines())?;
         let contexts = contexts_at_start(alloc, image, image.all_contexts())?;
         Ok(Flat {

@@ -57,7 +57,7 @@ impl Mesh {
         ensures { IfOk result (λ mesh. mesh ≡ grid_start image.now params.now) }
     {
         let count = image.nodes();
-        let program = Arc::new(alloc, Program::of(alloc, image.code())?)?;
+        let program = Arc::new(alloc, Program::of(image.code())?)?;
         Ok(Mesh {
             image: image.copy()?,
             params: *params,

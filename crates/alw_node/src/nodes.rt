@@ -63,7 +63,7 @@ impl Node {
         requires { node.0 < node_count image.now }
         ensures { IfOk result (λ n. n ≡ whole_start image.now params.now node.0) }
     {
-        let program = Arc::new(alloc, Program::of(alloc, image.code())?)?;
+        let program = Arc::new(alloc, Program::of(image.code())?)?;
         Node::start_shared(alloc, image, params, node, &program)
     }
 

@@ -27,6 +27,7 @@ impl Port for Shared {
         self.lines
     }
 
+    #[inline(always)]
     fn grab(&mut self, line: LineNo, mode: Mode) -> Option<Line> {
         match (self.cache.look(line)?, mode) {
             ((Mode::Read, _), Mode::Write) => None,

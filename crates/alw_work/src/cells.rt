@@ -13,7 +13,7 @@ pub fn start_all(alloc: Global, image: &Image, params: &Params) -> Result<Vec<No
     ensures cells { IfOk result (λ cells. AreCells image.now params.now cells.items) }
     ensures alone { IfOk result (λ cells. CellsAreAlone cells.items) }
 {
-    let program = Arc::new(alloc, Program::of(alloc, image.code())?)?;
+    let program = Arc::new(alloc, Program::of(image.code())?)?;
     let count = image.nodes();
     let mut cells = Vec::with_capacity(alloc, usize::from(count))?;
     for n in 0..count {

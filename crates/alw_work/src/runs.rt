@@ -79,7 +79,7 @@ fn start_seats<I: Naming>(
     requires outs { RowsAreNew I.links (node_count image.now) outs.items }
     requires ins { LinksAreColumns I.links (node_count image.now) (node_count image.now) 0 ins.items }
 {
-    let program = Arc::new(alloc, Program::of(alloc, image.code())?)?;
+    let program = Arc::new(alloc, Program::of(image.code())?)?;
     let nodes = image.nodes();
     let mut seats = Vec::new(alloc);
     for n in 0..nodes {

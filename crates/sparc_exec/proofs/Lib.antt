@@ -1,6 +1,6 @@
 mod Products
 pub mod Lanes
 mod Lines
-mod Decoded
+mod RunWords
 pub mod Outcomes
 pub mod RegisterWords

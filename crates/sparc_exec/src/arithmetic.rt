@@ -26,15 +26,11 @@ pub fn operand_value(operand: Operand, regs: &Regs) -> u32
 }
 
 // 13 bits, sign-extended.
-fn sign_extend_13(bits: u32) -> u32
+pub fn sign_extend_13(bits: u32) -> u32
     requires { bits < 8192 }
     ensures { result ≡ sign_extended 13 bits }
 {
-    if bits < 0x1000 {
-        bits
-    } else {
-        bits + 0xffff_e000
-    }
+    (bits + 0x1000 & 0x1fff).wrapping_sub(0x1000)
 }
 
 /// The sum of both operands.

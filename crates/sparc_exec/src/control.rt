@@ -26,6 +26,7 @@ fn is_leu(regs: &Regs) -> bool
 
 // Does a condition hold?
 #[tactic(auto, unfolding(sparc_table::specs::Control::holds))]
+#[inline(always)]
 pub fn holds(condition: u8, regs: &Regs) -> bool
     requires { condition < 16 }
     ensures { result ≡ holds condition regs.now }
@@ -87,14 +88,11 @@ fn sign_extend_22(bits: u32) -> u32
     requires { bits < 4194304 }
     ensures { result ≡ sign_extended 22 bits }
 {
-    if bits < 0x20_0000 {
-        bits
-    } else {
-        bits + 0xffc0_0000
-    }
+    (bits + 0x20_0000 & 0x3f_ffff).wrapping_sub(0x20_0000)
 }
 
 // CALL.
+#[inline(always)]
 pub fn call(disp: u32, regs: &mut Regs) -> Outcome
     requires { disp < 2 ^ 30 }
     ensures done { result ≡ Outcome.Done }
@@ -130,6 +128,7 @@ pub fn branch(annul: bool, condition: u8, disp: u32, regs: &mut Regs) -> Outcome
 }
 
 // JMPL.
+#[inline(always)]
 pub fn jump(rd: u8, target: u32, regs: &mut Regs) -> Outcome
     requires { rd < 32 }
     ensures { (regs.new, result) ≡ jumped rd target regs.old }
@@ -143,6 +142,7 @@ pub fn jump(rd: u8, target: u32, regs: &mut Regs) -> Outcome
 }
 
 // Ticc with this sum of its operands.
+#[inline(always)]
 pub fn trap_on(condition: u8, sum: u32, regs: &mut Regs) -> Outcome
     requires { condition < 16 }
     ensures { (regs.new, result) ≡ trap_on (holds condition regs.old) (sum % 2 ^ 7) regs.old }
