@@ -14,7 +14,7 @@ use crate::words::run_word;
 use alw_num::Mode;
 use sparc_table::{Instr, Need, Outcome, Regs, decode, encode};
 
-/// Runs one turn: fetches the word at PC, decodes it and runs its instruction over a port.
+/// Runs one turn: fetches the word at PC, and runs it over a port.
 ///
 /// `code` holds the words from address 0 on. A PC at or past the end of the code traps with type 01, a
 /// word outside the instruction table with type 02 (SPARC V8 manual, table 7-1).
