@@ -18,6 +18,7 @@ use Rattle.law_order.proofs.Aimed.{sends_below}
 use Rattle.law_order.proofs.Reached.{state_aimed}
 use Rattle.law_machine.proofs.Bound.{sets_range}
 use Rattle.law_machine.proofs.RunFacts.{always_bounded, always_halted}
+use Rattle.law_machine.proofs.MachineFacts.{always_fit}
 use Rattle.alw_tally.specs.declared.happenings.Happened.{Happened}
 use Rattle.alw_tally.specs.Remaining.{remains_of, AreFew}
 use Rattle.alw_tally.specs.Told.{Told, told_of, told_with}
@@ -27,9 +28,9 @@ use Rattle.alw_tally.proofs.Telling.{told_entry}
 use Rattle.alw_ready.specs.declared.changes.Happened as changes
 use Rattle.alw_ready.specs.declared.rows.Row.{Row}
 use Rattle.alw_ready.specs.Rows.{events_of}
-use Rattle.alw_ready.specs.Fits.{may_happen, RowsFit}
-use Rattle.alw_ready.specs.Changes.{is_wide, is_wide_event, EventIsTold}
-use Rattle.alw_ready.proofs.MainEvents.{filter_main}
+use Rattle.alw_ready.specs.Fits.{may_happen, HeadsAreFit, RowsFit}
+use Rattle.alw_ready.specs.Changes.{ComesFromBelow, is_wide, is_wide_event, EventIsTold}
+use Rattle.alw_ready.proofs.MainEvents.{comes_from, filter_main}
 use Rattle.alw_mesh.specs.declared.stepping.Happening.{Happening}
 use Rattle.alw_mesh.specs.Grids.{Grid, grid_start, Happens}
 use Rattle.alw_mesh.specs.Histories.{History, state_of, entry_of, grown, stamps_of, may_be_next, IsRun, sent_last, last_sends}
@@ -101,6 +102,10 @@ module _ {grid : Grid} {journal : List Entry} {joined : ℕ} {sent : Sending} {t
     may_here : IsTrue (is_enabled grid.image grid.parameters (state_of here) event) × IsTrue (is_within_limit grid.image grid.parameters (state_of here) event)
     may_here = and_parts _ _ (subst (λ (m : MachineState). IsTrue (may_happen grid.image grid.parameters m event)) is.state_is may)
 
+    -- a delivery comes from a node that has a row
+    pub comes_from_row : ComesFromBelow (length ready) event
+    comes_from_row = subst (λ n. ComesFromBelow n event) (sym is.rows.counted) (comes_from grid.image grid.parameters grid.machine event may)
+
     pub enabled : IsTrue (is_enabled grid.image grid.parameters grid.machine event)
     enabled = (and_parts _ _ may).0
 
@@ -160,6 +165,14 @@ module _ {grid : Grid} {journal : List Entry} {joined : ℕ} {sent : Sending} {t
         (happens.told stamp).did ∙ ap (λ m. (stepped_by grid.image grid.parameters m event).did) is.state_is,
       )
 
+      -- the heads of its links are fit
+      pub heads_fit : HeadsAreFit after.image after.machine
+      heads_fit =
+          let entries = journal ++ entry_of here event ∷ [] in
+          let legal = legal_push grid.image grid.parameters journal (entry_of here event) is.run.legal next_is in
+          let state_next : after.machine ≡ state grid.image grid.parameters entries = machine_next ∙ sym (state_push grid.image grid.parameters journal (entry_of here event)) in
+          subst (λ (p : Parts × MachineState). HeadsAreFit p.0 p.1) (λ i. (sym happens.image i, sym state_next i)) (always_fit grid.image is.run.image grid.parameters is.run.parameters entries legal)
+
       -- the machine after an event
       pub machine_grows : {journal' : List Entry} {tally' : Tallied} {ready' : List Row} (stamp : ℕ) → stamp ≡ stamp_at grid.image grid.machine event
           → journal' ≡ journal ++ record { stamp = stamp; event = event } ∷ [] → Adds after.image tally tally' happening.told sent'.messages
@@ -216,6 +229,15 @@ module _ {grid : Grid} {journal : List Entry} {joined : ℕ} {sent : Sending} {t
           let stay = quiet_rows event happening.told.did happening.changes_holds (happens.quiet quiet) grid.image grid.parameters grid.machine ready aimed may (happens.told 0).did happens.holds
           (omega (arith, stamp_is, limit_is, allowed)) is.run.parameters.limit is.rows in
           subst (λ (p : Parts × (Parameters × MachineState)). RowsFit p.0 p.1.0 p.1.1 ready) (λ i. (sym happens.image i, (sym happens.parameters i, sym happens.machine i))) stay
+
+-- the heads of the links are fit in a machine that hasn't begun, and in one that was joined
+pub heads_fit_at : (image : Parts) → IsImage image → (parameters : Parameters) → AreParameters parameters → (journal : List Entry) → IsLegal image parameters journal
+    → (machine : MachineState) → machine ≡ state image parameters journal → HeadsAreFit image machine
+heads_fit_at image is parameters are journal legal machine machine_is = subst (HeadsAreFit image) (sym machine_is) (always_fit image is parameters are journal legal)
+
+pub heads_fit_first : {grid : Grid} (image : Parts) (parameters : Parameters) → grid ≡ grid_start image parameters → IsImage image → AreParameters parameters → HeadsAreFit grid.image grid.machine
+unfolding state
+heads_fit_first image parameters starts is are = subst (λ (g : Grid). HeadsAreFit g.image g.machine) (sym starts) (heads_fit_at image is parameters are [] tt (machine_start image) refl)
 
 -- the machine at the start
 pub machine_begins : {grid : Grid} {sent : Sending} {tally : Tallied} {ready : List Row} (image : Parts) (parameters : Parameters) → grid ≡ grid_start image parameters

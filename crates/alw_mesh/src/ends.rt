@@ -1,4 +1,4 @@
-ghost use Rattle.std.specs.Prelude.{◌≡◌, ◌<◌, find, length, slice_get, filter, None, Some, MatchOption};
+ghost use Rattle.std.specs.Prelude.{◌≡◌, ◌<◌, ◌%◌, find, length, slice_get, filter, None, Some, MatchOption};
 ghost use Rattle.alw_image.specs.Images.{node_count};
 ghost use Rattle.alw_model.specs.Machine.{is_enabled, main_events};
 ghost use Rattle.alw_mesh.specs.Histories.{IsRun};
@@ -25,6 +25,15 @@ impl Machine {
         ensures { slice_get (next_events self.now) k ≡ Some result }
     {
         self.ready.nth(k)
+    }
+
+    /// The event that a number draws of them: all numbers of one remainder by their count draw the same.
+    #[inline(always)]
+    pub fn drawn(&self, number: u32) -> Event
+        requires { 0 < length (next_events self.now) }
+        ensures { slice_get (next_events self.now) (number % length (next_events self.now)) ≡ Some result }
+    {
+        self.ready.drawn(number)
     }
 
     /// The end that holds, with the first trapping turn, or the first main event beyond the limit. None

@@ -1,7 +1,7 @@
 ghost use Rattle.std.specs.Prelude.{◌≡◌, ◌<◌, ◌≤◌, ◌^◌, ℕ, nat_lt, ◌&&◌, slice_get, max, option_copied, IfOk, OnOk, OnErr, IsTrue};
 ghost use Rattle.alw_num.specs.NodeSets.{has_node, nodes_of};
 ghost use Rattle.alw_msg.specs.Events.{node_of};
-ghost use Rattle.alw_msg.specs.Lists.{is_nonempty};
+ghost use Rattle.alw_msg.specs.Lists.{is_nonempty, front};
 ghost use Rattle.alw_image.specs.Images.{node_count, line_count, context_count};
 ghost use Rattle.alw_model.specs.Messages.{home_node};
 ghost use Rattle.alw_model.specs.Machine.{node_at, has_halted, taken_by, stamp_at, is_enabled, is_settled, any_trapped, link_at};
@@ -162,6 +162,16 @@ impl Mesh {
         }
     }
 
+    /// The message at the head of the link of two nodes.
+    #[inline(always)]
+    pub fn head_between(&self, from: NodeNo, to: NodeNo) -> Option<&Msg>
+        requires from { from.0 < node_count self.now.image }
+        requires to { to.0 < node_count self.now.image }
+        ensures { option_copied result ≡ front (link_at self.now.image self.now.machine from.0 to.0) }
+    {
+        self.links.head(from, to)
+    }
+
     /// Every context has halted.
     pub fn has_halted(&self) -> bool
         ensures { result ≡ has_halted self.now.machine }
@@ -179,8 +189,8 @@ impl Mesh {
     /// The nodes that have a message on their link to this one.
     pub fn senders_to(&self, to: NodeNo) -> NodeSet
         requires { to.0 < node_count self.now.image }
-        ensures { (from : ℕ) → from < node_count self.now.image →
-            has_node (nodes_of result) from ≡ is_nonempty (link_at self.now.image self.now.machine from to.0) }
+        ensures { (from : ℕ) → has_node (nodes_of result) from ≡
+            (nat_lt from (node_count self.now.image) && is_nonempty (link_at self.now.image self.now.machine from to.0)) }
     {
         self.links.senders(to)
     }

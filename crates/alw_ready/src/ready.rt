@@ -110,7 +110,10 @@ impl Ready {
     {
         let place = usize::from(node.0);
         let kept = &mut self.rows[place];
-        *kept = row;
+        kept.in_time = row.in_time;
+        kept.instr = row.instr;
+        kept.handle = row.handle;
+        kept.senders = row.senders;
         self.tally.set(place, kept.count());
     }
 

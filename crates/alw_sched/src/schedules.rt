@@ -42,16 +42,8 @@ fn pick(machine: &Machine, number: u32) -> Event
 {
     match asked_eviction(machine, number) {
         Some(eviction) => eviction,
-        None => machine.event(modulo(number, machine.events())),
+        None => machine.drawn(number),
     }
-}
-
-// A number modulo a count. Where one event alone may be next, nothing is divided.
-fn modulo(number: u32, count: u32) -> u32
-    requires { 0 < count }
-    ensures { result ≡ number % count }
-{
-    if count == 1 { 0 } else { number % count }
 }
 
 // The eviction that a number asks for, where it is made.

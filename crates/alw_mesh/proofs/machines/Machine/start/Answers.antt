@@ -1,7 +1,10 @@
 -- A machine that hasn't begun.
 use Rattle.std.proofs.Common.{◌∙◌}
-use Rattle.alw_mesh.proofs.Journals.{machine_begins}
+use Rattle.alw_mesh.proofs.Journals.{heads_fit_first, machine_begins}
 use Rattle.alw_mesh.proofs.machines.Machine.start.Goals as goal
+
+pub renew_all-requires-clause-fit : goal.renew_all-requires-clause-fit
+renew_all-requires-clause-fit c = heads_fit_first c.args.image.now c.args.params.now c.in_ok-mesh.ensures c.nodes.ensures.allowed c.fit.ensures.allowed
 
 pub invariant_of-result : goal.invariant_of-result
 invariant_of-result c =

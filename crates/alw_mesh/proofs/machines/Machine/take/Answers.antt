@@ -4,7 +4,7 @@ use Rattle.alw_image.specs.Parameters.{Parameters}
 use Rattle.alw_model.specs.Machine.{has_halted}
 use Rattle.alw_tally.specs.Told.{told_with}
 use Rattle.alw_mesh.specs.Grids.{Grid}
-use Rattle.alw_mesh.proofs.Journals.{journal_fits, next_may, few_remain, sends_below_rows, step_answers, machine_grows, rows_renewed, rows_stay}
+use Rattle.alw_mesh.proofs.Journals.{journal_fits, next_may, few_remain, sends_below_rows, comes_from_row, heads_fit, step_answers, machine_grows, rows_renewed, rows_stay}
 use Rattle.alw_mesh.proofs.machines.Machine.take.Goals as goal
 
 pub push-requires : goal.push-requires
@@ -18,6 +18,21 @@ renew-requires-clause-below c =
     let may = next_may c.self.invariant c.args.event (rw (← c.self.view_is) at c.requires) in
     let happens = rw c.in_ok-reserve-2.ensures.ok at c.happen-happening.ensures in
     sends_below_rows c.self.invariant c.args.event may happens
+
+pub renew-requires-clause-from : goal.renew-requires-clause-from
+renew-requires-clause-from c = comes_from_row c.self.invariant c.args.event (next_may c.self.invariant c.args.event (rw (← c.self.view_is) at c.requires))
+
+pub renew-requires-clause-fit : goal.renew-requires-clause-fit
+renew-requires-clause-fit c =
+    let may = next_may c.self.invariant c.args.event (rw (← c.self.view_is) at c.requires) in
+    let happens = rw c.in_ok-reserve-2.ensures.ok at c.happen-happening.ensures in
+    heads_fit c.self.invariant c.args.event may happens
+
+pub renew_all-requires-clause-fit : goal.renew_all-requires-clause-fit
+renew_all-requires-clause-fit c =
+    let may = next_may c.self.invariant c.args.event (rw (← c.self.view_is) at c.requires) in
+    let happens = rw c.in_ok-reserve-2.ensures.ok at c.happen-happening.ensures in
+    heads_fit c.self.invariant c.args.event may happens
 
 pub invariant_of-self-2 : goal.invariant_of-self-2
 invariant_of-self-2 c =
