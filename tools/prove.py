@@ -4,8 +4,9 @@
 A crate begins once those below it stand, first the one with the longest chain of others above it, by lines of code and by how many crates each reads.
 It takes the processors that no other waits for, at most four. Where no other chain is longer it gets four jobs, if memory holds them, beside which
 others have two processors. The toolchain lets one command at a time work in a checkout, so each works in a lane: a copy of the sources below SCRATCH.
-What it makes goes to the checkout, and to the other lanes by links. The program's own crate comes last, in the checkout. Standard error tells which
-crates stand. Ends with 1 where one isn't proved, and says what the toolchain said of it.
+What it makes goes to the checkout, and to the other lanes by links. The program's own crate comes last, in the checkout: one call proves it and
+builds the program, so that the crates below it are read once. Standard error tells which crates stand. Ends with 1 where one isn't proved, or the
+program isn't built, and says what the toolchain said of it.
 """
 import os
 import re
@@ -21,6 +22,8 @@ sys.dont_write_bytecode = True
 from alewife import ROOT
 
 PROGRAM = 'alw_cli'
+# What the toolchain says before it runs what it has built.
+RUNNING = 'rt: running out/alw_cli'
 SOURCES = ('src', 'specs', 'proofs')
 CRATE = re.compile(r'^(\w+)[^:\n]*:(.*)$', re.M)
 FAULT = re.compile(r'^error|failed|not run', re.M)
@@ -212,8 +215,13 @@ class Proofs:
             except BaseException:
                 self.stop()
                 raise
-        status, said = self.call(self.root / 'crates' / PROGRAM, 'check')
-        return status == 0 or self.fail(PROGRAM, said)
+        return self.build()
+
+    def build(self):
+        """Proves and builds the program, by rt run, which runs it on nothing. Answers whether it stands."""
+        say('building the program')
+        _, said = self.call(self.root / 'crates' / PROGRAM, 'run', '--jobs', str(self.most))
+        return RUNNING in said or self.fail(PROGRAM, said)
 
 
 def main(arguments):
