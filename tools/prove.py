@@ -188,11 +188,11 @@ class Proofs:
         say(f'{len(self.stand)} of {len(self.crates)} crates: {name}')
         return True
 
-    def fail(self, name, said):
-        """Says what the toolchain said of a crate, and ends all other checks."""
+    def fail(self, name, said, lacks='proved'):
+        """Says what the toolchain said of a crate, and what it lacks, and ends all other checks."""
         lines = said.splitlines()
         print('\n'.join([line for line in lines if FAULT.search(line)] or lines[-20:]), file=sys.stderr)
-        say(f'{name} is not proved')
+        say(f'{name} is not {lacks}')
         self.stop()
         return False
 
@@ -221,7 +221,7 @@ class Proofs:
         """Proves and builds the program, by rt run, which runs it on nothing. Answers whether it stands."""
         say('building the program')
         _, said = self.call(self.root / 'crates' / PROGRAM, 'run', '--jobs', str(self.most))
-        return RUNNING in said or self.fail(PROGRAM, said)
+        return RUNNING in said or self.fail(PROGRAM, said, 'proved and built')
 
 
 def main(arguments):
