@@ -23,7 +23,7 @@ use alw_image::{Image, Params};
 use alw_model::Did;
 use alw_msg::{Entry, Event, Msg, Sends, Status};
 use alw_node::{Node, Program};
-use alw_num::{NoMemory, NodeNo, NodeSet, Roomy};
+use alw_num::{MOST_NODES, NoMemory, NodeNo, NodeSet, Roomy};
 use alw_ready::Row;
 use std::alloc::Global;
 use std::collections::VecDeque;
@@ -306,14 +306,13 @@ impl NodeCell {
 
     // The set with or without a sender, as a delivery from it may happen or not.
     fn looked_at(&self, senders: NodeSet, from: NodeNo) -> NodeSet
+        requires { from.0 < MOST_NODES }
         ensures { (k : ℕ) → has_node (nodes_of result) k ≡ cond (k == from.0) (may_happen self.now (delivery from.0 self.now.node.number)) (has_node (nodes_of senders) k) }
     {
         let to = self.node.number();
-        if self.may(Event::Deliver { from, to }) {
-            senders.with(from)
-        } else {
-            senders.without(from)
-        }
+        let mut set = senders;
+        set.put(from, self.may(Event::Deliver { from, to }));
+        set
     }
 
     // An event may happen.

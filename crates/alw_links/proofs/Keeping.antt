@@ -21,13 +21,6 @@ use Rattle.alw_links.proofs.Places.{place_below, link_set}
 
 -- ---- the start
 
-nobody_is_none : nodes_of nobody ≡ no_nodes
-unfolding nodes_of no_nodes
-nobody_is_none = refl
-
-has-nobody : (k : ℕ) → has_node (nodes_of nobody) k ≡ false
-has-nobody k = ap (λ s. has_node s k) nobody_is_none ∙ has-none k
-
 abbrev pub no_ends : Ends
 no_ends = record { first = no_place; last = no_place }
 
@@ -64,13 +57,13 @@ pool-start n = record {
     none_below : (k : ℕ) → digit (nat_lt k 0) ≡ 0
     none_below k = grind (arith, nat_tests)
 
-pub starts : (nodes : ℕ) → nodes ≤ most_nodes → IsTraffic nodes (replicate (nodes * nodes) no_ends) (replicate nodes nobody) [] no_place 0
-starts nodes few = record {
+pub starts : (nodes : ℕ) (none : NodeSet) → nodes ≤ most_nodes → nodes_of none ≡ no_nodes → IsTraffic nodes (replicate (nodes * nodes) no_ends) (replicate nodes none) [] no_place 0
+starts nodes none few empty = record {
   few_nodes = few;
   links_are = length-replicate (nodes * nodes) no_ends;
-  senders_are = length-replicate nodes nobody;
-  sent_by = λ from to l. (λ i. has_node (nodes_of (get_or-replicate nodes to nobody nobody l i)) from)
-      ∙ (has-nobody from ∙ nothing (nat_lt from nodes) _ (ap (λ (ls : List (List Msg)). get_or ls (place_of nodes from to) []) (links-start (nodes * nodes)) ∙ link-start (nodes * nodes) (place_of nodes from to)));
+  senders_are = length-replicate nodes none;
+  sent_by = λ from to l. (λ i. has_node (nodes_of (get_or-replicate nodes to none nobody l i)) from)
+      ∙ ((λ i. has_node (empty i) from) ∙ has-none from ∙ nothing (nat_lt from nodes) _ (ap (λ (ls : List (List Msg)). get_or ls (place_of nodes from to) []) (links-start (nodes * nodes)) ∙ link-start (nodes * nodes) (place_of nodes from to)));
   pool = pool-start (nodes * nodes);
 }
   where

@@ -1,5 +1,5 @@
 -- What the links keep: the pool of places, and which nodes have something on the way to a node.
-use Rattle.std.specs.Prelude.{◌≡◌, ◌<◌, ◌≤◌, ℕ, ◌*◌, nat_lt, ◌&&◌, List, length, slice_index_or}
+use Rattle.std.specs.Prelude.{◌≡◌, ◌<◌, ◌≤◌, ℕ, ◌*◌, nat_lt, ◌&&◌, List, length, replicate, slice_index_or}
 use Rattle.alw_num.specs.declared.node_sets.NodeSet.{NodeSet}
 use Rattle.alw_num.specs.Limits.{most_nodes}
 use Rattle.alw_num.specs.NodeSets.{has_node, nodes_of}
@@ -11,7 +11,7 @@ use Rattle.alw_links.specs.declared.pools.Place.{Place}
 use Rattle.alw_links.specs.Chains.{links_of, IsPool}
 
 abbrev pub nobody : NodeSet
-nobody = record { low = 0; high = 0 }
+nobody = record { words = replicate 4 0 }
 
 -- each set has the nodes with something on the way to its node
 abbrev pub AreSenders : ℕ → List (List Msg) → List NodeSet → Type 0

@@ -51,7 +51,7 @@ impl Links {
         Ok(Links {
             nodes,
             links: vec![in alloc; empty; pairs]?,
-            senders: vec![in alloc; NodeSet { low: 0, high: 0 }; nodes as usize]?,
+            senders: vec![in alloc; NodeSet::empty(); nodes as usize]?,
             pool: Pool {
                 places: Vec::new(alloc),
                 spare: END,

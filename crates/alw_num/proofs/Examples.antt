@@ -30,6 +30,6 @@ counted : count_nodes (add_node (add_node (one_node 9) 255) 9) ≡ 2
 unfolding node_sets
 counted = refl
 
-both_words : members (nodes_of (record { low = 5; high = 2 })) ≡ 0 ∷ 2 ∷ 129 ∷ []
+all_words : members (nodes_of (record { words = 5 ∷ 2 ∷ 0 ∷ 1 ∷ [] })) ≡ 0 ∷ 2 ∷ 65 ∷ 192 ∷ []
 unfolding node_sets
-both_words = refl
+all_words = refl

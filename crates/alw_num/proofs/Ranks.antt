@@ -1,17 +1,17 @@
 -- Number k of a set of nodes stands where k members stand below it, and a word is halved by counts of bits.
-use Rattle.std.proofs.Common.{◌≡◌, ℕ, zero, suc, add-zero, add-suc, subst, ◌+◌, ◌-◌, ◌*◌, ◌/◌, ◌%◌, ◌^◌, ◌<◌, ◌≤◌, ◌==◌, nat_lt, true, List, [], ◌∷◌, slice_get, Some, refl, sym, ap, ◌∙◌, ◌⊎◌, inl, inr, arith, bit_and, count_ones}
+use Rattle.std.proofs.Common.{◌≡◌, ℕ, zero, suc, add-zero, add-suc, subst, ◌+◌, ◌-◌, ◌*◌, ◌/◌, ◌%◌, ◌^◌, ◌<◌, ◌≤◌, ◌==◌, nat_lt, true, List, [], ◌∷◌, slice_get, slice_index, Some, refl, sym, ap, ◌∙◌, ◌⊎◌, inl, inr, arith, bit_and, count_ones}
 use Rattle.std.specs.Int.{bit_at}
 use Rattle.std.proofs.lemmas.Bool.{lt-ltb, le-ltb, cases_order}
 use Rattle.std.proofs.lemmas.Bool.Decides.{nat_tests}
 use Rattle.std.proofs.lemmas.Nat.{and_mask, one_shl, shr_split, shr-shr, mod_below, shr_below, pow_pos, ones_cat, ones_le_self}
 use Rattle.std.proofs.lemmas.Nat.Bits.{bit_at-lt, bit_at_above, bit_at_cat_low}
 use Rattle.alw_num.specs.declared.node_sets.NodeSet.{NodeSet}
-use Rattle.alw_num.specs.NodeSets.{Nodes, has_node, members, count_nodes, nodes_of}
+use Rattle.alw_num.specs.NodeSets.{Nodes, has_node, members, nodes_of}
 use Rattle.alw_num.specs.Weights.{digit, weigh, times, sum_below}
 use Rattle.alw_num.specs.Ranks.{RankIsOfPart, RankIsFound}
 use Rattle.alw_num.proofs.Sets.{AscendsFrom, times_before, member, members-ascend, count-bits, count-sum}
 use Rattle.alw_num.proofs.Weigh.{cases_lt_then, true_of_digit, digit_other, sum_same, sum_both, sum_one, sum_none}
-use Rattle.alw_num.proofs.Words.{has-low, has-high, counted}
+use Rattle.alw_num.proofs.Words.{has_digit}
 
 -- ---- lists that ascend
 
@@ -85,7 +85,7 @@ bit_at-high word w k = ap (λ n. n % 2) (shr-shr word w k)
 ones_parts : (word w : ℕ) → count_ones word ≡ count_ones (word / 2 ^ w) + count_ones (word % 2 ^ w)
 ones_parts word w = sym (ap count_ones (shr_split word w)) ∙ ones_cat w (word / 2 ^ w) (word % 2 ^ w) (low_below word w)
 
-pub begins : (word k : ℕ) → word < 2 ^ 128 → k < count_ones word → RankIsOfPart word k word k 0 128
+pub begins : (word k : ℕ) → word < 2 ^ 64 → k < count_ones word → RankIsOfPart word k word k 0 64
 begins word k fits here = record {
   some = omega arith;
   within = omega arith;
@@ -96,11 +96,11 @@ begins word k fits here = record {
 }
 
 -- the low digits of a word, by a mask
-masked : (rest half : ℕ) → half < 128 → bit_and rest (1 * 2 ^ half % 2 ^ 128 - 1) ≡ rest % 2 ^ half
-masked rest half l = rw (one_shl half 128 l) (and_mask rest half)
+masked : (rest half : ℕ) → half < 64 → bit_and rest (1 * 2 ^ half % 2 ^ 64 - 1) ≡ rest % 2 ^ half
+masked rest half l = rw (one_shl half 64 l) (and_mask rest half)
 
 abbrev pub low_part : ℕ → ℕ → ℕ
-low_part rest half = bit_and rest (1 * 2 ^ half % 340282366920938463463374607431768211456 - 1)
+low_part rest half = bit_and rest (1 * 2 ^ half % 18446744073709551616 - 1)
 
 module _ (word k rest left at half : ℕ) (window : RankIsOfPart word k rest left at (half * 2)) where
   low_is : low_part rest half ≡ rest % 2 ^ half
@@ -143,30 +143,41 @@ ends word k rest left at window =
       before = omega (arith, window.before, window.here, ones_le_self rest);
     }
 
--- ---- the two words of a set
+-- ---- the words of a set
 
-module _ (set : NodeSet) (low : set.low < 2 ^ 128) (high : set.high < 2 ^ 128) where
-  before_low : (n : ℕ) → n ≤ 128 → sum_below n (λ j. digit (has_node (nodes_of set) j)) ≡ sum_below n (bit_at set.low)
-  before_low n l = sum_same n (λ j. digit (has_node (nodes_of set) j)) (bit_at set.low) (λ j m. ap digit (has-low set j (omega arith)) ∙ digit_bit set.low j)
+module _ (s : NodeSet) where
+  abbrev has : ℕ → ℕ
+  has k = digit (has_node (nodes_of s) k)
 
-  pub nth_low : (k n : ℕ) → RankIsFound set.low k n → slice_get (members (nodes_of set)) k ≡ Some n
-  nth_low k n found = nth_is (nodes_of set) n k (has-low set n found.within ∙ ap (λ b. b == 1) found.one) (before_low n (omega (arith, found.within)) ∙ found.before)
+  abbrev ones_at : ℕ → ℕ
+  ones_at i = count_ones (slice_index s.words i)
 
-  high_digit : (j : ℕ) → j < 128 → digit (has_node (nodes_of set) (128 + j)) ≡ bit_at set.high j
-  high_digit j l = ap digit (has-high set (128 + j) (omega arith) (omega arith)) ∙ (digit_bit set.high (128 + j - 128) ∙ ap (bit_at set.high) (omega arith))
+  has_in : (i j : ℕ) → i < 4 → j < 64 → has (i * 64 + j) ≡ bit_at (slice_index s.words i) j
+  has_in i j l m = ap digit (has_digit s i j l m) ∙ digit_bit (slice_index s.words i) j
 
-  pub nth_high : (k n : ℕ) → count_ones set.low ≤ k → RankIsFound set.high (k - count_ones set.low) n → slice_get (members (nodes_of set)) k ≡ Some (128 + n)
-  nth_high k n past found =
-      let l = found.within in
-      let here : digit (has_node (nodes_of set) (128 + n)) ≡ 1 = high_digit n l ∙ found.one in
-      nth_is (nodes_of set) (128 + n) k (true_of_digit (has_node (nodes_of set) (128 + n)) (omega arith))
-      (sum_cat 128 n (λ j. digit (has_node (nodes_of set) j)) ∙ both
-      (before_low 128 (omega arith) ∙ ones_sum 128 set.low low)
-      (sum_same n (λ j. digit (has_node (nodes_of set) (128 + j))) (bit_at set.high) (λ j m. high_digit j (omega arith)) ∙ found.before))
+  -- as many members stand in a word as it has ones
+  of_word : (i : ℕ) → i < 4 → slice_index s.words i < 2 ^ 64 → sum_below 64 (λ j. has (i * 64 + j)) ≡ ones_at i
+  of_word i l fits = sum_same 64 (λ j. has (i * 64 + j)) (bit_at (slice_index s.words i)) (λ j m. has_in i j l m) ∙ ones_sum 64 (slice_index s.words i) fits
+
+  -- and in the words in front of a word
+  of_words : (i : ℕ) → i ≤ 4 → ((j : ℕ) → j < i → slice_index s.words j < 2 ^ 64) → sum_below (i * 64) has ≡ sum_below i ones_at
+  of_words zero l fits = refl
+  of_words (suc i) l fits =
+      let whole : i * 64 + 64 ≡ suc i * 64 = omega arith in
+      sym (ap (λ n. sum_below n has) whole) ∙ (sum_cat (i * 64) 64 has ∙ turned (of_words i (omega arith) (λ j m. fits j (omega arith))) (of_word i (omega arith) (fits i (omega arith))))
     where
-      both : {a b : ℕ} → a ≡ count_ones set.low → b ≡ k - count_ones set.low → a + b ≡ k
-      both e f = omega arith
+      turned : {a b c d : ℕ} → a ≡ c → b ≡ d → a + b ≡ d + c
+      turned e f = omega arith
 
-  -- number k is one of the low word's, or of the high word's
-  pub high_has : (k : ℕ) → k < count_nodes (nodes_of set) → count_ones set.low ≤ k → k - count_ones set.low < count_ones set.high
-  high_has k l past = omega (arith, counted set low high)
+  -- number k is the one of a word that has as many ones before it, with those of the words in front
+  pub nth_in : (i k left n at : ℕ) → i < 4 → ((j : ℕ) → j < i → slice_index s.words j < 2 ^ 64) → sum_below i ones_at + left ≡ k → at ≡ i * 64 + n → RankIsFound (slice_index s.words i) left n → slice_get (members (nodes_of s)) k ≡ Some at
+  nth_in i k left n at l fits front place found =
+      let here : has (i * 64 + n) ≡ 1 = has_in i n l found.within ∙ found.one in
+      nth_is (nodes_of s) (i * 64 + n) k (true_of_digit (has_node (nodes_of s) (i * 64 + n)) (omega arith))
+      (sum_cat (i * 64) n has ∙ (both
+      (of_words i (omega arith) fits)
+      (sum_same n (λ j. has (i * 64 + j)) (bit_at (slice_index s.words i)) (λ j m. has_in i j l (omega (arith, found.within))) ∙ found.before) ∙ front))
+      ∙ ap Some (sym place)
+    where
+      both : {a b c d : ℕ} → a ≡ c → b ≡ d → a + b ≡ c + d
+      both e f = omega arith

@@ -33,6 +33,11 @@ pub has-drop : (P : Nodes) (n k : ℕ) → has_node (drop_node P n) k ≡ cond (
 unfolding has_node drop_node
 has-drop P n k = grind (arith, nat_tests, bit_at_xor P.bits (bit_and P.bits (2 ^ n)) k, bit_at_and P.bits (2 ^ n) k, bit_at-pow_same k, bit_at-pow_other n k, bit_at-lt P.bits k)
 
+-- a set that a node joins or leaves, as a test says
+pub has-put : (P : Nodes) (b : Bool) (n k : ℕ) → has_node (cond b (add_node P n) (drop_node P n)) k ≡ cond (k == n) b (has_node P k)
+has-put P true n k = has-add P n k
+has-put P false n k = has-drop P n k
+
 pub has-join : (P Q : Nodes) (k : ℕ) → has_node (join_nodes P Q) k ≡ (has_node P k || has_node Q k)
 unfolding has_node join_nodes
 has-join P Q k = grind (arith, nat_tests, bit_at_or P.bits Q.bits k, bit_at-lt P.bits k, bit_at-lt Q.bits k)

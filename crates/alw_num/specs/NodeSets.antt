@@ -1,5 +1,5 @@
 -- A set of nodes is the number whose binary digit n says whether node n is in it, so that two sets with the same members are equal.
-use Rattle.std.specs.Prelude.{ℕ, zero, suc, ◌+◌, ◌*◌, ◌/◌, ◌%◌, ◌^◌, ◌≡◌, ◌<◌, List, [], ◌∷◌, length, Bool, true, false, ◌==◌, bit_and, bit_or, bit_xor, refl}
+use Rattle.std.specs.Prelude.{ℕ, zero, suc, ◌+◌, ◌*◌, ◌/◌, ◌%◌, ◌^◌, ◌≡◌, ◌<◌, List, [], ◌∷◌, length, take, Bool, true, false, ◌==◌, bit_and, bit_or, bit_xor, refl}
 use Rattle.std.specs.Int.{bit_at}
 use Rattle.std.specs.Coded.{Coded, code_by, coded_ℕ}
 use Rattle.alw_num.specs.declared.node_sets.NodeSet.{NodeSet}
@@ -59,9 +59,14 @@ AreBelow n set = (k : ℕ) → has_node set k ≡ true → k < n
 abbrev pub count_nodes : Nodes → ℕ
 count_nodes set = length (members set)
 
--- the set that two words of 128 bits spell: node n is digit n of `low` below 128, and digit n - 128 of `high` from there on
+-- the number that words of 64 bits spell, the lowest first
+abbrev pub bits_in : List ℕ → ℕ
+bits_in [] = 0
+bits_in (word ∷ rest) = bits_in rest * 2 ^ 64 + word % 2 ^ 64
+
+-- the set that four words spell: node n is digit n % 64 of word n / 64
 unfoldable pub nodes_of : NodeSet → Nodes
-nodes_of set = record { bits = set.high % 2 ^ 128 * 2 ^ 128 + set.low % 2 ^ 128 }
+nodes_of set = record { bits = bits_in (take 4 set.words) }
 
 -- To unfold this is to unfold each word of this file, so that sets of written-out nodes compute.
 unfoldable pub node_sets : Unit {0}

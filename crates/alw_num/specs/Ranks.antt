@@ -6,7 +6,7 @@ use Rattle.alw_num.specs.Weights.{sum_below}
 -- of the ones of a word number k is number `left` of those of a part, which has these digits from a place on
 pub record RankIsOfPart (word k rest left at width : ℕ) : Type 0 where
   pub some : 1 ≤ width
-  pub within : at + width ≤ 128
+  pub within : at + width ≤ 64
   pub fits : rest < 2 ^ width
   pub digits : (j : ℕ) → j < width → bit_at rest j ≡ bit_at word (at + j)
   pub before : sum_below at (bit_at word) + left ≡ k
@@ -14,6 +14,6 @@ pub record RankIsOfPart (word k rest left at width : ℕ) : Type 0 where
 
 -- the place of number k of the ones of a word
 pub record RankIsFound (word k at : ℕ) : Type 0 where
-  pub within : at < 128
+  pub within : at < 64
   pub one : bit_at word at ≡ 1
   pub before : sum_below at (bit_at word) ≡ k

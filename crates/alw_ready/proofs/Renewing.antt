@@ -5,7 +5,7 @@ use Rattle.std.proofs.lemmas.List.{get_or-set_same, get_or-set_other, length-set
 use Rattle.std.proofs.lemmas.Option.{same_Some}
 use Rattle.alw_num.specs.Maps.{passes}
 use Rattle.alw_num.specs.NodeSets.{Nodes, no_nodes, has_node, add_node, drop_node, members, count_nodes, nodes_of}
-use Rattle.alw_num.proofs.Sets.{has-none, has-add, has-drop}
+use Rattle.alw_num.proofs.Sets.{has-none, has-drop, has-put}
 use Rattle.alw_num.proofs.Weigh.{is_node}
 use Rattle.alw_msg.specs.declared.messages.Msg.{Msg}
 use Rattle.alw_msg.specs.Lists.{is_nonempty, front}
@@ -40,12 +40,9 @@ drop_send (first ∷ rest) (suc i) send is = drop_send rest i send is ∙ ap (λ
 
 -- ---- a set of senders
 
--- a sender is put in, or taken out
-pub put_in : (P Q : Nodes) (n : ℕ) (b : Bool) → Q ≡ add_node P n → b ≡ true → (k : ℕ) → has_node Q k ≡ cond (k == n) b (has_node P k)
-put_in P Q n b is test k = ap (λ S. has_node S k) is ∙ (has-add P n k ∙ ap (λ t. cond (k == n) t (has_node P k)) (sym test))
-
-pub taken_out : (P Q : Nodes) (n : ℕ) (b : Bool) → Q ≡ drop_node P n → b ≡ false → (k : ℕ) → has_node Q k ≡ cond (k == n) b (has_node P k)
-taken_out P Q n b is test k = ap (λ S. has_node S k) is ∙ (has-drop P n k ∙ ap (λ t. cond (k == n) t (has_node P k)) (sym test))
+-- a sender is put in, or taken out, as a test says
+pub is_put : (P Q : Nodes) (n : ℕ) (may test : Bool) → Q ≡ cond may (add_node P n) (drop_node P n) → may ≡ test → (k : ℕ) → has_node Q k ≡ cond (k == n) test (has_node P k)
+is_put P Q n may test is same k = ap (λ S. has_node S k) is ∙ (has-put P may n k ∙ ap (λ b. cond (k == n) b (has_node P k)) same)
 
 -- senders that aren't left to be looked at are found as the test says
 abbrev pub AreFound : (ℕ → Bool) → Nodes → Nodes → Type 0

@@ -1,5 +1,5 @@
 -- What is kept of each node, and the main events that it says are enabled within the limit.
-use Rattle.std.specs.Prelude.{◌≡◌, ℕ, ◌+◌, ◌≤◌, Bool, false, cond, Some, List, [], ◌∷◌, ◌++◌, map, length, slice_get, slice_index_or}
+use Rattle.std.specs.Prelude.{◌≡◌, ℕ, ◌+◌, ◌≤◌, Bool, false, cond, Some, List, [], ◌∷◌, ◌++◌, map, length, replicate, slice_get, slice_index_or}
 use Rattle.alw_num.specs.declared.addresses.NodeNo.{NodeNo}
 use Rattle.alw_num.specs.NodeSets.{members, count_nodes, nodes_of}
 use Rattle.alw_num.specs.Weights.{digit}
@@ -40,7 +40,7 @@ events_of rows = events_from 0 rows
 
 -- a row without events, for a number that no node has
 abbrev pub no_row : Row
-no_row = record { in_time = false; instr = false; handle = false; senders = record { low = 0; high = 0 } }
+no_row = record { in_time = false; instr = false; handle = false; senders = record { words = replicate 4 0 } }
 
 abbrev pub row_at : List Row → ℕ → Row
 row_at rows at = slice_index_or rows at no_row

@@ -2,7 +2,7 @@ ghost use Rattle.std.specs.Prelude.{◌≡◌, ◌<◌, ◌≤◌, ◌%◌, leng
 ghost use Rattle.alw_ready.specs.Rows.{events_of, no_row, AreDivisors};
 ghost use Rattle.alw_ready.specs.Changes.{SenderIsLookedAt};
 
-use crate::rows::{Row, change, count_with};
+use crate::rows::{Row, count_with};
 use alw_msg::Event;
 use alw_num::{Divisor, MOST_NODES, NoMemory, NodeNo, PlaceCounts};
 use std::alloc::Global;
@@ -130,7 +130,7 @@ impl Ready {
             return;
         }
         let row = &mut self.rows[place];
-        change(&mut row.senders, from, may);
+        row.senders.put(from, may);
         let count = count_with(row, self.tally.at(place), may);
         self.tally.set(place, count);
     }

@@ -13,7 +13,7 @@ ghost use Rattle.alw_ready.specs.Changes.{ComesFromBelow, SenderIsLookedAt, OwnR
 
 use crate::changes::Happened;
 use crate::ready::Ready;
-use crate::rows::{Row, put};
+use crate::rows::Row;
 use crate::views::View;
 use alw_msg::{Event, Sends};
 use alw_num::{MOST_NODES, NodeNo, NodeSet};
@@ -187,5 +187,7 @@ fn looked_at<V: View>(view: &V, senders: NodeSet, from: NodeNo, to: NodeNo) -> N
     ensures { (k : ℕ) → has_node (nodes_of result) k ≡ cond (k == from.0)
         (may_happen (V.image view.now) (V.parameters view.now) (V.state view.now) (delivery from.0 to.0)) (has_node (nodes_of senders) k) }
 {
-    put(senders, from, view.arrives(from, to))
+    let mut set = senders;
+    set.put(from, view.arrives(from, to));
+    set
 }

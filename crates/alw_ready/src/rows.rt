@@ -1,10 +1,10 @@
-ghost use Rattle.std.specs.Prelude.{◌≡◌, ℕ, ◌+◌, ◌-◌, ◌^◌, ◌<◌, ◌==◌, cond, slice_get, Some, IsTrue, IsFalse};
-ghost use Rattle.alw_num.specs.NodeSets.{has_node, nodes_of, members, count_nodes};
+ghost use Rattle.std.specs.Prelude.{◌≡◌, ◌+◌, ◌-◌, ◌^◌, ◌<◌, cond, slice_get, Some, IsTrue, IsFalse};
+ghost use Rattle.alw_num.specs.NodeSets.{nodes_of, members, count_nodes};
 ghost use Rattle.alw_num.specs.Weights.{digit};
 ghost use Rattle.alw_ready.specs.Rows.{row_events, row_count, no_row};
 
 use alw_msg::Event;
-use alw_num::{MOST_NODES, NodeNo, NodeSet};
+use alw_num::{NodeNo, NodeSet};
 
 /// What is kept of a node: which of its main events are enabled within the limit.
 #[derive(Clone, Copy, PartialEq, Eq)]
@@ -29,7 +29,7 @@ impl Row {
             in_time: false,
             instr: false,
             handle: false,
-            senders: NodeSet { low: 0, high: 0 },
+            senders: NodeSet { words: [0; 4] },
         }
     }
 
@@ -78,32 +78,6 @@ pub(crate) fn count_with(row: &Row, count: u16, came: bool) -> u16
         count + 1
     } else {
         count - 1
-    }
-}
-
-// The senders with one of them, or without it.
-#[inline(always)]
-pub(crate) fn put(senders: NodeSet, from: NodeNo, may: bool) -> NodeSet
-    requires { from.0 < MOST_NODES }
-    ensures { (k : ℕ) → has_node (nodes_of result) k ≡ cond (k == from.0) may (has_node (nodes_of senders) k) }
-{
-    if may {
-        senders.with(from)
-    } else {
-        senders.without(from)
-    }
-}
-
-// One of the senders comes or goes. One word is written.
-#[inline(always)]
-pub(crate) fn change(senders: &mut NodeSet, from: NodeNo, may: bool)
-    requires { from.0 < MOST_NODES }
-    ensures { (k : ℕ) → has_node (nodes_of senders.new) k ≡ cond (k == from.0) may (has_node (nodes_of senders.old) k) }
-{
-    if may {
-        senders.add(from);
-    } else {
-        senders.remove(from);
     }
 }
 

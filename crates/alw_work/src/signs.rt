@@ -1,3 +1,5 @@
+ghost use Rattle.std.specs.Prelude.{◌<◌};
+
 use alw_num::{NoMemory, NodeNo, NodeSet};
 use std::alloc::Global;
 use std::sync::atomic::{AtomicBool, AtomicU64, Ordering};
@@ -81,11 +83,8 @@ impl Signs {
 }
 
 // The nodes of a word of marks go into a set.
-fn add(set: &mut NodeSet, word: u16, marks: u64) {
-    let bits = u128::from(marks) << (word % 2 * WORD_NODES);
-    if word < 2 {
-        set.low |= bits;
-    } else {
-        set.high |= bits;
-    }
+fn add(set: &mut NodeSet, word: u16, marks: u64)
+    requires { word < NODE_WORDS }
+{
+    set.words[usize::from(word)] |= marks;
 }

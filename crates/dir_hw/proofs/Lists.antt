@@ -37,7 +37,7 @@ count-next ns count n l e gone =
 
 pub ruleset pointer_lists = (set_of-push, has-set_of, has-none, count-none, add_member)
 
--- the nodes that a loop over the numbers has put into two words are below 256
+-- the nodes that a loop over the numbers has put into a set are below 256
 pub set_of-below : (ns : List ℕ) (i : ℕ) (s : NodeSet) → nodes_of s ≡ set_of (take i ns) → length ns ≤ i → (k : ℕ) → has_node (set_of ns) k ≡ true → k < 256
 set_of-below ns i s e l k here =
     let all : nodes_of s ≡ set_of ns = e ∙ ap set_of (take_all i ns l) in
