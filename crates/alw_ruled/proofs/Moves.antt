@@ -1,6 +1,5 @@
 -- Each move of a pass keeps the rule of a link.
 use Rattle.std.proofs.Common.{◌≡◌, ◌≢◌, ◌⊎◌, ℕ, zero, suc, Some, None, List, [], ◌∷◌, ◌++◌, length, slice_set, inl, inr, ⊎_elim, refl, sym, subst, ap, ◌∙◌, append_assoc}
-use Rattle.std.proofs.lemmas.List.{map-append}
 use Rattle.std.proofs.lemmas.Option.{none-some, same_Some}
 use mathlib.Core.Option.{some, some-injective, some-ne-none}
 use lib.ListN.{get_elem?}
@@ -8,7 +7,7 @@ use Rattle.crossbeam_queue.specs.Fifo.{Pushes, Pops, Forks, Merges, Learns}
 use Rattle.crossbeam_queue.proofs.Lists.{at_set}
 use Rattle.alw_msg.specs.declared.messages.Msg.{Msg}
 use Rattle.alw_ruled.specs.declared.rule.View.{View}
-use Rattle.alw_ruled.specs.Order.{view_of, known, Boxed, messages, Fits, InOrder, HoldsInOrder, Adds, Takes, TakesOfPushed, Left}
+use Rattle.alw_ruled.specs.Order.{view_of, known, Fits, InOrder, Adds, Takes, Left}
 
 -- it may push, or pop
 abbrev pub MayPush : View → Type 0
@@ -61,9 +60,8 @@ not_receiver s r p q k view other more apart fit = record { pushes = fit.pushes;
 
 -- ---- a push and a pop
 
-pub sends : (n pass : ℕ) (v : View) (boxed : Boxed) → MayPush v → Pushes HoldsInOrder n pass v boxed (Adds v boxed)
-sends n pass v boxed may held views room h at =
-    let msg = boxed.value in
+pub sends : (n pass : ℕ) (v : View) (msg : Msg) → MayPush v → Pushes InOrder n pass v msg (Adds v msg)
+sends n pass v msg may held views room h at =
     let mine = h.each pass v at in
     let own = mine.pushes (known v.pushed) may in
     let after = view_of (Some (known v.pushed ++ msg ∷ [])) v.popped in
@@ -78,17 +76,15 @@ sends n pass v boxed may held views room h at =
         receiver = h.receiver;
         pushed = pushed;
         popped = h.popped;
-        in_order = ap (λ (l : List Msg). l ++ msg ∷ []) h.in_order ∙ (append_assoc h.popped (messages held) (msg ∷ [])
-            ∙ ap (λ (l : List Msg). h.popped ++ l) (sym (map-append (λ (b : Boxed). b.value) held (boxed ∷ []))));
+        in_order = ap (λ (l : List Msg). l ++ msg ∷ []) h.in_order ∙ append_assoc h.popped held (msg ∷ []);
         each = changed (Fits h.sender h.receiver pushed h.popped) views pass after fits
             (λ k view other there. not_sender h.sender h.receiver h.pushed h.popped k view h.sender pushed (λ e. other (e ∙ sym own.0)) (h.each k view there));
       },
       refl,
     )
 
-pub gets : (pass : ℕ) (v : View) → MayPop v → Pops HoldsInOrder pass v (Takes v)
-gets pass v may boxed held views h at =
-    let msg = boxed.value in
+pub gets : (pass : ℕ) (v : View) → MayPop v → Pops InOrder pass v (Takes v)
+gets pass v may msg held views h at =
     let mine = h.each pass v at in
     let own = mine.pops (known v.popped) may in
     let after = view_of v.pushed (Some (known v.popped ++ msg ∷ [])) in
@@ -103,7 +99,7 @@ gets pass v may boxed held views h at =
         receiver = h.receiver;
         pushed = h.pushed;
         popped = popped;
-        in_order = h.in_order ∙ sym (append_assoc h.popped (msg ∷ []) (messages held));
+        in_order = h.in_order ∙ sym (append_assoc h.popped (msg ∷ []) held);
         each = changed (Fits h.sender h.receiver h.pushed popped) views pass after fits
             (λ k view other there. not_receiver h.sender h.receiver h.pushed h.popped k view h.receiver popped (λ e. other (e ∙ sym own.0))
             (h.each k view there));
@@ -113,7 +109,7 @@ gets pass v may boxed held views h at =
 
 -- ---- one pass made two, and two made one
 
-pub forks : (pass : ℕ) (v : View) → MayPush v → MayPop v → Forks HoldsInOrder pass v (view_of v.pushed None) (view_of None v.popped)
+pub forks : (pass : ℕ) (v : View) → MayPush v → MayPop v → Forks InOrder pass v (view_of v.pushed None) (view_of None v.popped)
 forks pass v may_push may_pop held views h at =
     let mine = h.each pass v at in
     let own = mine.pops (known v.popped) may_pop in
@@ -138,7 +134,7 @@ forks pass v may_push may_pop held views h at =
     }
 
 pub merges : (pass : ℕ) (v : View) (other : ℕ) (u : View) → MayPush v → MayPop u
-    → Merges HoldsInOrder pass v other u (view_of v.pushed u.popped) (view_of None None)
+    → Merges InOrder pass v other u (view_of v.pushed u.popped) (view_of None None)
 merges pass v other u may_push may_pop held views h at apart at_other =
     let mine = h.each pass v at in
     let own = mine.pushes (known v.pushed) may_push in
@@ -166,22 +162,7 @@ merges pass v other u may_push may_pop held views h at apart at_other =
 
 -- ---- what the pass that has both lists knows
 
-left_of : (v : View) (held : List Boxed) (views : List View) (pass : ℕ) → MayPush v → MayPop v → (h : HoldsInOrder held views)
-    → get_elem? views pass ≡ some v → Left v held
-left_of v held views pass may_push may_pop h at =
+pub totals : (pass : ℕ) (v : View) → MayPush v → MayPop v → Learns InOrder pass v (Left v)
+totals pass v may_push may_pop held views h at =
     let mine = h.each pass v at in
-    (mine.pushes (known v.pushed) may_push).1 ∙ (h.in_order ∙ ap (λ (l : List Msg). l ++ messages held) (sym (mine.pops (known v.popped) may_pop).1))
-
-pub empties : (pass : ℕ) (v : View) → MayPush v → MayPop v → Pops HoldsInOrder pass v (TakesOfPushed v)
-empties pass v may_push may_pop boxed held views h at =
-    let got = gets pass v may_pop boxed held views h at in
-    let left : Left got.0 held = rw got.2
-    (left_of v (boxed ∷ held) views pass may_push may_pop h at ∙ sym (append_assoc (known v.popped) (boxed.value ∷ []) (messages held))) in
-    (got.0, got.1, (got.2, (held, left)))
-
-pub totals : (pass : ℕ) (v : View) → MayPush v → MayPop v → Learns HoldsInOrder pass v (Left v)
-totals pass v may_push may_pop held views h at = left_of v held views pass may_push may_pop h at
-
--- the pass of a new link may do both
-pub may_both : (v : View) (pushed popped : List Msg) → v ≡ view_of (Some pushed) (Some popped) → MayPush v × MayPop v
-may_both v pushed popped is = subst (λ (w : View). MayPush w × MayPop w) (sym is) (refl, refl)
+    (mine.pushes (known v.pushed) may_push).1 ∙ (h.in_order ∙ ap (λ (l : List Msg). l ++ held) (sym (mine.pops (known v.popped) may_pop).1))

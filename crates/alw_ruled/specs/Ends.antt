@@ -1,12 +1,11 @@
 -- What is seen of a link and of its two passes.
 use Rattle.std.specs.Prelude.{List, []}
-use Rattle.std.specs.declared.alloc.Global.{Global}
-use Rattle.crossbeam_queue.specs.SegTies.{SegId}
+use Rattle.atomic_table.specs.Seated.{TableId}
 use Rattle.alw_msg.specs.declared.messages.Msg.{Msg}
 
 -- which link it is: no other one has its name
 abbrev pub LinkName : Type 0
-LinkName = SegId Global
+LinkName = TableId
 
 -- a sender's pass: its link, and the messages pushed, in order
 pub record Sender : Type 0 where

@@ -1,23 +1,30 @@
-ghost use Rattle.std.specs.Prelude.{◌≡◌, ◌<◌, nat_lt, [], ◌∷◌, ◌++◌, ℕ, List, length, option_to_list, IfOk, MatchResult};
+ghost use Rattle.std.specs.Prelude.{◌≡◌, ◌<◌, nat_lt, if◌then◌else◌, [], ◌∷◌, ◌++◌, ℕ, List, length, option_to_list, IfOk, MatchResult};
+ghost use Rattle.crossbeam_queue.specs.Passes.{view, IsSamePass, IsPassOf};
 ghost use Rattle.alw_msg.specs.declared.messages.Msg.{Msg};
+ghost use Rattle.alw_msg.specs.Lists.{front};
 ghost use Rattle.alw_ruled.specs.Ends.{sender_at_start, receiver_at_start};
+ghost use Rattle.alw_ruled.specs.Order.{known, MaySend, all_of};
 
-use crate::rule::{Added, Emptied, FirstInFirstOut, Halves, Taken, View};
+use crate::rule::{Added, FirstInFirstOut, Halves, Taken, View, Whole};
 use alw_msg::Msg;
 use alw_num::NoMemory;
-use crossbeam_queue::{RuledSegQueue, SegPass};
+use crossbeam_queue::{Pass, RuledArrayQueue};
 use std::alloc::Global;
+use std::collections::VecDeque;
 use std::marker::Model;
 use std::sync::Wait;
 use thiserror::Error;
 
-type Queue = RuledSegQueue<Box<Msg>, View, FirstInFirstOut>;
+type Queue = RuledArrayQueue<Msg, View, FirstInFirstOut>;
+
+// The most messages of a link that both threads see. What is sent behind them waits at the sender's end.
+const PLACES: usize = 4;
 
 /// A link from one node to another: messages on their way between two threads, first in, first out. A
 /// contract sees its name, which no other link has.
+#[derive(Drop)]
 pub struct Link {
     queue: Queue,
-    alloc: Global,
 }
 
 impl Model for Link {
@@ -25,54 +32,47 @@ impl Model for Link {
 
     ghost Value = { LinkName };
 
-    ghost view = { λ l. l.queue };
+    ghost view = { λ l. l.queue.table.shared.table_id };
 }
 
-impl Drop for Link {
-    fn drop(self) {
-        let Link { queue, alloc: _ } = self;
-        queue.destroy();
-    }
-}
-
-/// The right to push to a link, with the list of what was pushed, of which the count alone takes memory.
+/// The right to push to a link, with the list of what was pushed: what went onto the queue, and behind it
+/// what waits for a place there, which alone takes memory.
 #[derive(Drop)]
 pub struct SendPass {
-    pass: SegPass<Box<Msg>, View>,
+    pass: Pass<Msg, View>,
+    late: VecDeque<Msg>,
     count: u32,
 }
 
 impl Model for SendPass {
-    ghost use Rattle.std.specs.Prelude.{◌≡◌, Some, None, length};
+    ghost use Rattle.std.specs.Prelude.{◌≡◌, [], length};
     ghost use Rattle.alw_ruled.specs.Ends.{Sender};
-    ghost use Rattle.alw_ruled.specs.Order.{view_of, known};
+    ghost use Rattle.alw_ruled.specs.Order.{MaySend, all_of};
 
     ghost Value = { Sender };
 
-    ghost view = { λ p. record { link = record { web = p.pass.web; heap = p.pass.heap }; pushed = known p.pass.me.view.client.pushed } };
+    ghost view = { λ p. record { link = p.pass.table_id; pushed = all_of p.pass.me.0.client p.late.items } };
 
-    ghost invariant = { λ p. (p.pass.me.hand ≡ None) × (p.pass.me.spare ≡ None)
-        × (p.pass.me.view.client ≡ view_of (Some (known p.pass.me.view.client.pushed)) None)
-        × (length (known p.pass.me.view.client.pushed) ≡ p.count) };
+    ghost invariant = { λ p. (p.pass.me.1 ≡ []) × MaySend p.pass.me.0.client
+        × (length (all_of p.pass.me.0.client p.late.items) ≡ p.count) };
 }
 
 /// The right to pop from a link, with the list of what was popped, which takes no memory.
 #[derive(Drop)]
 pub struct RecvPass {
-    pass: SegPass<Box<Msg>, View>,
+    pass: Pass<Msg, View>,
 }
 
 impl Model for RecvPass {
-    ghost use Rattle.std.specs.Prelude.{◌≡◌, Some, None};
+    ghost use Rattle.std.specs.Prelude.{◌≡◌, []};
     ghost use Rattle.alw_ruled.specs.Ends.{Receiver};
-    ghost use Rattle.alw_ruled.specs.Order.{view_of, known};
+    ghost use Rattle.alw_ruled.specs.Order.{known, MayReceive};
 
     ghost Value = { Receiver };
 
-    ghost view = { λ p. record { link = record { web = p.pass.web; heap = p.pass.heap }; popped = known p.pass.me.view.client.popped } };
+    ghost view = { λ p. record { link = p.pass.table_id; popped = known p.pass.me.0.client.popped } };
 
-    ghost invariant = { λ p. (p.pass.me.hand ≡ None) × (p.pass.me.spare ≡ None)
-        × (p.pass.me.view.client ≡ view_of None (Some (known p.pass.me.view.client.popped))) };
+    ghost invariant = { λ p. (p.pass.me.1 ≡ []) × MayReceive p.pass.me.0.client };
 }
 
 impl SendPass {
@@ -105,34 +105,44 @@ impl Link {
         ensures sender { IfOk result (λ ends. ends.sender ≡ sender_at_start ends.link) }
         ensures receiver { IfOk result (λ ends. ends.receiver ≡ receiver_at_start ends.link) }
     {
-        let (queue, mut sender) = Queue::with_rule(alloc)?;
+        let (queue, mut sender) = Queue::ruled(alloc, PLACES)?;
         let receiver = queue.another::<Halves>(&mut sender);
         Ok(Ends {
-            link: Link { queue, alloc },
+            link: Link { queue },
             sender: SendPass {
                 pass: sender,
+                late: VecDeque::new(alloc),
                 count: 0,
             },
             receiver: RecvPass { pass: receiver },
         })
     }
 
-    /// Pushes a message. An error means want of memory alone, and then nothing was pushed.
+    /// Pushes a message. An error means want of memory alone, and then nothing was pushed. A message that
+    /// finds no place, or others before it that wait, waits at this end for a `flush`.
     pub fn send<R: Wait>(&self, rt: &R, pass: &mut SendPass, msg: Msg) -> Result<(), SendErr>
         requires link { pass.old.link ≡ self.now }
         requires short { length pass.old.pushed < 4294967295 }
         ensures { MatchResult result (λ _. pass.new ≡ record pass.old { pushed = pass.old.pushed ++ msg ∷ [] }) (λ err. (err.msg ≡ msg) × (pass.new ≡ pass.old)) }
     {
-        let Ok(boxed) = Box::new(self.alloc, msg) else {
-            return Err(SendErr { msg });
-        };
-        match self.queue.push_as::<Added, R>(rt, &mut pass.pass, boxed) {
-            Ok(()) => {
-                pass.count += 1;
-                Ok(())
-            }
-            Err(boxed) => Err(SendErr { msg: *boxed }),
+        if pass.late.is_empty() && put(rt, &self.queue, &mut pass.pass, msg) {
+            pass.count += 1;
+            return Ok(());
         }
+        if pass.late.push_back(msg).is_err() {
+            return Err(SendErr { msg });
+        }
+        pass.count += 1;
+        Ok(())
+    }
+
+    /// What waits at the sender's end goes onto the queue, as far as it has places. Answers whether nothing
+    /// waits any longer. The clause says only that the list of what was pushed stays as it is.
+    pub fn flush<R: Wait>(&self, rt: &R, pass: &mut SendPass) -> bool
+        requires { pass.old.link ≡ self.now }
+        ensures { pass.new ≡ pass.old }
+    {
+        put_late(rt, &self.queue, &mut pass.pass, &mut pass.late)
     }
 
     /// Pops the message that was pushed first of those on the way, or none. No clause says when none
@@ -141,8 +151,7 @@ impl Link {
         requires { pass.old.link ≡ self.now }
         ensures { pass.new ≡ record pass.old { popped = pass.old.popped ++ option_to_list result } }
     {
-        let boxed = self.queue.pop_as::<Taken, R>(rt, &mut pass.pass)?;
-        Some(*boxed)
+        self.queue.pop_as::<Taken, R>(rt, &mut pass.pass)
     }
 
     /// Ends a link: the number of messages that were pushed and not popped.
@@ -151,16 +160,55 @@ impl Link {
         requires receiver { receiver.link ≡ self }
         ensures { (left : List Msg) × (length left ≡ result) × (sender.pushed ≡ receiver.popped ++ left) }
     {
-        let SendPass { mut pass, count: _ } = sender;
+        let SendPass {
+            mut pass,
+            late,
+            count: _,
+        } = sender;
         let RecvPass { pass: receiver } = receiver;
         self.queue.absorb::<Halves>(&mut pass, receiver);
-        let mut left = 0u32;
-        for _ in rt.forever() {
-            match self.queue.pop_as::<Emptied, R>(rt, &mut pass) {
-                Some(_) => left += 1,
-                None => return left,
-            }
-        }
-        unreachable!()
+        let held = self.queue.len_as::<Whole, R>(rt, &mut pass);
+        (held + late.len()) as u32
     }
+}
+
+// A message goes onto the queue, where there is a place for it. Answers whether there was one.
+fn put<R: Wait>(rt: &R, queue: &Queue, pass: &mut Pass<Msg, View>, msg: Msg) -> bool
+    requires queue { IsPassOf queue.now pass.old }
+    requires sends { MaySend (view pass.old) }
+    ensures queue { IsSamePass pass.old pass.new }
+    ensures sends { MaySend (view pass.new) }
+    ensures list { known (view pass.new).pushed ≡ (if result then known (view pass.old).pushed ++ msg ∷ [] else known (view pass.old).pushed) }
+{
+    queue.push_as::<Added, R>(rt, pass, msg).is_ok()
+}
+
+// What waits goes onto the queue, in order, as far as there are places for it. Answers whether nothing waits
+// any longer.
+fn put_late<R: Wait>(
+    rt: &R,
+    queue: &Queue,
+    pass: &mut Pass<Msg, View>,
+    late: &mut VecDeque<Msg>,
+) -> bool
+    requires queue { IsPassOf queue.now pass.old }
+    requires sends { MaySend (view pass.old) }
+    ensures queue { IsSamePass pass.old pass.new }
+    ensures sends { MaySend (view pass.new) }
+    ensures list { all_of (view pass.new) late.new.items ≡ all_of (view pass.old) late.old.items }
+{
+    while let Some(msg) = first_of(late) {
+        if !put(rt, queue, pass, msg) {
+            return false;
+        }
+        late.pop_front();
+    }
+    true
+}
+
+// The message that has waited longest.
+fn first_of(late: &VecDeque<Msg>) -> Option<Msg>
+    ensures { result ≡ front late.now.items }
+{
+    late.front().copied()
 }

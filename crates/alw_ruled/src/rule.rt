@@ -12,11 +12,11 @@ pub struct View {
 // The list popped, followed by what the queue holds, is the list pushed.
 pub struct FirstInFirstOut;
 
-impl Protocol<Box<Msg>, View> for FirstInFirstOut {
+impl Protocol<Msg, View> for FirstInFirstOut {
     ghost use Rattle.std.specs.Prelude.{Some, []};
-    ghost use Rattle.alw_ruled.specs.Order.{view_of, HoldsInOrder};
+    ghost use Rattle.alw_ruled.specs.Order.{view_of, InOrder};
 
-    ghost holds = { HoldsInOrder };
+    ghost holds = { InOrder };
 
     ghost first = { view_of (Some []) (Some []) };
 }
@@ -45,37 +45,37 @@ impl Join<View> for Halves {
 // A push.
 pub struct Added;
 
-impl Outcome<Box<Msg>, View> for Added {
+impl Outcome<Msg, View> for Added {
     ghost use Rattle.alw_ruled.specs.Order.{Adds};
 
     ghost then = { Adds };
 }
 
-// A pop, by a pass that may pop alone.
-pub struct Taken;
-
-impl Outcome<Box<Msg>, View> for Taken {
-    ghost use Rattle.alw_ruled.specs.Order.{Takes};
-
-    ghost then = { Takes };
-}
-
-impl Lesson<Box<Msg>, View> for Taken {
+impl Lesson<Msg, View> for Added {
     ghost use Rattle.std.specs.Prelude.{⊤};
 
     ghost fact = { λ v held. ⊤ };
 }
 
-// A pop, by the pass that may push too: it knows what the queue holds.
-pub struct Emptied;
+// A pop, by a pass that may pop alone.
+pub struct Taken;
 
-impl Outcome<Box<Msg>, View> for Emptied {
-    ghost use Rattle.alw_ruled.specs.Order.{TakesOfPushed};
+impl Outcome<Msg, View> for Taken {
+    ghost use Rattle.alw_ruled.specs.Order.{Takes};
 
-    ghost then = { TakesOfPushed };
+    ghost then = { Takes };
 }
 
-impl Lesson<Box<Msg>, View> for Emptied {
+impl Lesson<Msg, View> for Taken {
+    ghost use Rattle.std.specs.Prelude.{⊤};
+
+    ghost fact = { λ v held. ⊤ };
+}
+
+// What the pass that may push and pop knows of what the queue holds.
+pub struct Whole;
+
+impl Lesson<Msg, View> for Whole {
     ghost use Rattle.alw_ruled.specs.Order.{Left};
 
     ghost fact = { Left };
