@@ -5,7 +5,7 @@ use alw_msg::Msg;
 use alw_ruled::{Link, RecvPass, SendErr, SendPass};
 use std::sync::Wait;
 
-/// The sender's end of the link to a node, and the message that found no memory, which goes first.
+/// The sender's end of the link to a node, and the message that found no memory, which goes next.
 #[derive(Drop)]
 pub struct Out {
     pub end: SendPass,
@@ -21,21 +21,23 @@ pub struct In {
 }
 
 impl Out {
-    /// Sends what is kept, where anything is. Answers whether nothing is kept any longer.
+    /// Sends what waits at this end, and then what is kept, where anything is. Answers whether nothing is
+    /// kept any longer, and nothing waits, which no clause says.
     pub fn flush<R: Wait>(&mut self, rt: &R, link: &Link) -> bool
         requires { self.old.end.link ≡ link.now }
         ensures link { self.new.end.link ≡ self.old.end.link }
         ensures given { given self.new ≡ given self.old }
         ensures sent { result ≡ true → self.new.kept ≡ None }
     {
+        let is_sent = link.flush(rt, &mut self.end);
         match self.kept.take() {
             Some(msg) => self.send(rt, link, msg),
-            None => true,
+            None => is_sent,
         }
     }
 
-    /// Sends a message where nothing is kept: it goes onto the link, or is kept. Answers whether nothing
-    /// is kept.
+    /// Sends a message where nothing is kept: it goes onto the link, where it may wait at this end, or is
+    /// kept. Answers whether nothing is kept, and nothing waits, which no clause says.
     pub fn send<R: Wait>(&mut self, rt: &R, link: &Link, msg: Msg) -> bool
         requires link { self.old.end.link ≡ link.now }
         requires empty { self.old.kept ≡ None }
@@ -48,7 +50,7 @@ impl Out {
             return false;
         }
         match link.send(rt, &mut self.end, msg) {
-            Ok(()) => true,
+            Ok(()) => link.flush(rt, &mut self.end),
             Err(SendErr { msg }) => {
                 self.kept = Some(msg);
                 false

@@ -109,8 +109,8 @@ fn fetch_one<R: Wait>(
     Ok(true)
 }
 
-/// Gives the links what the cell has sent, in order, until memory is refused. Answers the node whose link
-/// then keeps a message.
+/// Gives the links what the cell has sent, in order, until something waits at an end. Answers the node whose
+/// link that is.
 pub fn offer<R: Wait>(
     rt: &R,
     links: &[Link],
@@ -140,8 +140,8 @@ pub fn offer<R: Wait>(
     None
 }
 
-// Gives the link to a node what its end keeps, and the first message of the out list. Answers whether the
-// end keeps nothing.
+// Gives the link to a node what waits at its end, and the first message of the out list. Answers whether
+// nothing waits there then.
 fn offer_at<R: Wait>(
     rt: &R,
     links: &[Link],
