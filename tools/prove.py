@@ -1,19 +1,21 @@
 #!/usr/bin/env python3
 """Proves the crates of the program side by side: tools/prove.py SCRATCH.
 
-A crate begins once those below it stand, first the one with the longest chain of others above it, by lines of code and by how many crates each reads.
-It takes the processors that no other waits for, at most four. Where no other chain is longer it gets four jobs, if memory holds them, beside which
-others have two processors. The toolchain lets one command at a time work in a checkout, so each works in a lane: a copy of the sources below SCRATCH.
-What it makes goes to the checkout, and to the other lanes by links. The program's own crate comes last, in the checkout: one call proves it and
-builds the program, so that the crates below it are read once. Standard error tells which crates stand. Ends with 1 where one isn't proved, or the
-program isn't built, and says what the toolchain said of it.
+A crate begins once those below it stand, first the one with the longest chain of others above it, by the seconds that tools/took.csv has of each. It
+gets a job for each processor that no other waits for, at most four, if memory holds them. The toolchain lets one command at a time work in a checkout,
+so each works in a lane: a copy of the sources below SCRATCH. What it makes goes to the checkout, and to the other lanes by links. The program's own
+crate comes last, in the checkout: one call proves it and builds the program, by one job, since each job more reads the crates below anew. Standard
+error tells which crates stand, and how long each took. Ends with 1 where one isn't proved, or the program isn't built, and says what the toolchain
+said of it.
 """
+import csv
 import os
 import re
 import shutil
 import signal
 import subprocess
 import sys
+import time
 from concurrent.futures import FIRST_COMPLETED, ThreadPoolExecutor, wait
 from contextlib import suppress
 from pathlib import Path
@@ -22,16 +24,15 @@ sys.dont_write_bytecode = True
 from alewife import ROOT
 
 PROGRAM = 'alw_cli'
+TOOK = 'tools/took.csv'
 # What the toolchain says before it runs what it has built.
 RUNNING = 'rt: running out/alw_cli'
 SOURCES = ('src', 'specs', 'proofs')
 CRATE = re.compile(r'^(\w+)[^:\n]*:(.*)$', re.M)
 FAULT = re.compile(r'^error|failed|not run', re.M)
 MOST_JOBS = 4
-# The processors that the crate with the longest chain takes from the others. It gets more jobs than that, since all that stand above it wait for it.
-CHAIN_PROCESSORS = 2
-# The lines of code that take as long to prove as the first read of a crate below.
-READ = 40
+# The seconds of a crate that wasn't measured yet.
+UNKNOWN = 60
 JOB_BYTES = 1_500_000_000
 
 
@@ -88,16 +89,13 @@ def crates_of_program(root):
 
 
 def chains(root, crates):
-    """The longest chain of crates from each one upward, where a crate counts its lines of code and READ more for each crate below it."""
-    below, length = {}, {}
-    for name, used in crates.items():
-        below[name] = set(used).union(*(below[other] for other in used))
-        lines = sum(file.read_bytes().count(b'\n') for file in (root / 'crates' / name / 'src').rglob('*.rt'))
-        length[name] = lines + READ * len(below[name])
+    """The longest chain of crates from each one upward, in seconds."""
+    with (root / TOOK).open(newline='') as file:
+        took = {row['crate']: int(row['seconds']) for row in csv.DictReader(file)}
     above = {name: [other for other, used in crates.items() if name in used] for name in crates}
     longest = {}
     for name in reversed(crates):
-        longest[name] = length[name] + max((longest[other] for other in above[name]), default=0)
+        longest[name] = took.get(name, UNKNOWN) + max((longest[other] for other in above[name]), default=0)
     return longest
 
 
@@ -116,9 +114,9 @@ class Proofs:
 
     def __init__(self, root, scratch):
         self.root, self.crates = root, crates_of_program(root)
-        self.processors, self.fit = jobs_that_fit()
-        self.most, self.chains = min(self.processors, self.fit), chains(root, self.crates)
-        self.left = sorted((name for name in self.crates if name != PROGRAM), key=lambda name: -self.chains[name])
+        processors, self.fit = jobs_that_fit()
+        self.most, longest = min(processors, self.fit), chains(root, self.crates)
+        self.left = sorted((name for name in self.crates if name != PROGRAM), key=lambda name: -longest[name])
         self.stand, self.running, self.checks = set(), {}, set()
         self.free = [self.lane(scratch / f'lane-{number}') for number in range(min(self.most, len(self.left)))]
         self.lanes = list(self.free)
@@ -146,46 +144,36 @@ class Proofs:
         """Proves a crate in a lane. What was kept of it serves again, and goes back to the checkout."""
         there, here = lane / 'crates' / name / 'out', self.root / 'crates' / name / 'out'
         give(here / 'incremental', there / 'incremental', copy_of_work)
+        begun = time.monotonic()
         status, said = self.call(there.parent, 'lib', '--jobs', str(jobs))
         for part in ('incremental', 'rlib'):
             move(there / part, here / part)
-        return status, said
-
-    def jobs_of(self, name, idle, waiting):
-        """How many jobs a crate gets, and how many processors it takes from the others, where so many are idle and so many crates wait, with itself.
-
-        The crate with the longest chain gets as many jobs as the memory holds beside those under way, idle processors or not.
-        """
-        under_way = [other for other, _, _, _ in self.running.values()]
-        if all(self.chains[name] >= self.chains[other] for other in [*self.left, *under_way]):
-            held = sum(jobs for _, _, jobs, _ in self.running.values())
-            return max(1, min(MOST_JOBS, self.processors, self.fit - held)), max(CHAIN_PROCESSORS, idle // waiting)
-        jobs = min(MOST_JOBS, max(1, idle // waiting))
-        return jobs, jobs
+        return status, said, round(time.monotonic() - begun)
 
     def begin(self, pool):
         """Begins what can begin."""
         ready = [name for name in self.left if self.stand.issuperset(self.crates[name])]
         for at, name in enumerate(ready):
-            idle = self.most - sum(taken for _, _, _, taken in self.running.values())
-            if idle <= 0:
+            idle = self.most - len(self.running)
+            if idle == 0:
                 return
-            jobs, taken = self.jobs_of(name, idle, len(ready) - at)
+            held = sum(jobs for _, _, jobs in self.running.values())
+            jobs = max(1, min(MOST_JOBS, idle // (len(ready) - at), self.fit - held))
             lane = self.free.pop()
             self.left.remove(name)
-            self.running[pool.submit(self.prove_in, lane, name, jobs)] = name, lane, jobs, taken
+            self.running[pool.submit(self.prove_in, lane, name, jobs)] = name, lane, jobs
 
     def end(self, done):
         """A crate stands: its library goes to all lanes. Answers whether it is proved."""
-        name, lane, _, _ = self.running.pop(done)
-        status, said = done.result()
+        name, lane, _ = self.running.pop(done)
+        status, said, seconds = done.result()
         if status != 0:
             return self.fail(name, said)
         for other in self.lanes:
             give(self.root / 'crates' / name / 'out' / 'rlib', other / 'crates' / name / 'out' / 'rlib')
         self.free.append(lane)
         self.stand.add(name)
-        say(f'{len(self.stand)} of {len(self.crates)} crates: {name}')
+        say(f'{len(self.stand)} of {len(self.crates)} crates: {name}, {seconds} s')
         return True
 
     def fail(self, name, said, lacks='proved'):
@@ -220,7 +208,7 @@ class Proofs:
     def build(self):
         """Proves and builds the program, by rt run, which runs it on nothing. Answers whether it stands."""
         say('building the program')
-        _, said = self.call(self.root / 'crates' / PROGRAM, 'run', '--jobs', str(self.most))
+        _, said = self.call(self.root / 'crates' / PROGRAM, 'run', '--jobs', '1')
         return RUNNING in said or self.fail(PROGRAM, said, 'proved and built')
 
 
