@@ -123,6 +123,7 @@ impl Memory {
     }
 
     /// The entry of a line of this home.
+    #[inline(always)]
     pub fn home(&self, line: LineNo) -> HomeView
         requires { line.0 / self.now.per_node ≡ self.now.number }
         ensures { IsViewOf result (home_at self.now line.0) }

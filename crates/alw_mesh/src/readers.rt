@@ -173,6 +173,7 @@ impl Machine {
     }
 
     /// A line's entry at its home.
+    #[inline(always)]
     pub fn home(&self, line: LineNo) -> HomeView
         requires { line.0 < line_count self.now.image }
         ensures { IsViewOf result (entry_of self.now.image (state_of self.now) line.0) }

@@ -282,6 +282,7 @@ impl Node {
     }
 
     /// The entry of a line of which this node is the home.
+    #[inline(always)]
     pub fn home(&self, line: LineNo) -> HomeView
         requires { home_node self.now.parts line.0 ≡ self.now.number }
         ensures { IsViewOf result (home_at self.now.parts self.now.state line.0) }

@@ -6,6 +6,7 @@ use alw_msg::Words;
 use alw_num::{LINE_BYTES, Line, LineNo, MOST_LINES, NoMemory, SHARED_BASE, Width, lane};
 
 /// The words of a line that aren't 0, each with its address.
+#[inline(always)]
 pub fn put_line(words: &mut Words, line: LineNo, body: &Line) -> Result<(), NoMemory>
     requires line { line.0 < MOST_LINES }
     requires room { length words.old < 2 ^ 32 - 4 }

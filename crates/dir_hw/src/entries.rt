@@ -54,6 +54,7 @@ impl HomeEntry {
     }
 
     /// The pointers, as a set.
+    #[inline(always)]
     pub fn pointers(&self) -> NodeSet
         ensures set { nodes_of result ≡ self.now.pointers }
         ensures within { (k : ℕ) → has_node self.now.pointers k ≡ true → k < MOST_NODES }

@@ -66,6 +66,7 @@ impl Pointers {
     }
 
     /// The set.
+    #[inline(always)]
     pub fn set(&self) -> NodeSet
         ensures set { nodes_of result ≡ self.now }
         ensures within { (k : ℕ) → has_node self.now k ≡ true → k < MOST_NODES }
