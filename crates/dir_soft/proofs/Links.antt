@@ -18,6 +18,12 @@ head-set (head ∷ rest) zero v (suc u) l = grind (arith, nat_tests)
 head-set (head ∷ rest) (suc t) v zero l = grind (arith, nat_tests)
 head-set (head ∷ rest) (suc t) v (suc u) l = grind (arith, nat_tests, head-set rest t v u)
 
+-- what a chain's head was is put back
+pub set-back : (heads : List ℕ) (t v : ℕ) → slice_set (slice_set heads t v) t (head_at heads t) ≡ heads
+set-back [] t v = refl
+set-back (head ∷ rest) zero v = refl
+set-back (head ∷ rest) (suc t) v = ap (λ (hs : List ℕ). head ∷ hs) (set-back rest t v)
+
 pub next-set : (places : List Place) (k : ℕ) (p : Place) (j : ℕ) → k < length places → next_at (slice_set places k p) j ≡ cond (j == k) p.next (next_at places j)
 next-set [] k p j l = absurd (omega arith)
 next-set (place ∷ rest) zero p zero l = refl
@@ -76,6 +82,14 @@ on_path places k (j ∷ js) i rest path = on_path places (next_at places j) js i
 
 abbrev pub put : {A : Type 0} → ℕ → A → (ℕ → A) → ℕ → A
 put k v f j = cond (j == k) v (f j)
+
+-- ... to what it is there
+pub put_same : (f : ℕ → ℕ) (k j v : ℕ) → f k ≡ v → cond (j == k) v (f j) ≡ f j
+put_same f k j v e = go (j == k) refl
+  where
+    go : (b : Bool) → (j == k) ≡ b → cond b v (f j) ≡ f j
+    go true d = sym e ∙ ap f (sym (eqb-true j k d))
+    go false d = refl
 
 -- ---- the chains
 

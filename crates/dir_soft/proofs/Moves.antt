@@ -1,5 +1,5 @@
--- A place that goes from one chain of a table to another: a line gets a place, or its place becomes free.
-use Rattle.std.proofs.Common.{◌≡◌, ℕ, ◌+◌, ◌-◌, ◌%◌, ◌<◌, ◌≤◌, Bool, true, false, cond, ◌==◌, Option, Some, None, List, [], ◌∷◌, ◌++◌, append_assoc, length, get_or, slice_get, slice_set, refl, sym, ap, ◌∙◌, subst, arith}
+-- A place that goes onto another chain of a table: a line gets a free place or a new one, or its place becomes free.
+use Rattle.std.proofs.Common.{◌≡◌, ◌≢◌, ℕ, ◌+◌, ◌-◌, ◌%◌, ◌<◌, ◌≤◌, Bool, true, false, cond, ◌==◌, Option, Some, None, List, [], ◌∷◌, ◌++◌, append_assoc, length, length-append, get_or, slice_get, slice_set, refl, sym, ap, ◌∙◌, subst, arith}
 use Rattle.std.proofs.lemmas.Bool.{eq-eqb, eqb-true}
 use Rattle.std.proofs.lemmas.List.{length-set}
 use Rattle.std.proofs.lemmas.Option.{slice_get-get_or}
@@ -8,16 +8,18 @@ use Rattle.alw_num.specs.declared.node_sets.NodeSet.{NodeSet}
 use Rattle.alw_num.specs.Maps.{Map, value_at, with_value, without_value}
 use Rattle.alw_num.specs.Weights.{digit, times}
 use Rattle.alw_num.proofs.Sets.{count-none}
-use Rattle.alw_num.proofs.Weigh.{digit_same, true_of_digit}
+use Rattle.alw_num.proofs.Weigh.{is_node, cases_lt_then, digit_same, true_of_digit}
 use Rattle.dir_soft.specs.declared.places.Place.{Place}
 use Rattle.dir_soft.specs.declared.places.Spot.{Spot}
+use Rattle.dir_soft.specs.declared.places.TheConstants.{END}
 use Rattle.dir_soft.specs.Tables.{set_or_none}
-use Rattle.dir_soft.specs.Chains.{next_at, head_at, unlinked, IsPath, PlacesAreLinked, IsSpot, IsPlaceBefore, IsBeforeWithin}
+use Rattle.dir_soft.specs.Chains.{next_at, head_at, unlinked, IsPath, PlacesAreLinked, IsSpot, IsLoose, IsPlaceBefore, IsBeforeWithin}
 use Rattle.dir_soft.specs.Pools.{Entry, entry_of, contents, is_free, map_of, first_of, PlacesAreSingle, IsTable, chain_of, chain_at}
 use Rattle.alw_num.proofs.MapLengths.{length-with_new, length-without}
-use Rattle.dir_soft.proofs.Links.{next-set, head-set, length-with_next, put, linked, unlinked_at, on_path}
+use Rattle.dir_soft.proofs.Links.{next-set, head-set, length-with_next, set-back, put, linked, unlinked_at, on_path}
+use Rattle.dir_soft.proofs.Rooms.{widens}
 use Rattle.dir_soft.proofs.Pools.{IsLines, relinked, some_free, bucket-lt}
-use Rattle.dir_soft.proofs.Walks.{IsFront, head-read}
+use Rattle.dir_soft.proofs.Walks.{front, nothing_left}
 use Rattle.dir_soft.proofs.Entries
 
 -- what unlinking leaves: as many heads and places, with the same contents
@@ -73,31 +75,19 @@ pub record IsFree (heads : List ℕ) (places : List Place) (buckets : ℕ) (link
   pub free : is_free entry ≡ true
   pub chain : buckets < length heads
 
-starts_chain : (places : List Place) (j k : ℕ) (chain : List ℕ) → 1 ≤ times j chain → IsPath places k chain → IsFront places k chain
-starts_chain places j k [] some path = absurd (omega arith)
-starts_chain places j k (i ∷ is) some path = let e : i ≡ k = sym path.0 in record {
-  later = is;
-  is = ap (λ (m : ℕ). m ∷ is) e;
-  within = omega (arith, path.1, e);
-  path = subst (λ (m : ℕ). IsPath places (next_at places m) is) e path.2;
-}
-
-pub free_is : (lines buckets used : ℕ) (heads : List ℕ) (places : List Place) (is : IsTable lines buckets used heads places) → used < lines → IsFree heads places buckets is.linked (head_at heads buckets)
-free_is lines buckets used heads places is room =
+pub free_is : (lines buckets used : ℕ) (heads : List ℕ) (places : List Place) (is : IsTable lines buckets used heads places) → head_at heads buckets ≢ END → IsFree heads places buckets is.linked (head_at heads buckets)
+free_is lines buckets used heads places is open_end =
     let here : buckets < length heads = omega (arith, is.heads_are) in
     let at = head_at heads buckets in
-    let f = Entries.some_free (contents places) is.pool.single (omega (arith, is.pool.counted, room, is.places_are, Entries.length-contents places)) in
-    let belongs : chain_at buckets (contents places) f.place ≡ buckets = Entries.chain-get buckets (contents places) f.place f.entry f.here ∙ ap (λ (b : Bool). cond b buckets (f.entry.line % buckets)) f.free in
-    let some : 1 ≤ times f.place (is.linked.chains buckets) = omega (arith, is.linked.each buckets f.place here, digit_same (chain_at buckets (contents places) f.place) buckets belongs) in
-    let front = starts_chain places f.place at (is.linked.chains buckets) some (is.linked.paths buckets here) in
+    let first = front places at (is.linked.chains buckets) open_end (is.linked.paths buckets here) in
     let nobody : Entry = record { line = 0; nodes = no_nodes } in
-    let got = slice_get-get_or (contents places) at nobody (omega (arith, front.within, Entries.length-contents places)) in
-    let count : times at (is.linked.chains buckets) ≡ digit (at == at) + times at front.later = ap (times at) front.is in
+    let got = slice_get-get_or (contents places) at nobody (omega (arith, first.within, Entries.length-contents places)) in
+    let count : times at (is.linked.chains buckets) ≡ digit (at == at) + times at first.later = ap (times at) first.is in
     let chain : chain_of buckets (get_or (contents places) at nobody) ≡ buckets = sym (Entries.chain-get buckets (contents places) at (get_or (contents places) at nobody) got)
     ∙ eqb-true (chain_at buckets (contents places) at) buckets (true_of_digit (chain_at buckets (contents places) at == buckets) (omega (arith, is.linked.each buckets at here, count, digit_same at at refl))) in
     record {
-      within = front.within;
-      on = record { seen = []; rest = front.later; whole = front.is; before = refl; within = front.within };
+      within = first.within;
+      on = record { seen = []; rest = first.later; whole = first.is; before = refl; within = first.within };
       entry = get_or (contents places) at nobody;
       here = got;
       free = go (get_or (contents places) at nobody) (is_free (get_or (contents places) at nobody)) refl chain;
@@ -108,19 +98,28 @@ free_is lines buckets used heads places is room =
     go e true f c = f
     go e false f c = absurd (omega (arith, c, bucket-lt e.line buckets is.some))
 
+-- where no place is free, each has a line's set
+pub all_used : (lines buckets used : ℕ) (heads : List ℕ) (places : List Place) (is : IsTable lines buckets used heads places) → head_at heads buckets ≡ END → length places ≤ used
+all_used lines buckets used heads places is none = cases_lt_then (length places) used (λ less.
+    let here : buckets < length heads = omega (arith, is.heads_are) in
+    let f = Entries.some_free (contents places) is.pool.single (omega (arith, is.pool.counted, less, Entries.length-contents places)) in
+    let belongs : chain_at buckets (contents places) f.place ≡ buckets = Entries.chain-get buckets (contents places) f.place f.entry f.here ∙ ap (λ (b : Bool). cond b buckets (f.entry.line % buckets)) f.free in
+    let empty = nothing_left places (is.linked.chains buckets) (omega (arith, is.fits, is.few)) (subst (λ (k : ℕ). IsPath places k (is.linked.chains buckets)) none (is.linked.paths buckets here)) in
+    absurd (omega (arith, ap (times f.place) empty, is.linked.each buckets f.place here, digit_same (chain_at buckets (contents places) f.place) buckets belongs))) (λ l. l)
+
 -- a table where the sets by line are these
 pub record IsMade (lines buckets used : ℕ) (heads : List ℕ) (places : List Place) (sets : Map Nodes) : Type 0 where
   pub table_is : IsTable lines buckets used heads places
   pub map_is : map_of (contents places) ≡ sets
 
 pub opens : (lines buckets used : ℕ) (heads : List ℕ) (places : List Place) (is : IsTable lines buckets used heads places) (line node : ℕ) (nodes : NodeSet) (empty : Nodes) (r : List ℕ × List Place)
-    → used < lines → first_of (contents places) line ≡ None → empty ≡ no_nodes → nodes_of nodes ≡ add_node empty node → r ≡ unlinked buckets heads places (head_at heads buckets) None
+    → head_at heads buckets ≢ END → first_of (contents places) line ≡ None → empty ≡ no_nodes → nodes_of nodes ≡ add_node empty node → r ≡ unlinked buckets heads places (head_at heads buckets) None
     → IsMade lines buckets (used + 1) (slice_set r.0 (line % buckets) (head_at heads buckets))
     (slice_set r.1 (head_at heads buckets) (record { line = line; nodes = nodes; next = head_at r.0 (line % buckets) }))
     (with_value (map_of (contents places)) line (add_node (set_or_none (value_at (map_of (contents places)) line)) node))
-opens lines buckets used heads places is line node nodes empty r room none nobody grown r_is =
+opens lines buckets used heads places is line node nodes empty r open_end none nobody grown r_is =
     let at = head_at heads buckets in
-    let f = free_is lines buckets used heads places is room in
+    let f = free_is lines buckets used heads places is open_end in
     let t = line % buckets in
     let bucket : t < length heads = omega (arith, is.heads_are, bucket-lt line buckets is.some) in
     let p : Place = record { line = line; nodes = nodes; next = head_at r.0 t } in
@@ -139,7 +138,7 @@ opens lines buckets used heads places is line node nodes empty r room none nobod
         };
         linked = moved buckets heads places buckets t (record { before = None; at = at }) p is.linked f.chain bucket f.within f.on r r_is refl (ap (λ (b : Bool). cond b buckets t) used_now);
         heads_are = length-set r.0 t at ∙ (u.heads_long ∙ is.heads_are);
-        places_are = length-set r.1 at p ∙ (u.long ∙ is.places_are);
+        fits = omega (arith, length-set r.1 at p, u.long, is.fits);
         few = is.few;
         some = is.some;
       };
@@ -168,7 +167,7 @@ leaves lines buckets used heads places is line spot seen empty r at nobody r_is 
         };
         linked = moved buckets heads places (line % buckets) buckets spot p is.linked at.bucket here at.within at.on r r_is refl (ap (λ (b : Bool). cond b buckets (0 % buckets)) gone);
         heads_are = length-set r.0 buckets spot.at ∙ (u.heads_long ∙ is.heads_are);
-        places_are = length-set r.1 spot.at p ∙ (u.long ∙ is.places_are);
+        fits = omega (arith, length-set r.1 spot.at p, u.long, is.fits);
         few = is.few;
         some = is.some;
       };
@@ -182,23 +181,37 @@ some_used lines buckets used heads places is line spot seen at =
 
 -- ---- as the functions of a table meet them
 
-pub opens_at : (lines buckets used : ℕ) (heads : List ℕ) (places : List Place) (is : IsTable lines buckets used heads places) (line node at : ℕ) (nodes : NodeSet) (empty : Nodes) (r : List ℕ × List Place)
-    → at ≡ get_or heads buckets at → used < lines → first_of (contents places) line ≡ None → empty ≡ no_nodes → nodes_of nodes ≡ add_node empty node → r ≡ unlinked buckets heads places at None
-    → IsMade lines buckets (used + 1) (slice_set r.0 (line % buckets) at) (slice_set r.1 at (record { line = line; nodes = nodes; next = head_at r.0 (line % buckets) }))
+-- a line gets a place that was given back, or one that was never used
+pub opens_at : (lines buckets used : ℕ) (heads : List ℕ) (places : List Place) (is : IsTable lines buckets used heads places) (line node at : ℕ) (nodes : NodeSet) (empty : Nodes) (heads' : List ℕ) (after : List Place)
+    → used < lines → first_of (contents places) line ≡ None → empty ≡ no_nodes → nodes_of nodes ≡ add_node empty node → IsLoose buckets heads places at heads' after
+    → IsMade lines buckets (used + 1) (slice_set heads' (line % buckets) at) (slice_set after at (record { line = line; nodes = nodes; next = head_at heads' (line % buckets) }))
     (with_value (map_of (contents places)) line (add_node (set_or_none (value_at (map_of (contents places)) line)) node))
-opens_at lines buckets used heads places is line node at nodes empty r e room none nobody grown r_is =
-    let here : at ≡ head_at heads buckets = e ∙ head-read heads buckets at (omega (arith, is.heads_are)) in
-    let r_here : r ≡ unlinked buckets heads places (head_at heads buckets) None = r_is ∙ ap (λ (k : ℕ). unlinked buckets heads places k None) here in
-    rw here (opens lines buckets used heads places is line node nodes empty r room none nobody grown r_here)
+opens_at lines buckets used heads places is line node at nodes empty heads' after room none nobody grown loose = is_node _ (head_at heads buckets) END
+    (λ ended.
+    let new = loose.new ended in
+    let less : length places < lines = omega (arith, all_used lines buckets used heads places is ended, room) in
+    let w = widens lines buckets used heads places after is ended less new.2 in
+    let long : List ℕ = slice_set heads buckets (length places) in
+    let at_is : at ≡ head_at long buckets = new.0 ∙ sym w.head_is in
+    let off : (heads', after) ≡ unlinked buckets long after (head_at long buckets) None = ap (λ (hs : List ℕ). let both : List ℕ × List Place = (hs, after) in both)
+    (new.1 ∙ (sym (set-back heads buckets (length places)) ∙ ap (slice_set long buckets) (sym (ap (next_at after) w.head_is ∙ w.next_is)))) in
+    rw (at_is, ← w.map_is) (opens lines buckets used long after w.table_is line node nodes empty (heads', after) (λ e. omega (arith, e, w.head_is, less, is.few)) (w.first_is line ∙ none) nobody grown off))
+    (λ open_end.
+    let first = loose.first open_end in
+    rw (first.0) (opens lines buckets used heads places is line node nodes empty (heads', after) open_end none nobody grown (first.1 ∙ ap (λ (k : ℕ). unlinked buckets heads places k None) first.0)))
 
--- the first free place is in the pool
-pub free_within : (lines buckets used : ℕ) (heads : List ℕ) (places : List Place) (is : IsTable lines buckets used heads places) (at : ℕ) → at ≡ get_or heads buckets at → used < lines → at < length places
-free_within lines buckets used heads places is at e room = rw (e ∙ head-read heads buckets at (omega (arith, is.heads_are))) ((free_is lines buckets used heads places is room).within)
-
--- a line without a set needs a place, and one is free
+-- a line without a set needs a place, and there is room for it
 pub has_room : (lines buckets used : ℕ) (heads : List ℕ) (places : List Place) (is : IsTable lines buckets used heads places) (line : ℕ) → first_of (contents places) line ≡ None
     → (value_at (map_of (contents places)) line ≡ None → length (map_of (contents places)).entries < lines) → used < lines
 has_room lines buckets used heads places is line none room = omega (arith, room (Entries.none_at (contents places) line none), is.pool.counted)
 
 pub long_unlinked : (t : ℕ) (heads : List ℕ) (places : List Place) (at : ℕ) (before : Option ℕ) (r : List ℕ × List Place) → r ≡ unlinked t heads places at before → (length r.0 ≡ length heads) × (length r.1 ≡ length places)
 long_unlinked t heads places at before r e = let u : IsUnlinked heads places r = subst (IsUnlinked heads places) (sym e) (unlinked_is t heads places at before) in (u.heads_long, u.long)
+
+-- a place that is on no chain is in the pool
+pub loose_within : (lines buckets used : ℕ) (heads : List ℕ) (places : List Place) (is : IsTable lines buckets used heads places) (at : ℕ) (heads' : List ℕ) (after : List Place) → IsLoose buckets heads places at heads' after → at < length after
+loose_within lines buckets used heads places is at heads' after loose = is_node _ (head_at heads buckets) END
+    (λ ended. let new = loose.new ended in omega (arith, new.0, ap length new.2.whole, length-append places (new.2.place ∷ [])))
+    (λ open_end.
+    let first = loose.first open_end in
+    omega (arith, (long_unlinked buckets heads places at None (heads', after) first.1).1, first.0, (free_is lines buckets used heads places is open_end).within))

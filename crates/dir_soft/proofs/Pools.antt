@@ -7,16 +7,16 @@ use Rattle.alw_num.specs.NodeSets.{Nodes, no_nodes, nodes_of, count_nodes, add_n
 use Rattle.alw_num.specs.declared.node_sets.NodeSet.{NodeSet}
 use Rattle.alw_num.specs.Maps.{Map, value_at, with_value}
 use Rattle.alw_num.specs.Weights.{digit, times}
-use Rattle.alw_num.proofs.Sets.{has-add, has-none, none_of_count, count-none}
+use Rattle.alw_num.proofs.Sets.{has-add, has-none, none_of_count}
 use Rattle.alw_num.proofs.Weigh.{sum_times, sum_le, sum_ones, digit_same, digit_other, digit_le, true_of_digit, weigh-append}
 use Rattle.dir_soft.specs.declared.places.Place.{Place}
 use Rattle.dir_soft.specs.declared.places.Spot.{Spot}
-use Rattle.dir_soft.specs.Tables.{Table, set_or_none, table_of, set_of_line, used_lines}
+use Rattle.dir_soft.specs.Tables.{set_or_none, table_of}
 use Rattle.dir_soft.specs.Chains.{next_at, line_at, head_at, IsPath, IsChain, PlacesAreLinked, LineIsMissing, IsSpot}
 use Rattle.dir_soft.specs.Pools.{Entry, entry_of, contents, is_free, map_of, first_of, PlacesAreSingle, IsTable, chain_of, chain_at}
-use Rattle.alw_num.proofs.MapLengths.{length-with_same}
+use Rattle.alw_num.proofs.MapLengths.{length-with_same, length-without}
 use Rattle.dir_soft.proofs.Walks.{head-read}
-use Rattle.dir_soft.proofs.Links.{next-set, kept}
+use Rattle.dir_soft.proofs.Links.{next-set, kept, put_same}
 use Rattle.dir_soft.proofs.Entries
 use Rattle.dir_soft.proofs.Walks
 
@@ -37,7 +37,7 @@ chain_is lines buckets used heads places t seen is l e =
       chain = is.linked.chains t;
       path = is.linked.paths t here;
       few = short (chain_at buckets (contents places)) heads places t is.linked here (λ k l. omega (arith, Entries.chain-beyond buckets (contents places) k (omega (arith, Entries.length-contents places, l)), is.heads_are));
-      ends = omega (arith, is.places_are, is.few);
+      ends = omega (arith, is.fits, is.few);
     })
 
 pub bucket-lt : (line buckets : ℕ) → 1 ≤ buckets → line % buckets < buckets
@@ -128,7 +128,7 @@ joins lines buckets used heads places is line node spot seen nodes at grown read
     let same : map_of (contents (slice_set places spot.at p)) ≡ with_value (map_of (contents places)) seen.line (nodes_of nodes) = ap map_of put_is ∙ Entries.map-changed (contents places) spot.at (entry_of seen) q is.pool.single at.here at.used_place still refl in
     let long : spot.at < length (contents places) = omega (arith, Entries.length-contents places, at.within) in
     let tags : (j : ℕ) → chain_at buckets (contents (slice_set places spot.at p)) j ≡ chain_at buckets (contents places) j = λ j. ap (λ (es : List Entry). chain_at buckets es j) put_is ∙ (Entries.chain-set buckets (contents places) spot.at q j long
-    ∙ at_same (chain_at buckets (contents places)) spot.at j (chain_of buckets q) (Entries.chain-get buckets (contents places) spot.at (entry_of seen) at.here ∙ ap (λ (b : Bool). cond b buckets (seen.line % buckets)) (at.used_place ∙ sym still))) in
+    ∙ put_same (chain_at buckets (contents places)) spot.at j (chain_of buckets q) (Entries.chain-get buckets (contents places) spot.at (entry_of seen) at.here ∙ ap (λ (b : Bool). cond b buckets (seen.line % buckets)) (at.used_place ∙ sym still))) in
     record {
       table_is = record {
         pool = record {
@@ -136,21 +136,14 @@ joins lines buckets used heads places is line node spot seen nodes at grown read
           counted = ap (λ (m : Map Nodes). length m.entries) same ∙ (length-with_same (map_of (contents places)) seen.line (nodes_of nodes) (nodes_of seen.nodes) before ∙ is.pool.counted);
         };
         linked = relinked (chain_at buckets (contents places)) (chain_at buckets (contents (slice_set places spot.at p))) heads places (slice_set places spot.at p) is.linked (length-set places spot.at p)
-            (λ j. next-set places spot.at p j at.within ∙ at_same (next_at places) spot.at j seen.next (sym (Walks.next-seen places spot.at seen at.within read))) tags;
+            (λ j. next-set places spot.at p j at.within ∙ put_same (next_at places) spot.at j seen.next (sym (Walks.next-seen places spot.at seen at.within read))) tags;
         heads_are = is.heads_are;
-        places_are = length-set places spot.at p ∙ is.places_are;
+        fits = omega (arith, length-set places spot.at p, is.fits);
         few = is.few;
         some = is.some;
       };
       map_is = rw (← at.same) (same ∙ ap (with_value (map_of (contents places)) seen.line) value);
     }
-  where
-    at_same : (f : ℕ → ℕ) (k j v : ℕ) → f k ≡ v → cond (j == k) v (f j) ≡ f j
-    at_same f k j v e = go (j == k) refl
-      where
-        go : (b : Bool) → (j == k) ≡ b → cond b v (f j) ≡ f j
-        go true d = sym e ∙ ap f (sym (eqb-true j k d))
-        go false d = refl
 
 -- ---- what the readers answer
 
@@ -171,6 +164,14 @@ pub set_seen : (lines buckets used : ℕ) (heads : List ℕ) (places : List Plac
     → nodes_of seen.nodes ≡ set_or_none (value_at (map_of (contents places)) line)
 set_seen lines buckets used heads places is line spot seen at = ap set_or_none (value_seen lines buckets used heads places is line spot seen at)
 
+-- in a table without a set, each line's is empty
+pub none_used : (lines buckets used : ℕ) (heads : List ℕ) (places : List Place) (is : IsTable lines buckets used heads places) (line : ℕ) (empty : Nodes) → used ≡ 0 → empty ≡ no_nodes → empty ≡ set_or_none (value_at (map_of (contents places)) line)
+none_used lines buckets used heads places is line empty none nobody = go (value_at (map_of (contents places)) line) refl
+  where
+    go : (o : Option Nodes) → value_at (map_of (contents places)) line ≡ o → empty ≡ set_or_none o
+    go None e = nobody
+    go (Some old) e = absurd (omega (arith, length-without (map_of (contents places)) line old e, is.pool.counted, none))
+
 pub set_missing : (places : List Place) (line : ℕ) (empty : Nodes) → first_of (contents places) line ≡ None → empty ≡ no_nodes → empty ≡ set_or_none (value_at (map_of (contents places)) line)
 set_missing places line empty none nobody = nobody ∙ ap set_or_none (value_missing places line none)
 
@@ -180,10 +181,4 @@ same_table lines buckets one other e = ap (table_of lines buckets) e
 
 -- no more lines have a set than there are places
 pub used_fits : (lines buckets used : ℕ) (heads : List ℕ) (places : List Place) → IsTable lines buckets used heads places → used ≤ lines
-used_fits lines buckets used heads places is = omega (arith, is.pool.counted, Entries.used_le (contents places) is.pool.single, Entries.length-contents places, is.places_are)
-
--- a line with a set of some size has a set
-pub room_of_size : (t : Table) (line size : ℕ) → size ≡ count_nodes (set_of_line t line) → 0 < size → value_at t.sets line ≡ None → used_lines t < t.lines
-room_of_size t line size is some none =
-    let empty : count_nodes (set_of_line t line) ≡ 0 = ap (λ (o : Option Nodes). count_nodes (set_or_none o)) none ∙ count-none in
-    absurd (omega arith)
+used_fits lines buckets used heads places is = omega (arith, is.pool.counted, Entries.used_le (contents places) is.pool.single, Entries.length-contents places, is.fits)

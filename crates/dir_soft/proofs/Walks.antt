@@ -130,7 +130,7 @@ ends_at places line before at chain w open_end =
     record { seen = w.seen; rest = f.later; whole = w.whole ∙ ap (λ (r : List ℕ). w.seen ++ r) f.is; before = w.behind; within = f.within }
 
 -- the chain has ended
-nothing_left : (places : List Place) (rest : List ℕ) → length places ≤ END → IsPath places END rest → rest ≡ []
+pub nothing_left : (places : List Place) (rest : List ℕ) → length places ≤ END → IsPath places END rest → rest ≡ []
 nothing_left places [] ends path = refl
 nothing_left places (j ∷ js) ends path = absurd (omega (arith, path.0, path.1))
 

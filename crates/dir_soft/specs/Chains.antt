@@ -1,5 +1,6 @@
 -- Chains through a pool: each place names the next one of its chain by its index.
-use Rattle.std.specs.Prelude.{◌≡◌, ◌<◌, ◌≤◌, ℕ, zero, suc, false, ◌==◌, Option, Some, None, List, [], ◌∷◌, ◌++◌, length, slice_set}
+use Rattle.std.specs.Prelude.{◌≡◌, ◌≢◌, ◌<◌, ◌≤◌, ℕ, zero, suc, false, ◌==◌, Option, Some, None, List, [], ◌∷◌, ◌++◌, length, slice_set}
+use Rattle.alw_num.specs.NodeSets.{no_nodes, nodes_of}
 use Rattle.alw_num.specs.Weights.{digit, times}
 use Rattle.dir_soft.specs.declared.places.Place.{Place}
 use Rattle.dir_soft.specs.declared.places.Spot.{Spot}
@@ -76,3 +77,15 @@ with_next (place ∷ rest) (suc k) next = place ∷ with_next rest k next
 abbrev pub unlinked : ℕ → List ℕ → List Place → ℕ → Option ℕ → List ℕ × List Place
 unlinked chain heads places at None = (slice_set heads chain (next_at places at), places)
 unlinked chain heads places at (Some before) = (heads, with_next places before (next_at places at))
+
+-- a pool with a place more at its end, which has no set and names no next one
+pub record IsLonger (places after : List Place) : Type 0 where
+  pub place : Place
+  pub empty : nodes_of place.nodes ≡ no_nodes
+  pub ends : place.next ≡ no_index
+  pub whole : after ≡ places ++ place ∷ []
+
+-- Place `at` is on no chain: it is the first one of a chain, which is taken off, or, where that chain is empty, a place more at the pool's end.
+pub record IsLoose (chain : ℕ) (heads : List ℕ) (places : List Place) (at : ℕ) (heads_after : List ℕ) (after : List Place) : Type 0 where
+  pub first : head_at heads chain ≢ no_index → (at ≡ head_at heads chain) × ((heads_after, after) ≡ unlinked chain heads places at None)
+  pub new : head_at heads chain ≡ no_index → (at ≡ length places) × (heads_after ≡ heads) × IsLonger places after

@@ -51,12 +51,12 @@ pub record IsPool (entries : List Entry) (used : ℕ) : Type 0 where
   pub single : PlacesAreSingle entries
   pub counted : length (map_of entries).entries ≡ used
 
--- A pool with its chains: each place in use is on the chain of its line, the line modulo the number of buckets, each free place on the last
--- chain, and each on its chain once.
+-- A pool with its chains, of no more places than lines: each place in use is on the chain of its line, the line modulo the number of
+-- buckets, each free place on the last chain, and each on its chain once.
 pub record IsTable (lines buckets used : ℕ) (heads : List ℕ) (places : List Place) : Type 0 where
   pub pool : IsPool (contents places) used
   pub linked : PlacesAreLinked (chain_at buckets (contents places)) heads places
   pub heads_are : length heads ≡ buckets + 1
-  pub places_are : length places ≡ lines
+  pub fits : length places ≤ lines
   pub few : lines ≤ no_index
   pub some : 1 ≤ buckets

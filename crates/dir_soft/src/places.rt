@@ -1,5 +1,5 @@
-ghost use Rattle.std.specs.Prelude.{◌≡◌, ◌<◌, ℕ, List, IfSome, IfNone, length, slice_set};
-ghost use Rattle.dir_soft.specs.Chains.{head_at, line_at, next_at, unlinked, IsPath, IsChain, IsSpot, LineIsMissing, IsBeforeWithin};
+ghost use Rattle.std.specs.Prelude.{◌≡◌, ◌≢◌, ◌<◌, ◌≤◌, ℕ, List, IfSome, IfNone, length, slice_set, vec_capacity};
+ghost use Rattle.dir_soft.specs.Chains.{no_index, head_at, line_at, next_at, unlinked, IsPath, IsChain, IsSpot, IsLoose, LineIsMissing, IsBeforeWithin};
 
 use alw_num::NodeSet;
 
@@ -48,7 +48,8 @@ pub fn unlink(heads: &mut Vec<u32>, places: &mut Vec<Place>, chain: usize, spot:
     requires chain { chain < length heads.old.items }
     requires at { spot.at < length places.old.items }
     requires before { IsBeforeWithin spot.before (length places.old.items) }
-    ensures { (heads.new.items, places.new.items) ≡ unlinked chain heads.old.items places.old.items spot.at spot.before }
+    ensures chains { (heads.new.items, places.new.items) ≡ unlinked chain heads.old.items places.old.items spot.at spot.before }
+    ensures memory { vec_capacity places.new ≡ vec_capacity places.old }
 {
     let next = places[spot.at as usize].next;
     match spot.before {
@@ -70,6 +71,7 @@ pub fn link(
     requires at { at < length places.old.items }
     ensures heads { heads.new.items ≡ slice_set heads.old.items chain at }
     ensures places { places.new.items ≡ slice_set places.old.items at (record { line = line; nodes = nodes; next = head_at heads.old.items chain }) }
+    ensures memory { vec_capacity places.new ≡ vec_capacity places.old }
 {
     places[at as usize] = Place {
         line,
@@ -77,4 +79,32 @@ pub fn link(
         nodes,
     };
     heads[chain] = at;
+}
+
+/// A place that is on no chain: the first of the free ones, which is taken off their chain, or, where
+/// none is free, one more at the pool's end.
+pub fn free_place(heads: &mut Vec<u32>, places: &mut Vec<Place>, free: usize) -> u32
+    requires chain { free < length heads.old.items }
+    requires first { head_at heads.old.items free ≢ no_index → head_at heads.old.items free < length places.old.items }
+    requires room { head_at heads.old.items free ≡ no_index → length places.old.items < vec_capacity places.old }
+    requires few { length places.old.items ≤ no_index }
+    ensures place { IsLoose free heads.old.items places.old.items result heads.new.items places.new.items }
+    ensures memory { vec_capacity places.new ≡ vec_capacity places.old }
+{
+    let first = heads[free];
+    if first != END {
+        let spot = Spot {
+            before: None,
+            at: first,
+        };
+        unlink(heads, places, free, spot);
+        return first;
+    }
+    let at = places.len() as u32;
+    places.push_reserved(Place {
+        line: 0,
+        next: END,
+        nodes: NodeSet::empty(),
+    });
+    at
 }

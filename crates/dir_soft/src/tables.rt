@@ -3,7 +3,7 @@ ghost use Rattle.alw_num.specs.NodeSets.{nodes_of, has_node, add_node, count_nod
 ghost use Rattle.alw_num.specs.Maps.{empty_map, value_at, with_value, without_value};
 ghost use Rattle.dir_soft.specs.Tables.{set_of_line, used_lines};
 
-use crate::places::{END, Place, Spot, find, link, unlink};
+use crate::places::{END, Place, find, free_place, link, unlink};
 use alw_num::{LineNo, MOST_NODES, NoMemory, NodeNo, NodeSet};
 use std::alloc::Global;
 use std::marker::Model;
@@ -12,8 +12,9 @@ use std::marker::Model;
 /// nodes, with room for a fixed number of lines.
 ///
 /// The sets stand in one pool of places, linked by index. A line's place is on the chain of its
-/// bucket, the line modulo the number of buckets; the free places are on a chain of their own, whose
-/// head stands behind the buckets'.
+/// bucket, the line modulo the number of buckets. The free places, which were given back, are on a
+/// chain of their own, whose head stands behind the buckets'. Places that were never used are beyond
+/// the pool's end: a line gets the first of them where no place is free.
 #[derive(Drop)]
 pub struct SoftDir {
     lines: u32,
@@ -24,6 +25,7 @@ pub struct SoftDir {
 }
 
 impl Model for SoftDir {
+    ghost use Rattle.std.specs.Prelude.{◌≤◌, vec_capacity};
     ghost use Rattle.dir_soft.specs.Tables.{Table};
     ghost use Rattle.dir_soft.specs.Pools.{contents, map_of, IsTable};
 
@@ -31,7 +33,7 @@ impl Model for SoftDir {
 
     ghost view = { λ d. record { lines = d.lines; buckets = d.buckets; sets = map_of (contents d.places.items) } };
 
-    ghost invariant = { λ d. IsTable d.lines d.buckets d.used d.heads.items d.places.items };
+    ghost invariant = { λ d. IsTable d.lines d.buckets d.used d.heads.items d.places.items × (d.lines ≤ vec_capacity d.places) };
 }
 
 impl SoftDir {
@@ -42,19 +44,8 @@ impl SoftDir {
         requires buckets { 1 ≤ buckets }
         ensures { IfOk result (λ d. d ≡ record { lines = lines; buckets = buckets; sets = empty_map }) }
     {
-        let mut places = Vec::with_capacity(alloc, lines as usize)?;
-        let nodes = NodeSet::empty();
-        let mut first = END;
-        for k in 0..lines {
-            places.push_reserved(Place {
-                line: 0,
-                next: first,
-                nodes,
-            });
-            first = k;
-        }
-        let mut heads = vec![in alloc; END; buckets as usize + 1]?;
-        heads[buckets as usize] = first;
+        let places = Vec::with_capacity(alloc, lines as usize)?;
+        let heads = vec![in alloc; END; buckets as usize + 1]?;
         Ok(SoftDir {
             lines,
             buckets,
@@ -81,9 +72,7 @@ impl SoftDir {
             }
             None => {
                 let free = self.buckets as usize;
-                let at = self.heads[free];
-                let spot = Spot { before: None, at };
-                unlink(&mut self.heads, &mut self.places, free, spot);
+                let at = free_place(&mut self.heads, &mut self.places, free);
                 let nodes = NodeSet::empty().with(node);
                 link(&mut self.heads, &mut self.places, bucket, at, line.0, nodes);
                 self.used += 1;
@@ -104,9 +93,13 @@ impl SoftDir {
     }
 
     /// The set of a line: empty where it has none.
+    #[inline(always)]
     pub fn set(&self, line: LineNo) -> NodeSet
         ensures { nodes_of result ≡ set_of_line self.now line.0 }
     {
+        if self.used == 0 {
+            return NodeSet::empty();
+        }
         match self.lookup(line) {
             Some(nodes) => nodes,
             None => NodeSet::empty(),
