@@ -48,7 +48,7 @@ impl Machine {
         let _allowed = params.limit(); // for its clause
         let mesh = Mesh::joined(alloc, image, params, nodes, &links)?;
         let trap = trap_of(alloc, image, params, &journal, &mesh)?;
-        let tally = Tally::of(alloc, turns.members(), prints.members(), counts, trap)?;
+        let tally = Tally::of(turns, prints, counts, trap);
         Machine::of(alloc, mesh, journal, tally)
     }
 

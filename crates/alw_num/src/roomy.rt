@@ -36,6 +36,16 @@ impl<T> Roomy<T> {
         }
     }
 
+    /// A list of its own, without room for more. It takes no memory.
+    pub fn of(list: Sequence<T>) -> Self
+        ensures { result ≡ record { list = list; room = 0 } }
+    {
+        Roomy {
+            items: list.into_items(),
+            room: 0,
+        }
+    }
+
     /// The number of members.
     pub fn len(&self) -> u32
         ensures { result ≡ length self.now.list }

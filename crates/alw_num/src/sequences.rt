@@ -41,6 +41,14 @@ impl<T> Sequence<T> {
         Sequence { items }
     }
 
+    // The members of this list.
+    pub(crate) fn into_items(self) -> Vec<T>
+        ensures items { result.items ≡ self }
+        ensures few { length result.items < 2 ^ 32 }
+    {
+        self.items
+    }
+
     /// The list of these members, in memory of its own.
     pub fn from_slice(alloc: Global, members: &[T]) -> Result<Self, NoMemory>
     where

@@ -1,4 +1,4 @@
-ghost use Rattle.std.specs.Prelude.{◌≡◌, ◌+◌, ◌<◌, ◌≤◌, ◌^◌, ◌++◌, [], length, option_to_list, IfOk, OnOk};
+ghost use Rattle.std.specs.Prelude.{◌≡◌, ◌+◌, ◌<◌, ◌≤◌, ◌^◌, ◌++◌, [], length, option_to_list, OnOk};
 ghost use Rattle.alw_image.specs.declared.parts.Parts.{Parts};
 ghost use Rattle.alw_model.specs.Runs.{Moment};
 ghost use Rattle.alw_tally.specs.Told.{contexts_of, words_printed, told_of, told_with};
@@ -60,24 +60,18 @@ impl Tally {
         }
     }
 
-    /// The tally that tells this, with turns and prints in memory of its own, and without room.
-    pub fn of(
-        alloc: Global,
-        turns: &[u32],
-        prints: &[(u32, u32)],
-        counts: Counts,
-        trap: Option<TrapAt>,
-    ) -> Result<Tally, NoMemory>
-        requires { EventIsWithin (record { turns = turns.now; prints = prints.now; counts = counts; trap = trap }) }
-        ensures { IfOk result (λ tally. tally.told ≡ record { turns = turns.now; prints = prints.now; counts = counts; trap = trap }) }
+    /// The tally that tells this, without room. It takes no memory.
+    pub fn of(turns: Turns, prints: Prints, counts: Counts, trap: Option<TrapAt>) -> Tally
+        requires { EventIsWithin (record { turns = turns; prints = prints; counts = counts; trap = trap }) }
+        ensures { result.told ≡ record { turns = turns; prints = prints; counts = counts; trap = trap } }
     {
-        Ok(Tally {
+        Tally {
             room: 0,
-            turns: roomy_of(alloc, turns)?,
-            prints: roomy_of(alloc, prints)?,
+            turns: Roomy::of(turns),
+            prints: Roomy::of(prints),
             counts,
             trap,
-        })
+        }
     }
 
     /// Makes room for one event more.
@@ -198,17 +192,4 @@ fn add_turn(turns: &mut Roomy<u32>, prints: &mut Roomy<(u32, u32)>, turn: Option
             prints.push((context, word));
         }
     }
-}
-
-// These members, without room for more.
-fn roomy_of<T: Copy + Drop>(alloc: Global, members: &[T]) -> Result<Roomy<T>, NoMemory>
-    requires { length members.now < 2 ^ 32 }
-    ensures { IfOk result (λ list. list.list ≡ members.now) }
-{
-    let mut list = Roomy::empty(alloc);
-    list.reserve(members.len() as u32)?;
-    for member in members {
-        list.push(*member);
-    }
-    Ok(list)
 }

@@ -13,19 +13,19 @@ joined-requires-clause-aimed c = joined_aimed c.args.image.now c.args.params.now
 pub trap_of-requires-clause-machine : goal.trap_of-requires-clause-machine
 trap_of-requires-clause-machine c = c.in_ok-mesh.ensures.machine_is ∙ c.requires.state
 
+pub of-tally-requires : goal.of-tally-requires
+of-tally-requires c =
+    let run = run_joined c.args.image.now c.args.params.now c.args.journal c.nodes-exists.ensures.allowed c.limit-allowed.ensures.allowed c.requires.fits c.requires.legal in
+    within_joined c.args.image.now c.args.params.now c.args.journal run c.args.turns c.args.prints c.args.counts c.in_ok-trap.trap c.requires.turns c.requires.prints
+    c.requires.counts c.in_ok-trap.ensures
+
 pub of-requires : goal.of-requires
 of-requires c =
     let run = run_joined c.args.image.now c.args.params.now c.args.journal c.nodes-exists.ensures.allowed c.limit-allowed.ensures.allowed c.requires.fits c.requires.legal in
-    within_joined c.args.image.now c.args.params.now c.args.journal run c.members.result.now c.members-2.result.now c.args.counts c.in_ok-trap.trap (c.members.ensures ∙ c.requires.turns) (c.members-2.ensures ∙ c.requires.prints)
-    c.requires.counts c.in_ok-trap.ensures
-
-pub of-requires-2 : goal.of-requires-2
-of-requires-2 c =
-    let run = run_joined c.args.image.now c.args.params.now c.args.journal c.nodes-exists.ensures.allowed c.limit-allowed.ensures.allowed c.requires.fits c.requires.legal in
-    let told = told_joined c.args.image.now c.args.params.now c.args.journal run c.members.result.now c.members-2.result.now c.args.counts c.in_ok-trap.trap (c.members.ensures ∙ c.requires.turns) (c.members-2.ensures ∙ c.requires.prints)
+    let told = told_joined c.args.image.now c.args.params.now c.args.journal run c.args.turns c.args.prints c.args.counts c.in_ok-trap.trap c.requires.turns c.requires.prints
     c.requires.counts c.in_ok-trap.ensures in
-    parts_joined c.args.image.now c.args.params.now c.args.journal (machine_of c.args.nodes c.args.links) c.in_ok-mesh.ensures run c.requires.state (c.in_ok-tally.ensures ∙ told)
+    parts_joined c.args.image.now c.args.params.now c.args.journal (machine_of c.args.nodes c.args.links) c.in_ok-mesh.ensures run c.requires.state (c.of-tally.ensures ∙ told)
 
 pub returns : goal.returns
 returns c =
-    IfOk-weaker c.of-2.result _ _ (λ (machine : History) is. is ∙ (λ i. joined_of (c.in_ok-mesh.ensures.image_is i) (c.in_ok-mesh.ensures.parameters_are i) c.args.journal)) c.of-2.ensures
+    IfOk-weaker c.of.result _ _ (λ (machine : History) is. is ∙ (λ i. joined_of (c.in_ok-mesh.ensures.image_is i) (c.in_ok-mesh.ensures.parameters_are i) c.args.journal)) c.of.ensures
