@@ -9,7 +9,7 @@ use Rattle.alw_msg.specs.Sending.{Sending}
 use Rattle.alw_image.specs.declared.parts.Parts.{Parts}
 use Rattle.alw_image.specs.Images.{IsImage, node_count}
 use Rattle.alw_image.specs.Parameters.{Parameters, AreParameters}
-use Rattle.alw_model.specs.Machine.{MachineState, machine_start, state, has_halted, stamp_at, is_enabled, is_within_limit, step, stepped_by, main_events, IsNext, IsLegal}
+use Rattle.alw_model.specs.Machine.{MachineState, machine_start, state, has_halted, stamp_at, is_enabled, is_within_limit, step, stepped_by, main_events, end_of, IsNext, IsLegal}
 use Rattle.alw_model.specs.Runs.{Moment, moment_of, moments_from, moments}
 use Rattle.alw_model.proofs.Journals.{and_parts, state_push, legal_push, moments_push}
 use Rattle.law_lines.specs.Links.{GoBelow}
@@ -35,10 +35,10 @@ use Rattle.alw_mesh.specs.declared.stepping.Happening.{Happening}
 use Rattle.alw_mesh.specs.Grids.{Grid, grid_start, Happens}
 use Rattle.alw_mesh.specs.Histories.{History, state_of, entry_of, grown, stamps_of, may_be_next, IsRun, sent_last, last_sends}
 use Rattle.alw_mesh.specs.Keeping.{IsMachine}
-use Rattle.alw_mesh.specs.Ends.{next_events}
+use Rattle.alw_mesh.specs.Ends.{next_events, EndStays, HasPassed}
 use Rattle.alw_mesh.proofs.OneNode.{few_nodes}
 use Rattle.alw_mesh.proofs.Remaining.{remains_few}
-use Rattle.alw_mesh.proofs.Quiet.{quiet_rows}
+use Rattle.alw_mesh.proofs.Quiet.{quiet_rows, quiet_end}
 
 -- no machine's journal comes near 2^32 entries
 pub journal_fits : (h : History) → IsRun h → length h.journal < 4294967295
@@ -156,14 +156,25 @@ module _ {grid : Grid} {journal : List Entry} {joined : ℕ} {sent : Sending} {t
           let journal_is = pushed ∙ (λ i. journal ++ record { stamp = stamp_is i; event = event } ∷ []) in
           λ i. record { image = happens.image i; parameters = happens.parameters i; journal = journal_is i; joined = joined }
 
-      -- what a step answers
-      pub step_answers : {journal' : List Entry} (stamp : ℕ) → stamp ≡ stamp_at grid.image grid.machine event → journal' ≡ journal ++ record { stamp = stamp; event = event } ∷ []
-          → ◌≡◌ {A = History} (record { image = after.image; parameters = after.parameters; journal = journal'; joined = joined }) (grown here event)
+      run_grows : IsRun (grown here event)
+      run_grows = record {
+        image = is.run.image;
+        parameters = is.run.parameters;
+        fits = is.run.fits;
+        legal = legal_push grid.image grid.parameters journal (entry_of here event) is.run.legal next_is;
+        joined = omega (arith, is.run.joined, length-append journal (entry_of here event ∷ []));
+      }
+
+      -- what passing it answers
+      pub pass_answers : {journal' : List Entry} (stamp : ℕ) → stamp ≡ stamp_at grid.image grid.machine event → journal' ≡ journal ++ record { stamp = stamp; event = event } ∷ []
+          → (quiet : Bool) → (quiet ≡ true → EndStays here (grown here event))
+          → HasPassed here event (record { image = after.image; parameters = after.parameters; journal = journal'; joined = joined }) quiet
           × (happening.told.did ≡ (stepped_by grid.image grid.parameters (state_of here) event).did)
-      step_answers stamp stamp_at_is pushed = (
-        grown_is stamp stamp_at_is pushed,
-        (happens.told stamp).did ∙ ap (λ m. (stepped_by grid.image grid.parameters m event).did) is.state_is,
-      )
+      pass_answers stamp stamp_at_is pushed quiet stays =
+          let grown_so = grown_is stamp stamp_at_is pushed in (
+            record { after_is = grown_so; run = subst IsRun (sym grown_so) run_grows; stays = λ so. subst (EndStays here) (sym grown_so) (stays so) },
+            (happens.told stamp).did ∙ ap (λ m. (stepped_by grid.image grid.parameters m event).did) is.state_is,
+          )
 
       -- the heads of its links are fit
       pub heads_fit : HeadsAreFit after.image after.machine
@@ -186,13 +197,7 @@ module _ {grid : Grid} {journal : List Entry} {joined : ℕ} {sent : Sending} {t
           let pushed_state = state_push grid.image grid.parameters journal (entry_of here event) in
           let adds_so : Adds grid.image tally tally' happening.told sent'.messages = subst (λ p. Adds p tally tally' happening.told sent'.messages) happens.image adds in
           record {
-            run = subst IsRun (sym grown_so) (record {
-              image = is.run.image;
-              parameters = is.run.parameters;
-              fits = is.run.fits;
-              legal = legal_push grid.image grid.parameters journal (entry_of here event) is.run.legal next_is;
-              joined = omega (arith, is.run.joined, length-append journal (entry_of here event ∷ []));
-            });
+            run = subst IsRun (sym grown_so) run_grows;
             state_is = machine_next ∙ (sym pushed_state ∙ sym (ap state_of grown_so));
             room = happens.room ∙ ap node_count (sym happens.image);
             sends = sends_next ∙ (sym (last_push here is.run.joined event) ∙ sym (ap last_sends grown_so));
@@ -220,15 +225,27 @@ module _ {grid : Grid} {journal : List Entry} {joined : ℕ} {sent : Sending} {t
           same : ◌≡◌ {A = Parts × Parameters} (grid.image, grid.parameters) (after.image, after.parameters)
           same = λ i. (sym happens.image i, sym happens.parameters i)
 
-      -- behind a quiet turn before the limit they fit as they were
-      pub rows_stay : (stamp limit : ℕ) → stamp ≡ stamp_at grid.image grid.machine event → limit ≡ after.parameters.limit → stamp < limit
-          → happening.quiet ≡ true → RowsFit after.image after.parameters after.machine ready
-      rows_stay stamp limit stamp_is limit_is early quiet =
-          let aimed = subst (IsAimed grid.image) (sym is.state_is) (state_aimed grid.image grid.parameters journal is.run.legal) in
-          let allowed = ap (λ (p : Parameters). p.limit) happens.parameters in
-          let stay = quiet_rows event happening.told.did happening.changes_holds (happens.quiet quiet) grid.image grid.parameters grid.machine ready aimed may (happens.told 0).did happens.holds
-          (omega (arith, stamp_is, limit_is, allowed)) is.run.parameters.limit is.rows in
-          subst (λ (p : Parts × (Parameters × MachineState)). RowsFit p.0 p.1.0 p.1.1 ready) (λ i. (sym happens.image i, (sym happens.parameters i, sym happens.machine i))) stay
+      -- behind a quiet turn before the limit they fit as they were, and the end stays
+      module _ (stamp limit : ℕ) (stamp_is : stamp ≡ stamp_at grid.image grid.machine event) (limit_is : limit ≡ after.parameters.limit) (early : stamp < limit)
+          (quiet : happening.quiet ≡ true) where
+        aimed : IsAimed grid.image grid.machine
+        aimed = subst (IsAimed grid.image) (sym is.state_is) (state_aimed grid.image grid.parameters journal is.run.legal)
+
+        rows_keep : RowsFit grid.image grid.parameters (step grid.image grid.parameters grid.machine event) ready
+        rows_keep =
+            let allowed = ap (λ (p : Parameters). p.limit) happens.parameters in
+            quiet_rows event happening.told.did happening.changes_holds (happens.quiet quiet) grid.image grid.parameters grid.machine ready aimed may (happens.told 0).did happens.holds
+            (omega (arith, stamp_is, limit_is, allowed)) is.run.parameters.limit is.rows
+
+        pub rows_stay : RowsFit after.image after.parameters after.machine ready
+        rows_stay = subst (λ (p : Parts × (Parameters × MachineState)). RowsFit p.0 p.1.0 p.1.1 ready) (λ i. (sym happens.image i, (sym happens.parameters i, sym happens.machine i))) rows_keep
+
+        pub end_stays : EndStays here (grown here event)
+        end_stays =
+            let end = end_of grid.image grid.parameters in
+            let next = state_push grid.image grid.parameters journal (entry_of here event) ∙ ap (λ m. step grid.image grid.parameters m event) (sym is.state_is) in
+            ap end next
+            ∙ (quiet_end event happening.told.did happening.changes_holds (happens.quiet quiet) grid.image grid.parameters grid.machine ready aimed enabled (happens.told 0).did is.rows rows_keep ∙ ap end is.state_is)
 
 -- the heads of the links are fit in a machine that hasn't begun, and in one that was joined
 pub heads_fit_at : (image : Parts) → IsImage image → (parameters : Parameters) → AreParameters parameters → (journal : List Entry) → IsLegal image parameters journal

@@ -1,12 +1,13 @@
--- A quiet turn is Done, ends no hold, and comes before the limit. All but its own slot, clock and copies stays: which main events may happen is as it was.
-use Rattle.std.proofs.Common.{◌≡◌, ℕ, ◌+◌, ◌-◌, ◌^◌, ◌<◌, ◌≤◌, ◌==◌, nat_lt, nat_le, Bool, true, false, ◌&&◌, ◌||◌, Option, Some, None, is_some, List, [], length, IsTrue, refl, sym, ap, subst, ◌∙◌, arith}
+-- A quiet turn is Done, ends no hold, and comes before the limit. All but its own slot, clock and copies stays: which main events may happen, and the end that holds, are as they were.
+use Rattle.std.proofs.Common.{◌≡◌, ℕ, ◌+◌, ◌-◌, ◌^◌, ◌<◌, ◌≤◌, ◌==◌, nat_lt, nat_le, Bool, true, false, ◌&&◌, ◌||◌, not, cond, Option, Some, None, is_some, List, [], length, IsTrue, refl, sym, ap, subst, ◌∙◌, arith}
+use Rattle.std.specs.List.{list_any}
 use Rattle.std.proofs.lemmas.Bool.{eq-eqb, lt-ltb, le-leb}
 use Rattle.std.proofs.lemmas.List.{get_or-set_same, set-get_or, length-set}
 use Rattle.alw_num.specs.declared.addresses.NodeNo.{NodeNo}
 use Rattle.alw_num.specs.declared.states.Mode.{Mode}
 use Rattle.sparc_table.specs.declared.outcomes.Need.{Need}
 use Rattle.sparc_table.specs.declared.outcomes.Need.TheVariants as needs
-use Rattle.sparc_table.specs.declared.outcomes.Outcome.TheVariants.{Done, Trap}
+use Rattle.sparc_table.specs.declared.outcomes.Outcome.TheVariants.{Done}
 use Rattle.sparc_table.specs.Turns.{need_of}
 use Rattle.alw_msg.specs.declared.messages.Msg.{Msg}
 use Rattle.alw_msg.specs.declared.events.Event.{Event}
@@ -24,20 +25,21 @@ use Rattle.alw_model.specs.Contexts.{Slot, slot_at, no_slot, running}
 use Rattle.alw_model.specs.Counts.{is_turn}
 use Rattle.alw_model.specs.NodeStates.{NodeState, stamp_of}
 use Rattle.alw_model.specs.NodeSteps.{Stepped, access, instr_by, instr, node_step}
-use Rattle.alw_model.specs.Machine.{MachineState, node_at, no_node, is_enabled, has_halted, stamp_at, stepped_by, step}
+use Rattle.alw_model.specs.Machine.{MachineState, node_at, no_node, taken_by, links_taken, links_sent, is_enabled, has_halted, any_trapped, is_settled, end_of, stamp_at, stepped_by, step}
+use Rattle.alw_model.specs.Machine as machine
 use Rattle.alw_model.proofs.Journals.{and_parts}
 use Rattle.law_lines.proofs.Steps.{enabled_is}
 use Rattle.law_order.specs.Aims.{IsAimed}
 use Rattle.law_machine.proofs.MainEvents.{ready_runs}
 use Rattle.alw_tally.specs.declared.remains.Remains.{Remains}
 use Rattle.alw_tally.specs.Remaining.{remains_of, remains_after}
-use Rattle.alw_tally.proofs.Ending.{halted_is}
+use Rattle.alw_tally.proofs.Ending.{trapped_is, halted_is, handled_is}
 use Rattle.alw_tally.proofs.Following.{remains_are}
 use Rattle.alw_ready.specs.declared.rows.Row.{Row}
 use Rattle.alw_ready.specs.Rows.{no_row, row_at}
 use Rattle.alw_ready.specs.Fits.{may_happen, is_in_time, RowsFit}
 use Rattle.alw_ready.specs.Changes.{changes_holds, is_wide, is_wide_event, RowsFitBut}
-use Rattle.alw_ready.proofs.MainEvents.{may_in_time}
+use Rattle.alw_ready.proofs.MainEvents.{may_in_time, goes_on_is}
 use Rattle.alw_ready.proofs.Leaves.{rows_left}
 use Rattle.alw_ready.proofs.Renewing.{sent_all}
 use Rattle.alw_links.specs.Traffic.{Traffic}
@@ -63,6 +65,19 @@ module _ (parts : Parts) (parameters : Parameters) (number stamp : ℕ) (node : 
   alone : (o : Option ℕ) → let s = instr parts parameters number stamp node o in Alone s.sends s.node.current s.did
   alone None = tt
   alone (Some slot) = alone_by_need slot (need_of parts.code (slot_at node.slots slot).regs (line_count parts))
+
+-- where as much remains as in another machine, a machine has halted and trapped as that one has; and settled, with the same links
+module _ (s next : MachineState) (kept : remains_of next.nodes ≡ remains_of s.nodes) where
+  halts_alike : has_halted next ≡ has_halted s
+  halts_alike = sym (halted_is (remains_of next.nodes) next refl) ∙ (ap (λ (r : Remains). r.live == 0) kept ∙ halted_is (remains_of s.nodes) s refl)
+
+  traps_alike : any_trapped next ≡ any_trapped s
+  traps_alike = sym (trapped_is (remains_of next.nodes) next refl) ∙ (ap (λ (r : Remains). not (r.trapped == 0)) kept ∙ trapped_is (remains_of s.nodes) s refl)
+
+  settles_alike : next.links ≡ s.links → is_settled next ≡ is_settled s
+  settles_alike links =
+      let handled = sym (handled_is (remains_of next.nodes) next refl) ∙ (ap (λ (r : Remains). r.packets == 0) kept ∙ handled_is (remains_of s.nodes) s refl) in
+      λ i. not (list_any is_nonempty (links i)) && handled i
 
 -- a node whose clock is below the limit is in time
 in_time_by : (clock limit : ℕ) (halted : Bool) → clock < limit → limit ≤ 1048576 → (nat_lt clock (2 ^ 32 - 1) && (nat_lt clock limit || halted)) ≡ true
@@ -100,7 +115,7 @@ module _ (parts : Parts) (parameters : Parameters) (s : MachineState) (at : Node
   goes_on : has_halted next ≡ has_halted s
   goes_on =
       let kept : remains_of next.nodes ≡ remains_of s.nodes = remains_are parts parameters s (Instr at) aimed.nodes enabled ∙ ap (remains_after (remains_of s.nodes) (Instr at)) did in
-      sym (halted_is (remains_of next.nodes) next refl) ∙ (ap (λ (r : Remains). r.live == 0) kept ∙ halted_is (remains_of s.nodes) s refl)
+      halts_alike s next kept
 
   node_after : node_at next at.0 ≡ stepped.node
   node_after = let room : at.0 < length s.nodes = rw aimed.nodes here in get_or-set_same s.nodes at.0 stepped.node no_node room
@@ -178,3 +193,17 @@ module _ (event : Event) (did : Did) (changes : Bool) (turn : IsQuietTurn event 
       (quiet_keeps parts parameters s turn.at turn.slot aimed (subst (λ (e : Event). IsTrue (may_happen parts parameters s e)) turn.event_is may)
       (ap (λ (t : Stepped). t.did) (sym stepped_is) ∙ (sym so ∙ turn.did_is)) (sym holds_are ∙ (sym holds ∙ turn.stays))
       (subst (λ (e : Event). stamp_at parts s e < parameters.limit) turn.event_is early) small rows fit)
+
+  -- and so does the end that holds, where rows fit before and after
+  pub quiet_end : (parts : Parts) (parameters : Parameters) (s : MachineState) (rows : List Row) → IsAimed parts s → IsTrue (is_enabled parts parameters s event)
+      → did ≡ (stepped_by parts parameters s event).did → RowsFit parts parameters s rows → RowsFit parts parameters (step parts parameters s event) rows
+      → end_of parts parameters (step parts parameters s event) ≡ end_of parts parameters s
+  quiet_end parts parameters s rows aimed enabled so fit fit_after =
+      let next = step parts parameters s event in
+      let at = node_of event in
+      let stepped = stepped_by parts parameters s event in
+      let kept : remains_of next.nodes ≡ remains_of s.nodes = remains_are parts parameters s event aimed.nodes enabled ∙ (ap (remains_after (remains_of s.nodes) event) (sym so) ∙ sym (remains_stay (remains_of s.nodes))) in
+      let silent : stepped.sends ≡ [] = sends_none parts parameters at (node_at s at) (taken_by parts s event) so in
+      let links : next.links ≡ s.links = λ i. links_sent parts (links_taken parts s.links (turn.event_is i)) at (silent i) in
+      let on = goes_on_is parts parameters next rows fit_after ∙ sym (goes_on_is parts parameters s rows fit) in
+      λ i. cond (traps_alike s next kept i) (Some machine.Trapped) (cond (halts_alike s next kept i && settles_alike s next kept links i) (Some machine.Halted) (cond (on i) None (Some machine.Limit)))

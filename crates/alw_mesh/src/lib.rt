@@ -15,5 +15,5 @@ mod views;
 
 pub use errors::{FitErr, MOST_STEPS, StepErr, fit};
 pub use joining::LinkLists;
-pub use machines::Machine;
+pub use machines::{Machine, Passed};
 pub use parts::MachineParts;

@@ -1,5 +1,6 @@
 ghost use Rattle.std.specs.Prelude.{◌≡◌, ◌≤◌, ◌&&◌, [], not, length, IfOk, IsTrue};
 ghost use Rattle.alw_mesh.specs.Histories.{Starts, Takes, Steps, may_be_next, entry_of, ArePartsOf};
+ghost use Rattle.alw_mesh.specs.Ends.{Passes};
 
 use crate::errors::{FitErr, StepErr, fit};
 use crate::meshes::Mesh;
@@ -12,6 +13,13 @@ use alw_ready::{Happened as Changes, Ready, is_wide};
 use alw_tally::Tally;
 use std::alloc::Global;
 use std::marker::Model;
+
+/// What an event did, and whether it is known to have been a quiet turn within the limit.
+#[derive(Clone, Copy, PartialEq, Eq)]
+pub struct Passed {
+    pub did: Did,
+    pub quiet: bool,
+}
 
 /// A machine: the nodes of an image with the links between them, and the journal of the events that
 /// happened. Contracts see the image, the parameters and the journal, which say all else, and how many
@@ -90,6 +98,17 @@ impl Machine {
         requires { IsTrue (may_be_next self.old event) }
         ensures { Takes self.old event self.new result }
     {
+        let passed = self.pass(event)?;
+        Ok(passed.did)
+    }
+
+    /// An event that may be next happens, as by `take`. It answers besides whether it is known to have been
+    /// a quiet turn, behind which the end that holds is the one before it, or none as before.
+    #[inline(always)]
+    pub fn pass(&mut self, event: Event) -> Result<Passed, NoMemory>
+        requires { IsTrue (may_be_next self.old event) }
+        ensures { Passes self.old event self.new result }
+    {
         let stamp = self.mesh.stamp(event);
         self.tally.reserve()?;
         self.mesh.reserve()?;
@@ -101,10 +120,16 @@ impl Machine {
         if happening.quiet {
             self.tally.add(self.mesh.image(), &told, &self.sent);
             if stamp < self.mesh.params().limit() {
-                return Ok(told.did);
+                return Ok(Passed {
+                    did: told.did,
+                    quiet: true,
+                });
             }
             self.ready.renew_all(&self.mesh);
-            return Ok(told.did);
+            return Ok(Passed {
+                did: told.did,
+                quiet: false,
+            });
         }
         self.tally.add(self.mesh.image(), &told, &self.sent);
         let changes = Changes {
@@ -113,7 +138,10 @@ impl Machine {
             halted: flips(had_halted, self.mesh.has_halted()),
         };
         self.ready.renew(&self.mesh, &changes, &self.sent);
-        Ok(told.did)
+        Ok(Passed {
+            did: told.did,
+            quiet: false,
+        })
     }
 
     /// The image, the parameters and the journal, with its turns and its prints.

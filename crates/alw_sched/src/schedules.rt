@@ -1,10 +1,11 @@
-ghost use Rattle.std.specs.Prelude.{◌≡◌, ◌<◌, ◌%◌, cond, nat_lt, None, Some, IsTrue};
+ghost use Rattle.std.specs.Prelude.{◌≡◌, ◌<◌, ◌%◌, cond, nat_lt, None, Some, IfOk, OnErr, IsTrue};
 ghost use Rattle.alw_image.specs.Images.{node_count};
-ghost use Rattle.alw_mesh.specs.Histories.{Takes, may_be_next};
+ghost use Rattle.alw_mesh.specs.Histories.{may_be_next};
+ghost use Rattle.alw_mesh.specs.Ends.{HasPassed};
 ghost use Rattle.alw_sched.specs.Schedules.{Finishes, end_in, asked_node, asked_eviction, is_evicted, picked};
 
 use alw_mesh::Machine;
-use alw_model::{Did, Ended};
+use alw_model::Ended;
 use alw_msg::Event;
 use alw_num::{Draws, NoMemory, NodeNo};
 
@@ -14,24 +15,28 @@ pub fn finish(machine: &mut Machine, seed: u64) -> Result<Ended, NoMemory>
     ensures { Finishes machine.old seed machine.new result }
 {
     let mut draws = Draws { state: seed };
+    let mut is_quiet = false;
     loop {
-        if let Some(ended) = machine.ended() {
+        // Behind a quiet turn no end holds, as before it.
+        if !is_quiet && let Some(ended) = machine.ended() {
             return Ok(ended);
         }
         let event = pick(machine, draws.draw());
-        take(machine, event)?;
+        is_quiet = take(machine, event)?;
     }
 }
 
-// Takes an event that may be next. A turn and a delivery have a compiled way of their own each.
-fn take(machine: &mut Machine, event: Event) -> Result<Did, NoMemory>
+// Takes an event that may be next, and answers whether it is known to have been a quiet turn, behind
+// which the end stays. A turn and a delivery have a compiled way of their own each.
+fn take(machine: &mut Machine, event: Event) -> Result<bool, NoMemory>
     requires { IsTrue (may_be_next machine.old event) }
-    ensures { Takes machine.old event machine.new result }
+    ensures ok { IfOk result (λ quiet. HasPassed machine.old event machine.new quiet) }
+    ensures err { OnErr result (machine.new ≡ machine.old) }
 {
     match event {
-        Event::Instr { node } => machine.take(Event::Instr { node }),
-        Event::Deliver { from, to } => machine.take(Event::Deliver { from, to }),
-        other => machine.take(other),
+        Event::Instr { node } => Ok(machine.pass(Event::Instr { node })?.quiet),
+        Event::Deliver { from, to } => Ok(machine.pass(Event::Deliver { from, to })?.quiet),
+        other => Ok(machine.pass(other)?.quiet),
     }
 }
 

@@ -1,11 +1,11 @@
 -- A legal journal and its next entry.
-use Rattle.std.proofs.Common.{not, ◌&&◌, ap, ◌∙◌}
+use Rattle.std.proofs.Common.{◌≡◌, true, false, not, ◌&&◌, ap, ◌∙◌}
 use Rattle.alw_image.specs.Parameters.{Parameters}
 use Rattle.alw_model.specs.Machine.{has_halted}
 use Rattle.alw_tally.specs.Told.{told_with}
 use Rattle.alw_mesh.specs.Grids.{Grid}
-use Rattle.alw_mesh.proofs.Journals.{journal_fits, next_may, few_remain, sends_below_rows, comes_from_row, heads_fit, step_answers, machine_grows, rows_renewed, rows_stay}
-use Rattle.alw_mesh.proofs.machines.Machine.take.Goals as goal
+use Rattle.alw_mesh.proofs.Journals.{journal_fits, next_may, few_remain, sends_below_rows, comes_from_row, heads_fit, pass_answers, machine_grows, rows_renewed, rows_stay, end_stays}
+use Rattle.alw_mesh.proofs.machines.Machine.pass.Goals as goal
 
 pub push-requires : goal.push-requires
 push-requires c = journal_fits _ c.self.invariant.run
@@ -64,16 +64,18 @@ pub returns-then-happening : goal.returns-then-happening
 returns-then-happening c =
     let may = next_may c.self.invariant c.args.event (rw (← c.self.view_is) at c.requires) in
     let happens = rw c.in_ok-reserve-2.ensures.ok at c.happen-happening.ensures in
-    rw (← c.self.view_is) (step_answers c.self.invariant c.args.event may happens c.stamp-stamp.result c.stamp-stamp.ensures c.in_ok-push.ensures.ok)
+    rw (← c.self.view_is) (pass_answers c.self.invariant c.args.event may happens c.stamp-stamp.result c.stamp-stamp.ensures c.in_ok-push.ensures.ok false (λ (is : false ≡ true). absurd (cc)))
 
 pub returns-then-stamp-limit : goal.returns-then-stamp-limit
 returns-then-stamp-limit c =
     let may = next_may c.self.invariant c.args.event (rw (← c.self.view_is) at c.requires) in
     let happens = rw c.in_ok-reserve-2.ensures.ok at c.happen-happening.ensures in
-    rw (← c.self.view_is) (step_answers c.self.invariant c.args.event may happens c.stamp-stamp.result c.stamp-stamp.ensures c.in_ok-push.ensures.ok)
+    rw (← c.self.view_is) (pass_answers c.self.invariant c.args.event may happens c.stamp-stamp.result c.stamp-stamp.ensures c.in_ok-push.ensures.ok true
+    (λ is. end_stays c.self.invariant c.args.event may happens c.stamp-stamp.result c.limit.result c.stamp-stamp.ensures (c.limit.ensures.value ∙ ap (λ (p : Parameters). p.limit) c.params.ensures)
+    c.if-stamp-limit.true c.if-happening.true))
 
 pub returns : goal.returns
 returns c =
     let may = next_may c.self.invariant c.args.event (rw (← c.self.view_is) at c.requires) in
     let happens = rw c.in_ok-reserve-2.ensures.ok at c.happen-happening.ensures in
-    rw (← c.self.view_is) (step_answers c.self.invariant c.args.event may happens c.stamp-stamp.result c.stamp-stamp.ensures c.in_ok-push.ensures.ok)
+    rw (← c.self.view_is) (pass_answers c.self.invariant c.args.event may happens c.stamp-stamp.result c.stamp-stamp.ensures c.in_ok-push.ensures.ok false (λ (is : false ≡ true). absurd (cc)))
