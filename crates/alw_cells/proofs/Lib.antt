@@ -10,3 +10,4 @@ pub mod Moves
 pub mod Sends
 pub mod Filing
 pub mod Fronts
+pub mod PlainRead

@@ -6,3 +6,4 @@ pub mod Receiving
 pub mod Choice
 pub mod Keeping
 pub mod Leaving
+pub mod Plain

@@ -3,8 +3,9 @@ ghost use Rattle.std.specs.Option.{option_map};
 ghost use Rattle.alw_msg.specs.Lists.{front, behind};
 ghost use Rattle.alw_cells.specs.Records.{records_in, HasRecords};
 ghost use Rattle.alw_cells.specs.Logs.{reading_of, after_next, taken_of, sent_of, entry_of};
+ghost use Rattle.alw_cells.specs.Plain.{is_plain};
 
-use crate::records::{count_at, entry_at, sends_of, sent_at, skip, taken_at};
+use crate::records::{count_at, entry_at, is_plain_at, sends_of, sent_at, skip, taken_at};
 use alw_msg::{Entry, Msg};
 use alw_num::NodeNo;
 use std::marker::Model;
@@ -87,6 +88,15 @@ impl<'a> Cursor<'a> {
         } else {
             None
         }
+    }
+
+    /// Whether the event given last is an instruction that took and sent nothing. False where the last
+    /// `next` gave no event or none was asked for yet.
+    #[inline(always)]
+    pub fn is_plain(&self) -> bool
+        ensures { result ≡ is_plain self.now.given }
+    {
+        self.has_given && is_plain_at(self.given)
     }
 
     /// Message i of those that the event given last sent, with its receiver. None exactly where i is at

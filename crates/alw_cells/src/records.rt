@@ -1,4 +1,4 @@
-ghost use Rattle.std.specs.Prelude.{◌≡◌, ◌+◌, ◌≤◌, length, drop};
+ghost use Rattle.std.specs.Prelude.{◌≡◌, ◌+◌, ◌≤◌, ◌==◌, ◌&&◌, length, drop, slice_index};
 ghost use Rattle.alw_msg.specs.Kinds.{has_body};
 ghost use Rattle.alw_cells.specs.Records.{word_in, half_in, kind_by, event_in, body_size, body_in, taken_msg, msg_size, sent_msg, sent_size, behind_sends, HasSends, taken_in, taken_size, entry_in, count_in, sends_at};
 
@@ -27,6 +27,15 @@ pub fn count_at(bytes: &[u8]) -> u16
     ensures { result ≡ count_in bytes.now }
 {
     half_at(&bytes[9 + size_taken(bytes)..])
+}
+
+/// Whether the event of the record at the front is an instruction that sent nothing.
+#[inline(always)]
+pub fn is_plain_at(bytes: &[u8]) -> bool
+    requires { 11 + taken_size bytes.now ≤ length bytes.now }
+    ensures { result ≡ (slice_index bytes.now 4 == 0) && (count_in bytes.now == 0) }
+{
+    bytes[4] == 0 && count_at(bytes) == 0
 }
 
 /// The messages that the event of the record at the front sent, and the bytes behind them.

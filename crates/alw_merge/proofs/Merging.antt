@@ -320,7 +320,7 @@ read_set [] k after are is = tt
 read_set (first ∷ rest) zero after are is = (is, are.1)
 read_set (first ∷ rest) (suc k) after are is = (are.0, read_set rest k after are.1 is)
 
-read_at : (readings : List Reading) (k : ℕ) (reading : Reading) → slice_get readings k ≡ Some reading → AllByRecursion LogIsRead readings → LogIsRead reading
+pub read_at : (readings : List Reading) (k : ℕ) (reading : Reading) → slice_get readings k ≡ Some reading → AllByRecursion LogIsRead readings → LogIsRead reading
 read_at [] k reading there are = absurd (cc)
 read_at (first ∷ rest) zero reading there are = subst LogIsRead (same_Some first reading there) are.0
 read_at (first ∷ rest) (suc k) reading there are = read_at rest k reading there are.1

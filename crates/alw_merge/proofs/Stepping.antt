@@ -1,18 +1,42 @@
 -- A step of logs that are read side by side: the log of the least head goes on.
-use Rattle.std.proofs.Common.{◌≡◌, ℕ, ◌+◌, ◌*◌, ◌<◌, Option, Some, None, option_to_list, List, [], ◌∷◌, ◌++◌, map, length, slice_get, get_or, set, refl, sym, subst, ap, ◌∙◌, arith}
+use Rattle.std.proofs.Common.{◌≡◌, ℕ, ◌+◌, ◌*◌, ◌<◌, Option, true, not, ◌&&◌, ◌==◌, Some, None, is_some, IfSome, option_to_list, List, [], ◌∷◌, ◌++◌, map, length, slice_get, get_or, set, refl, sym, subst, ap, ◌∙◌, arith}
 use Rattle.std.specs.Option.{option_map}
+use Rattle.std.proofs.lemmas.Bool.{true≢false, eqb-true}
 use Rattle.std.proofs.lemmas.List.{map-set, length-map, get_or-map}
 use Rattle.std.proofs.lemmas.Option.{get_or_from_slice_get, same_Some}
 use Rattle.alw_msg.specs.declared.messages.Msg.{Msg}
+use Rattle.alw_msg.specs.declared.events.Event.{Event}
+use Rattle.alw_msg.specs.declared.events.Event.TheVariants.{Instr, Deliver, Handle, Evict}
 use Rattle.alw_msg.specs.declared.events.Entry.{Entry}
 use Rattle.alw_msg.specs.Events.{node_of}
 use Rattle.alw_msg.specs.Lists.{front, behind}
 use Rattle.alw_model.specs.Threads.{Logged, Logs, log_at, merged}
 use Rattle.alw_cells.specs.Logs.{Reading, after_next, taken_of, sent_of, entry_of}
+use Rattle.alw_cells.specs.Plain.{is_instr, is_plain}
 use Rattle.alw_merge.specs.Heads.{Waiting, IsLeast, HaveJoined}
-use Rattle.alw_merge.specs.Streams.{left_of, all_left, StreamIsUnderWay, GoesOn, EventIsReadOff}
+use Rattle.alw_merge.specs.Streams.{left_of, all_left, StreamIsUnderWay, GoesOn, EventIsReadOff, IsPlain}
 use Rattle.alw_merge.proofs.Leasts.{joined_length}
-use Rattle.alw_merge.proofs.Merging.{Stands, stands, below, goes_to_next, heads_few, left_merged, nothing_left}
+use Rattle.alw_merge.proofs.Merging.{Stands, stands, below, read_at, goes_to_next, heads_few, left_merged, nothing_left}
+
+-- an instruction that took and sent nothing
+record IsPlainEvent (one : Logged) : Type 0 where
+  pub event : one.entry.event ≡ Instr (record { 0 = node_of one.entry.event })
+  pub taken : one.taken ≡ None
+  pub sent : one.sent ≡ []
+
+plain_event : (one : Logged) → is_plain (Some one) ≡ true → IsPlainEvent one
+plain_event one plain =
+    let is = parts one.entry.event one.taken one.sent plain in
+    record { event = is.0; taken = is.1.0; sent = is.1.1 }
+  where
+    parts : (event : Event) (taken : Option Msg) (sent : List (ℕ × Msg)) → is_instr event && (not (is_some taken) && (length sent == 0)) ≡ true
+        → (event ≡ Instr (record { 0 = node_of event })) × ((taken ≡ None) × (sent ≡ []))
+    parts (Instr node) None [] is = (refl, (refl, refl))
+    parts (Instr node) None (send ∷ rest) is = absurd (omega (arith, eqb-true (length (send ∷ rest)) 0 is))
+    parts (Instr node) (Some msg) sent is = absurd (true≢false (sym is))
+    parts (Deliver from to) taken sent is = absurd (true≢false (sym is))
+    parts (Handle node) taken sent is = absurd (true≢false (sym is))
+    parts (Evict node set) taken sent is = absurd (true≢false (sym is))
 
 module _ {readings : List Reading} {waiting : Waiting} {head place : ℕ} (under : StreamIsUnderWay readings waiting) (least : IsLeast head waiting.heads)
     (place_is : (others log : ℕ) → log < 65536 → head ≡ others * 65536 + log → place ≡ log) where
@@ -105,6 +129,29 @@ module _ {readings : List Reading} {waiting : Waiting} {head place : ℕ} (under
                 ∙ (map-set left_of readings place (after_next reading) ∙ ap (λ (left : List Logged). set (map left_of readings) place left) behind_there);
             first = first ∙ ((λ x. sym own x ∷ merged (map left_of (set readings place (sym goes.reading_is x)))));
           })
+
+    -- its entry is read off its head
+    module _ (plain : is_plain reading.given ≡ true) {entry : Entry} (stamp : (stamp node log : ℕ) → node < 65536 → log < 65536 → head ≡ (stamp * 65536 + node) * 65536 + log → entry.stamp ≡ stamp)
+        (event : (stamp node log : ℕ) → node < 65536 → log < 65536 → head ≡ (stamp * 65536 + node) * 65536 + log → entry.event ≡ Instr (record { 0 = node })) where
+      its : IsPlainEvent at.one
+      its = plain_event at.one (ap is_plain (sym given) ∙ plain)
+
+      node_few : node_of at.one.entry.event < 65536
+      node_few = subst (λ (o : Option Logged). IfSome o (λ logged. node_of (entry_of logged).event < 65536)) at.given (read_at readings at.k at.reading at.there under.read).node
+
+      event_is : entry.event ≡ Instr (record { 0 = node_of at.one.entry.event })
+      event_is = event at.one.entry.stamp (node_of at.one.entry.event) at.k node_few at.few at.key
+
+      own : entry ≡ at.one.entry
+      own = λ x. record { stamp = stamp at.one.entry.stamp (node_of at.one.entry.event) at.k node_few at.few at.key x; event = (event_is ∙ sym its.event) x }
+
+      pub is_plain_read : IsPlain (record { log = place; entry = entry; taken = None })
+      is_plain_read = record { instr = ap is_instr event_is; taken = refl }
+
+      pub plain_is_next : {rest again : Waiting} {after : Reading} → HaveJoined rest.heads (head ∷ []) waiting.heads → rest.most ≡ waiting.most → GoesOn place reading after rest again
+          → {logs : Logs} → map left_of readings ≡ logs → EventIsReadOff logs (record { log = place; entry = entry; taken = None }) [] (map left_of (set readings place after))
+      plain_is_next popped most goes view =
+          next_is popped most goes view (ap Some own ∙ sym (ap (option_map entry_of) given)) (sym (ap taken_of given ∙ its.taken)) (sym (ap sent_of given ∙ its.sent))
 
 -- without a head there is room for one
 pub has_room : (readings : List Reading) (waiting rest : Waiting) (head : ℕ) → StreamIsUnderWay readings waiting → HaveJoined rest.heads (head ∷ []) waiting.heads → rest.most ≡ waiting.most

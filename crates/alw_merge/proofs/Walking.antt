@@ -3,7 +3,7 @@ use Rattle.std.proofs.Common.{◌≡◌, ℕ, suc, zero, ◌+◌, ◌*◌, ◌<�
 use Rattle.std.specs.List.{AllByRecursion}
 use Rattle.std.proofs.Math.Nat.{add-zero}
 use Rattle.std.specs.Option.{option_map}
-use Rattle.std.proofs.lemmas.Bool.{ltb-true, eqb-true}
+use Rattle.std.proofs.lemmas.Bool.{true≢false, ltb-true, eqb-true}
 use Rattle.std.proofs.lemmas.List.{length-set, length-drop, length_push, take_more, take_all}
 use Rattle.std.proofs.lemmas.Option.{same_Some, get_or_from_slice_get}
 use Rattle.alw_num.proofs.Weigh.{at_nodes}
@@ -39,9 +39,10 @@ use Rattle.alw_mesh.proofs.Moves.{links_are_taken, links_are_sent, goes_below}
 use Rattle.alw_mesh.proofs.FewSent.{few_sent}
 use Rattle.alw_mesh.proofs.Joined.{next_is, one_more}
 use Rattle.alw_cells.specs.Logs.{taken_of, sent_of, entry_of}
+use Rattle.alw_cells.specs.Plain.{is_instr}
 use Rattle.alw_merge.specs.declared.streams.Read.{Read}
-use Rattle.alw_merge.specs.Streams.{EventIsReadOff}
-use Rattle.alw_merge.specs.Joins.{Course, no_course, course_at, courses_of, course_of, dids_at, happened_at, LogsAreOfJournal, unheld, JournalIsWalked, MayFollow, Follows}
+use Rattle.alw_merge.specs.Streams.{EventIsReadOff, IsPlain, Reads}
+use Rattle.alw_merge.specs.Joins.{Course, no_course, course_at, courses_of, course_of, dids_at, happened_at, LogsAreOfJournal, unheld, JournalIsWalked, MayFollow, Follows, EventIsTold}
 use Rattle.alw_merge.proofs.Courses.{mine, with_first, course_first, course_other, moment_at}
 use Rattle.alw_merge.proofs.Joining.{courses_long, courses_read}
 
@@ -61,6 +62,26 @@ pub record IsRead (image : Parts) (parameters : Parameters) (journal : List Entr
   pub counted : length courses ≡ node_count image
   pub each : (n : ℕ) → n < node_count image → course_at courses n ≡ course_of n (drop i (moments image parameters journal))
   pub walked : JournalIsWalked image parameters (take i journal) traffic told
+
+-- an event that was read of logs as they were
+pub read_off : {logs same after : Logs} {o : Option Read} {read : Read} {sends : List (ℕ × Msg)} → same ≡ logs → o ≡ Some read → Reads same o sends after → EventIsReadOff logs read sends after
+read_off {logs} {same} {after} {o} {read} {sends} kept is reads = subst (λ (all : Logs). EventIsReadOff all read sends after) kept (subst (λ (p : Option Read). Reads same p sends after) is reads)
+
+-- an instruction that sent nothing leaves the links as they are
+pub told_follows : {image : Parts} {read : Read} {rest rest' : List (List Did)} {traffic traffic' : Traffic} {told told' : Told} → IsPlain read → EventIsTold image read [] rest rest' traffic traffic' told told'
+    → Follows image read [] rest rest' traffic traffic' told told'
+told_follows {image} {read} {rest} {rest'} {traffic} {traffic'} plain is = record {
+  rest_is = is.rest_is;
+  nodes_are = ap (λ (t : Traffic). t.nodes) is.traffic_is;
+  links_are = ap (λ (t : Traffic). t.links) (is.traffic_is ∙ stays read.entry.event plain.instr);
+  told_is = is.told_is;
+}
+  where
+    stays : (event : Event) → is_instr event ≡ true → traffic ≡ after_taking traffic event
+    stays (Instr node) is = refl
+    stays (Deliver from to) is = absurd (true≢false (sym is))
+    stays (Handle node) is = refl
+    stays (Evict node set) is = refl
 
 -- an event more is told
 told_more : (image : Parts) (told : Told) (moment : Moment) (rest : Course)

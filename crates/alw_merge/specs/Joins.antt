@@ -98,3 +98,9 @@ pub record Follows (image : Parts) (read : Read) (sends : List (ℕ × Msg)) (re
   pub nodes_are : traffic'.nodes ≡ traffic.nodes
   pub links_are : traffic'.links ≡ links_with_all traffic.nodes (after_taking traffic read.entry.event).links (node_of read.entry.event) sends
   pub told_is : told' ≡ told_logged image told (happened_at (node_of read.entry.event) (dids_at rest (node_of read.entry.event)) read.taken) sends
+
+-- it has been read and is told, and the links are as they were
+pub record EventIsTold (image : Parts) (read : Read) (sends : List (ℕ × Msg)) (rest rest' : List (List Did)) (traffic traffic' : Traffic) (told told' : Told) : Type 0 where
+  pub rest_is : rest' ≡ slice_set rest (node_of read.entry.event) (behind (dids_at rest (node_of read.entry.event)))
+  pub traffic_is : traffic' ≡ traffic
+  pub told_is : told' ≡ told_logged image told (happened_at (node_of read.entry.event) (dids_at rest (node_of read.entry.event)) read.taken) sends

@@ -1,5 +1,5 @@
 -- Logs that are read side by side: what is left of each, and the heads, which are the next entries of all.
-use Rattle.std.specs.Prelude.{◌≡◌, ℕ, suc, ◌≤◌, ◌<◌, ◌+◌, ◌*◌, Option, Some, None, option_to_list, List, [], ◌∷◌, ◌++◌, map}
+use Rattle.std.specs.Prelude.{◌≡◌, ℕ, suc, ◌≤◌, ◌<◌, ◌+◌, ◌*◌, true, Option, Some, None, option_to_list, List, [], ◌∷◌, ◌++◌, map}
 use Rattle.std.specs.Prelude.{flat_map, length, slice_set, IfSome}
 use Rattle.std.specs.List.{AllByRecursion}
 use Rattle.std.specs.Option.{option_map}
@@ -10,6 +10,7 @@ use Rattle.alw_msg.specs.Events.{node_of}
 use Rattle.alw_msg.specs.Lists.{front, behind}
 use Rattle.alw_model.specs.Threads.{Logged, Logs, log_at, in_order, merged}
 use Rattle.alw_cells.specs.Logs.{Reading, after_next, taken_of, sent_of, entry_of}
+use Rattle.alw_cells.specs.Plain.{is_instr}
 use Rattle.alw_cells.specs.Records.{Ascends}
 use Rattle.alw_merge.specs.declared.streams.Read.{Read}
 use Rattle.alw_merge.specs.Heads.{Waiting, HaveJoined}
@@ -78,3 +79,8 @@ pub record EventIsReadOff (logs : Logs) (read : Read) (sends : List (ℕ × Msg)
 abbrev pub Reads : Logs → Option Read → List (ℕ × Msg) → Logs → Type 0
 Reads logs None sends logs' = merged logs ≡ []
 Reads logs (Some read) sends logs' = EventIsReadOff logs read sends logs'
+
+-- the event that was read is an instruction, which took nothing
+pub record IsPlain (read : Read) : Type 0 where
+  pub instr : is_instr read.entry.event ≡ true
+  pub taken : read.taken ≡ None

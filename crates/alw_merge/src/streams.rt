@@ -1,15 +1,16 @@
-ghost use Rattle.std.specs.Prelude.{◌≡◌, ◌+◌, ◌<◌, ◌*◌, ℕ, length, IfOk, IfSome, OnOk};
+ghost use Rattle.std.specs.Prelude.{◌≡◌, ◌+◌, ◌<◌, ◌*◌, ℕ, [], length, IfOk, IfSome, IfNone, OnOk};
+ghost use Rattle.alw_msg.specs.declared.events.Event.TheVariants.{Instr};
 ghost use Rattle.alw_msg.specs.Events.{node_of};
 ghost use Rattle.alw_msg.specs.Lists.{front, behind};
 ghost use Rattle.alw_model.specs.Threads.{merged};
 ghost use Rattle.alw_cells.specs.Logs.{logged, sent_of};
 ghost use Rattle.alw_merge.specs.Heads.{HaveJoined};
-ghost use Rattle.alw_merge.specs.Streams.{key_of, heads_of, GoesOn, Reads};
+ghost use Rattle.alw_merge.specs.Streams.{key_of, heads_of, GoesOn, EventIsReadOff, IsPlain, Reads};
 
 use crate::heads::Heads;
 use alw_cells::{Cursor, Logs};
-use alw_msg::{Entry, Msg};
-use alw_num::NoMemory;
+use alw_msg::{Entry, Event, Msg};
+use alw_num::{NoMemory, NodeNo};
 use std::alloc::Global;
 use std::marker::Model;
 
@@ -98,6 +99,29 @@ impl<'a> Stream<'a> {
         go_on(&mut self.heads, log, head, &mut self.readings[log as usize]);
         Ok(Some(Read { log, entry, taken }))
     }
+
+    /// The next event of the merge, where it is an instruction that took and sent nothing. None where it is
+    /// another one or there is none, and then all is as it was.
+    #[inline(always)]
+    pub(crate) fn plain(&mut self) -> Option<Read>
+        ensures read { IfSome result (λ read. EventIsReadOff self.old read [] self.new) }
+        ensures plain { IfSome result IsPlain }
+        ensures none { IfNone result (self.new ≡ self.old) }
+    {
+        let head = self.heads.least()?;
+        let log = place_in(head);
+        let reading = &mut self.readings[log as usize];
+        if !reading.is_plain() {
+            return None;
+        }
+        self.heads.pop(head);
+        go_on(&mut self.heads, log, head, reading);
+        Some(Read {
+            log,
+            entry: instr_in(head),
+            taken: None,
+        })
+    }
 }
 
 // The next entry of a log as a number: those of an earlier stamp, and then of a lower node, are lower.
@@ -116,6 +140,20 @@ fn place_in(head: u64) -> u32
     ensures { (rest : ℕ) → (log : ℕ) → log < 65536 → head ≡ rest * 65536 + log → result ≡ log }
 {
     (head % 65536) as u32
+}
+
+// The entry of the instruction whose head this is.
+#[inline(always)]
+fn instr_in(head: u64) -> Entry
+    ensures stamp { (stamp node log : ℕ) → node < 65536 → log < 65536 → head ≡ (stamp * 65536 + node) * 65536 + log → result.stamp ≡ stamp }
+    ensures event { (stamp node log : ℕ) → node < 65536 → log < 65536 → head ≡ (stamp * 65536 + node) * 65536 + log → result.event ≡ Instr (record { 0 = node }) }
+{
+    Entry {
+        stamp: (head / 65536 / 65536) as u32,
+        event: Event::Instr {
+            node: NodeNo((head / 65536 % 65536) as u16),
+        },
+    }
 }
 
 // A log goes on to its next event, whose head joins the others.

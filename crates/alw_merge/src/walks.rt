@@ -7,7 +7,7 @@ ghost use Rattle.alw_cells.specs.Logs.{logged};
 ghost use Rattle.alw_links.specs.Traffic.{link_in, links_with_all};
 ghost use Rattle.alw_mesh.specs.Keeping.{NodesAreWithin, after_taking};
 ghost use Rattle.alw_msg.specs.Lists.{behind};
-ghost use Rattle.alw_merge.specs.Joins.{courses_of, next_did, dids_at, LogsAreOfJournal, JournalIsWalked, MayFollow, Follows};
+ghost use Rattle.alw_merge.specs.Joins.{courses_of, next_did, dids_at, LogsAreOfJournal, JournalIsWalked, MayFollow, Follows, EventIsTold};
 
 use crate::merges::stream;
 use crate::streams::Read;
@@ -85,10 +85,16 @@ pub fn walk(
         links: Links::start(alloc, logs.len())?,
         tally: Tally::start(alloc),
     };
-    while let Some(read) = events.event(&mut sends)? {
+    loop {
+        if let Some(read) = events.plain() {
+            tell(image, &read, &[], &mut rests, &mut walked)?;
+            continue;
+        }
+        let Some(read) = events.event(&mut sends)? else {
+            return Ok(walked);
+        };
         follow(image, &read, &sends, &mut rests, &mut walked)?;
     }
-    Ok(walked)
 }
 
 // What the events of each node did.
@@ -105,7 +111,7 @@ fn rests_of<'a>(alloc: Global, dids: &'a DidLists) -> Result<Vec<Rest<'a>>, NoMe
 }
 
 // One event more, as its node's log says it, and what is left of what the node's events did.
-#[inline(always)]
+#[inline(never)]
 fn follow(
     image: &Image,
     read: &Read,
@@ -118,22 +124,41 @@ fn follow(
     ensures journal { OnOk result (walked.new.journal ≡ walked.old.journal ++ read.now.entry ∷ []) }
     ensures follows { OnOk result (Follows image.now read.now sends.now rests.old.items rests.new.items walked.old.links walked.new.links walked.old.tally.told walked.new.tally.told) }
 {
+    tell(image, read, sends, rests, walked)?;
+    take_off(&mut walked.links, read.entry.event);
+    send_all(&mut walked.links, read.entry.event.node(), sends)
+}
+
+// The same, but for the links.
+#[inline(always)]
+fn tell(
+    image: &Image,
+    read: &Read,
+    sends: &[(u16, Msg)],
+    rests: &mut Vec<Rest<'_>>,
+    walked: &mut Walked,
+) -> Result<(), NoMemory>
+    requires here { node_of read.now.entry.event < length rests.old.items }
+    requires did { 1 ≤ length (dids_at rests.old.items (node_of read.now.entry.event)) }
+    requires few { length sends.now ≤ MOST_NODES }
+    ensures journal { OnOk result (walked.new.journal ≡ walked.old.journal ++ read.now.entry ∷ []) }
+    ensures told { OnOk result (EventIsTold image.now read.now sends.now rests.old.items rests.new.items walked.old.links walked.new.links walked.old.tally.told walked.new.tally.told) }
+{
     if walked.journal.len() == u32::MAX {
         return Err(NoMemory);
     }
     walked.journal.push(read.entry)?;
-    let event = read.entry.event;
+    let node = read.entry.event.node();
     let happened = Happened {
-        node: event.node(),
-        did: rests[usize::from(event.node().0)].next(),
+        node,
+        did: rests[usize::from(node.0)].next(),
         taken: read.taken,
         used: false,
         pc: 0,
     };
     walked.tally.reserve()?;
     walked.tally.add_logged(image, &happened, sends);
-    take_off(&mut walked.links, event);
-    send_all(&mut walked.links, event.node(), sends)
+    Ok(())
 }
 
 // What an event of a node sent goes to the ends of links. Mostly it is nothing.

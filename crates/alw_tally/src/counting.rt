@@ -24,6 +24,7 @@ pub fn count_event(counts: &mut Counts, image: &Image, happened: &Happened, send
 }
 
 /// One event more is counted, whose messages are read off a log.
+#[inline(always)]
 pub fn count_logged(counts: &mut Counts, image: &Image, happened: &Happened, sends: &[(u16, Msg)])
     requires sends { length sends.now ≤ MOST_NODES }
     requires few { CountsAreAtMost (2 ^ 62) counts.old }

@@ -119,6 +119,7 @@ impl Tally {
 
     /// One event more whose messages are read off a log: its turn, its print and its counts. Where it
     /// trapped isn't told of it.
+    #[inline(always)]
     pub fn add_logged(&mut self, image: &Image, happened: &Happened, sends: &[(u16, Msg)])
         requires room { 1 ≤ self.old.room }
         requires few { length sends.now ≤ MOST_NODES }

@@ -1,5 +1,5 @@
 -- One event more is read.
-use Rattle.std.proofs.Common.{◌≡◌, ℕ, ◌*◌, Option, List, [], replicate, sym, ap, subst, ◌∙◌, arith}
+use Rattle.std.proofs.Common.{◌≡◌, ℕ, ◌*◌, List, [], replicate, sym, ap, subst, ◌∙◌, arith}
 use Rattle.alw_msg.specs.declared.messages.Msg.{Msg}
 use Rattle.alw_msg.specs.Events.{node_of}
 use Rattle.alw_model.specs.Threads.{Logs}
@@ -8,10 +8,8 @@ use Rattle.alw_model.specs.Threads.{merged}
 use Rattle.alw_links.specs.Traffic.{Traffic}
 use Rattle.alw_mesh.proofs.OneNode.{few_nodes}
 use Rattle.alw_cells.specs.Logs.{logged}
-use Rattle.alw_merge.specs.declared.streams.Read.{Read}
-use Rattle.alw_merge.specs.Streams.{Reads, EventIsReadOff}
 use Rattle.alw_merge.specs.Joins.{dids_at, MayFollow, Follows}
-use Rattle.alw_merge.proofs.Walking.{IsMerging, merging_begins, follows_here, follows_may, merges_on}
+use Rattle.alw_merge.proofs.Walking.{IsMerging, read_off, told_follows, merging_begins, follows_here, follows_may, merges_on}
 use Rattle.alw_merge.proofs.Joining.{courses_counted, lists_same}
 use Rattle.alw_merge.proofs.walks.walk.Goals as goal
 
@@ -19,8 +17,8 @@ pub start-requires : goal.start-requires
 start-requires c =
     omega (arith, c.len.ensures, few_nodes c.args.image.now c.parts-allowed.ensures.allowed, c.requires.read.counted, courses_counted c.args.logs.now c.args.dids.now c.requires.counted)
 
-pub loop-walked-init : goal.loop-walked-init
-loop-walked-init c =
+pub loop-read-init : goal.loop-read-init
+loop-read-init c =
     let nodes : c.in_ok-start.field-0.nodes ≡ c.len.result = ap (λ (t : Traffic). t.nodes) c.in_ok-start.ensures in
     let journal = merged (logged c.args.logs.now) in
     let begins = merging_begins c.args.image.now c.args.params.now (logged c.args.logs.now) c.args.dids.now c.in_ok-start.field-0 c.start-2.result.told
@@ -31,23 +29,33 @@ loop-walked-init c =
     (subst (λ (logs : Logs). IsMerging c.args.image.now c.args.params.now journal [] logs c.in_ok-rests.rests.items c.in_ok-start.field-0 c.start-2.result.told) (sym c.in_ok-events.ensures)
     (subst (λ (dids : List (List Did)). IsMerging c.args.image.now c.args.params.now journal [] (logged c.args.logs.now) dids c.in_ok-start.field-0 c.start-2.result.told) (sym c.in_ok-rests.ensures) begins))
 
+pub tell-requires-clause-here : goal.tell-requires-clause-here
+tell-requires-clause-here c = follows_here c.parts-allowed.ensures.allowed c.requires.read.legal c.loop-read.invariant c.in-Some.ensures.read
+
+pub tell-requires-clause-did : goal.tell-requires-clause-did
+tell-requires-clause-did c =
+    let may = follows_may c.parts-allowed.ensures.allowed c.requires.read.legal c.loop-read.invariant c.in-Some.ensures.read in
+    may.did
+
+pub loop-read-preserved-in-Some : goal.loop-read-preserved-in-Some
+loop-read-preserved-in-Some c =
+    merges_on c.parts-allowed.ensures.allowed c.requires.read.legal c.loop-read.invariant c.in-Some.ensures.read c.in_ok-tell.ensures.journal
+    (told_follows c.in-Some.ensures.plain c.in_ok-tell.ensures.told)
+
 pub follow-requires-clause-here : goal.follow-requires-clause-here
 follow-requires-clause-here c =
-    let read : EventIsReadOff c.loop-walked.events c.in-Some.read c.event.new.sends.items c.event.new.self =
-    subst (λ (o : Option Read). Reads c.loop-walked.events o c.event.new.sends.items c.event.new.self) c.in-Some.is c.in_ok-read.ensures in
-    follows_here c.parts-allowed.ensures.allowed c.requires.read.legal c.loop-walked.invariant read
+    let read = read_off c.in_default.ensures.none c.in-Some-2.is c.in_ok-read.ensures in
+    follows_here c.parts-allowed.ensures.allowed c.requires.read.legal c.loop-read.invariant read
 
 pub follow-requires-clause-follows : goal.follow-requires-clause-follows
 follow-requires-clause-follows c =
-    let read : EventIsReadOff c.loop-walked.events c.in-Some.read c.event.new.sends.items c.event.new.self =
-    subst (λ (o : Option Read). Reads c.loop-walked.events o c.event.new.sends.items c.event.new.self) c.in-Some.is c.in_ok-read.ensures in
-    subst (λ (sends : List (ℕ × Msg)). MayFollow c.loop-walked.walked.links.nodes c.in-Some.read.entry.event sends (dids_at c.loop-walked.rests.items (node_of c.in-Some.read.entry.event))) (sym c.deref.ensures.value)
-    (follows_may c.parts-allowed.ensures.allowed c.requires.read.legal c.loop-walked.invariant read)
+    let read = read_off c.in_default.ensures.none c.in-Some-2.is c.in_ok-read.ensures in
+    subst (λ (sends : List (ℕ × Msg)). MayFollow c.loop-read.walked.links.nodes c.in-Some-2.read.entry.event sends (dids_at c.loop-read.rests.items (node_of c.in-Some-2.read.entry.event))) (sym c.deref.ensures.value)
+    (follows_may c.parts-allowed.ensures.allowed c.requires.read.legal c.loop-read.invariant read)
 
-pub loop-walked-preserved : goal.loop-walked-preserved
-loop-walked-preserved c =
-    let read : EventIsReadOff c.loop-walked.events c.in-Some.read c.event.new.sends.items c.event.new.self =
-    subst (λ (o : Option Read). Reads c.loop-walked.events o c.event.new.sends.items c.event.new.self) c.in-Some.is c.in_ok-read.ensures in
-    let follows = subst (λ (sends : List (ℕ × Msg)). Follows c.args.image.now c.in-Some.read sends c.loop-walked.rests.items c.follow.new.rests.items c.loop-walked.walked.links c.follow.new.walked.links
-    c.loop-walked.walked.tally.told c.follow.new.walked.tally.told) c.deref.ensures.value c.in_ok-follow.ensures.follows in
-    merges_on c.parts-allowed.ensures.allowed c.requires.read.legal c.loop-walked.invariant read c.in_ok-follow.ensures.journal follows
+pub loop-read-preserved : goal.loop-read-preserved
+loop-read-preserved c =
+    let read = read_off c.in_default.ensures.none c.in-Some-2.is c.in_ok-read.ensures in
+    let follows = subst (λ (sends : List (ℕ × Msg)). Follows c.args.image.now c.in-Some-2.read sends c.loop-read.rests.items c.follow.new.rests.items c.loop-read.walked.links c.follow.new.walked.links
+    c.loop-read.walked.tally.told c.follow.new.walked.tally.told) c.deref.ensures.value c.in_ok-follow.ensures.follows in
+    merges_on c.parts-allowed.ensures.allowed c.requires.read.legal c.loop-read.invariant read c.in_ok-follow.ensures.journal follows

@@ -5,8 +5,8 @@ use Rattle.alw_merge.proofs.Walking.{IsMerging}
 use Rattle.alw_merge.proofs.walks.walk.Given as goal
 
 -- the entries so far have been read
-abbrev pub invariant-loop-walked : goal.invariant-loop-walked
-invariant-loop-walked l = IsMerging l.image l.fn.params (merged (logged l.logs)) l.walked.journal l.events l.rests.items l.walked.links l.walked.tally.told
+abbrev pub invariant-loop-read : goal.invariant-loop-read
+invariant-loop-read l = IsMerging l.image l.fn.params (merged (logged l.logs)) l.walked.journal l.events l.rests.items l.walked.links l.walked.tally.told
 
-abbrev pub decreases-loop-walked : goal.decreases-loop-walked
-decreases-loop-walked l = length (merged l.events)
+abbrev pub decreases-loop-read : goal.decreases-loop-read
+decreases-loop-read l = length (merged l.events)
