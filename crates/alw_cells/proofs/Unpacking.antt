@@ -1,6 +1,6 @@
 -- Records are read back, one behind the other.
 use Rattle.std.proofs.Common.{◌≡◌, ℕ, zero, suc, ◌+◌, ◌≤◌, ◌<◌, ◌^◌, Option, Some, None, IsTrue, IfSome, List, [], ◌∷◌, ◌++◌, length, drop}
-use Rattle.std.proofs.Common.{flat_map, refl, sym, subst, ap, ◌∙◌, append_assoc, append-nil, arith}
+use Rattle.std.proofs.Common.{false, is_some, flat_map, refl, sym, subst, ap, ◌∙◌, append_assoc, append-nil, arith}
 use Rattle.std.specs.List.{AllByRecursion}
 use Rattle.std.proofs.lemmas.Bool.{true≢false}
 use Rattle.std.proofs.lemmas.List.{length-append, drop-drop, drop_at}
@@ -201,6 +201,17 @@ put_all logged before front taken back front_is taken_is back_is =
     back_is ∙ (ap (λ (xs : List ℕ). xs ++ back_bytes logged.sent) (taken_is ∙ ap (λ (xs : List ℕ). xs ++ taken_bytes logged.taken) front_is)
     ∙ (append_assoc (before ++ front_bytes logged.entry) (taken_bytes logged.taken) (back_bytes logged.sent)
     ∙ append_assoc before (front_bytes logged.entry) (taken_bytes logged.taken ++ back_bytes logged.sent)))
+
+none_is : (taken : Option Msg) → is_some taken ≡ false → taken ≡ None
+none_is None is = refl
+none_is (Some msg) is = absurd (true≢false is)
+
+-- the record of an event that took and sent nothing
+pub put_none : (logged : Logged) (before after : List ℕ) → is_some logged.taken ≡ false → logged.sent ≡ [] → after ≡ before ++ (front_bytes logged.entry ++ back_bytes [])
+    → after ≡ before ++ record_bytes logged
+unfolding record_bytes taken_bytes
+put_none logged before after none empty is =
+    is ∙ (λ i. before ++ (front_bytes logged.entry ++ (taken_bytes (sym (none_is logged.taken none) i) ++ back_bytes (sym empty i))))
 
 pub packed_more : (number events : ℕ) (bytes after : List ℕ) (room capacity grown : ℕ) (logged : Logged) → ArePacked number events bytes room capacity
     → IsRecord number logged → FitsRecord logged → after ≡ bytes ++ record_bytes logged

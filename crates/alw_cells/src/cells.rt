@@ -119,6 +119,18 @@ impl NodeCell {
         }
     }
 
+    /// Whether an instruction is the one event that a step may take, whatever number picks.
+    #[inline(always)]
+    pub fn is_alone(&self) -> bool
+        ensures { IsTrue result → may_happen self.now (instr_at self.now.node.number) ≡ true }
+    {
+        let node = self.node.number();
+        self.senders.is_empty()
+            && self.node.params().evict() == 0
+            && !self.node.has_packet()
+            && self.may(Event::Instr { node })
+    }
+
     /// A message more at the end of the in list from a node, or all as it was. Bytes that its kind doesn't
     /// carry are left out.
     pub fn take_in(&mut self, from: NodeNo, msg: Msg) -> Result<(), NoMemory>
@@ -295,6 +307,9 @@ impl NodeCell {
     fn deliverable(&self) -> NodeSet
         ensures { (from : ℕ) → has_node (nodes_of result) from ≡ may_happen self.now (delivery from self.now.node.number) }
     {
+        if self.senders.is_empty() {
+            return NodeSet::empty();
+        }
         let mut found = NodeSet::empty();
         let mut rest = self.senders;
         while let Some(from) = rest.lowest() {

@@ -8,7 +8,7 @@ ghost use Rattle.alw_cells.specs.Logs.{reading_of};
 
 use crate::addressed::SentTo;
 use crate::cursors::Cursor;
-use crate::writing::{put_entry, put_sends, put_taken};
+use crate::writing::put_record;
 use alw_msg::{Entry, Event, Msg, Sends};
 use alw_num::{NoMemory, NodeNo, Sequence};
 use std::alloc::Global;
@@ -128,9 +128,7 @@ impl Log {
         requires room { length sent.now.messages < self.old.room }
         ensures { self.new ≡ record { number = self.old.number; entries = self.old.entries ++ record { entry = entry; taken = taken; sent = sent.now.messages } ∷ []; room = 0 } }
     {
-        put_entry(&mut self.bytes, entry);
-        put_taken(&mut self.bytes, taken);
-        put_sends(&mut self.bytes, sent);
+        put_record(&mut self.bytes, entry, taken, sent);
         self.events += 1;
         self.room = 0;
     }

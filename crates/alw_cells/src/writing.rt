@@ -1,16 +1,51 @@
 ghost use Rattle.std.specs.Prelude.{◌≡◌, ◌+◌, ◌*◌, ◌≤◌, ◌<◌, ◌^◌, ◌∷◌, ◌++◌, [], length, flat_map, vec_capacity, IfSome};
 ghost use Rattle.std.specs.List.{AllByRecursion};
 ghost use Rattle.alw_msg.specs.Kinds.{kind_number};
-ghost use Rattle.alw_cells.specs.Layout.{word, half, tag_of, argument_of, body_bytes, taken_bytes, sent_bytes, front_bytes, back_bytes};
-ghost use Rattle.alw_cells.specs.Records.{FitsLine, FitsMsg, FitsSend, FitsEvent};
+ghost use Rattle.alw_cells.specs.Layout.{word, half, tag_of, argument_of, body_bytes, taken_bytes, sent_bytes, front_bytes, back_bytes, record_bytes};
+ghost use Rattle.alw_cells.specs.Records.{FitsLine, FitsMsg, FitsSend, FitsEvent, FitsRecord};
 
 use alw_msg::{Entry, Event, Kind, Msg, Sends};
 use alw_num::Line;
 
-/// The event of a record, with its stamp, goes behind bytes.
+/// The record of an event goes behind bytes. Mostly the event took and sent nothing.
+#[inline(always)]
+pub fn put_record(bytes: &mut Vec<u8>, entry: Entry, taken: Option<Msg>, sent: &Sends)
+    requires room { length bytes.old.items + 38 + 23 * length sent.now.messages ≤ vec_capacity bytes.old }
+    requires few { length sent.now.messages < 2 ^ 16 }
+    ensures items { bytes.new.items ≡ bytes.old.items ++ record_bytes (record { entry = entry; taken = taken; sent = sent.now.messages }) }
+    ensures len { length bytes.new.items ≤ length bytes.old.items + 38 + 23 * length sent.now.messages }
+    ensures room { vec_capacity bytes.old ≤ vec_capacity bytes.new }
+    ensures fits { FitsRecord (record { entry = entry; taken = taken; sent = sent.now.messages }) }
+{
+    if taken.is_none() && sent.is_empty() {
+        put_plain(bytes, entry);
+        return;
+    }
+    put_entry(bytes, entry);
+    put_taken(bytes, taken);
+    put_sends(bytes, sent);
+}
+
+// The record of an event that took and sent nothing goes behind bytes.
+#[tactic(auto, unfolding(crate::specs::Layout::front_bytes, crate::specs::Layout::back_bytes, crate::specs::Layout::word, crate::specs::Layout::half))]
+#[inline(always)]
+fn put_plain(bytes: &mut Vec<u8>, entry: Entry)
+    requires { length bytes.old.items + 11 ≤ vec_capacity bytes.old }
+    ensures items { bytes.new.items ≡ bytes.old.items ++ (front_bytes entry ++ back_bytes []) }
+    ensures len { length bytes.new.items ≡ length bytes.old.items + 11 }
+    ensures room { vec_capacity bytes.old ≤ vec_capacity bytes.new }
+    ensures stamp { entry.stamp < 2 ^ 32 }
+    ensures event { FitsEvent entry.event }
+{
+    let [a, b, c, d] = entry.stamp.to_be_bytes();
+    let [e, f, g, h] = argument(entry.event).to_be_bytes();
+    put_bytes(bytes, &[a, b, c, d, tag(entry.event), e, f, g, h, 0, 0]);
+}
+
+// The event of a record, with its stamp, goes behind bytes.
 #[tactic(auto, unfolding(crate::specs::Layout::front_bytes))]
 #[inline(always)]
-pub fn put_entry(bytes: &mut Vec<u8>, entry: Entry)
+fn put_entry(bytes: &mut Vec<u8>, entry: Entry)
     requires { length bytes.old.items + 9 ≤ vec_capacity bytes.old }
     ensures items { bytes.new.items ≡ bytes.old.items ++ front_bytes entry }
     ensures len { length bytes.new.items ≡ length bytes.old.items + 9 }
@@ -23,10 +58,10 @@ pub fn put_entry(bytes: &mut Vec<u8>, entry: Entry)
     put_word(bytes, argument(entry.event));
 }
 
-/// The message that an event took goes behind bytes, where it took one.
+// The message that an event took goes behind bytes, where it took one.
 #[tactic(auto, unfolding(crate::specs::Layout::taken_bytes))]
 #[inline(always)]
-pub fn put_taken(bytes: &mut Vec<u8>, taken: Option<Msg>)
+fn put_taken(bytes: &mut Vec<u8>, taken: Option<Msg>)
     requires { length bytes.old.items + 27 ≤ vec_capacity bytes.old }
     ensures items { bytes.new.items ≡ bytes.old.items ++ taken_bytes taken }
     ensures len { length bytes.new.items ≤ length bytes.old.items + 27 }
@@ -42,9 +77,9 @@ pub fn put_taken(bytes: &mut Vec<u8>, taken: Option<Msg>)
     }
 }
 
-/// The messages that an event sent go behind bytes, and their number before them.
+// The messages that an event sent go behind bytes, and their number before them.
 #[inline(always)]
-pub fn put_sends(bytes: &mut Vec<u8>, sent: &Sends)
+fn put_sends(bytes: &mut Vec<u8>, sent: &Sends)
     requires room { length bytes.old.items + 2 + 23 * length sent.now.messages ≤ vec_capacity bytes.old }
     requires few { length sent.now.messages < 2 ^ 16 }
     ensures items { bytes.new.items ≡ bytes.old.items ++ back_bytes sent.now.messages }
@@ -143,11 +178,7 @@ fn put_word(bytes: &mut Vec<u8>, number: u32)
     ensures len { length bytes.new.items ≡ length bytes.old.items + 4 }
     ensures room { vec_capacity bytes.old ≤ vec_capacity bytes.new }
 {
-    let [first, second, third, fourth] = number.to_be_bytes();
-    put_byte(bytes, first);
-    put_byte(bytes, second);
-    put_byte(bytes, third);
-    put_byte(bytes, fourth);
+    put_bytes(bytes, &number.to_be_bytes());
 }
 
 // A number in two bytes goes behind others.
@@ -159,9 +190,21 @@ fn put_half(bytes: &mut Vec<u8>, number: u16)
     ensures len { length bytes.new.items ≡ length bytes.old.items + 2 }
     ensures room { vec_capacity bytes.old ≤ vec_capacity bytes.new }
 {
-    let [first, second] = number.to_be_bytes();
-    put_byte(bytes, first);
-    put_byte(bytes, second);
+    put_bytes(bytes, &number.to_be_bytes());
+}
+
+// Bytes go behind others, for which there is room.
+#[inline(always)]
+fn put_bytes(bytes: &mut Vec<u8>, more: &[u8])
+    requires { length bytes.old.items + length more.now ≤ vec_capacity bytes.old }
+    ensures items { bytes.new.items ≡ bytes.old.items ++ more.now }
+    ensures len { length bytes.new.items ≡ length bytes.old.items + length more.now }
+    ensures room { vec_capacity bytes.old ≤ vec_capacity bytes.new }
+{
+    match bytes.extend_from_slice(more) {
+        Ok(()) => {}
+        Err(_) => unreachable!(),
+    }
 }
 
 // A byte goes behind others.

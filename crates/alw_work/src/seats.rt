@@ -113,6 +113,21 @@ impl<I: Naming> Locked<I> {
         Ok(has_acted)
     }
 
+    /// Takes instructions in a row, as long as each is the one event that the node may take and nothing is
+    /// sent: at most so many. What comes meanwhile is taken in by the next turn. Answers whether the node
+    /// did anything, which no clause says.
+    #[inline(always)]
+    pub fn run(&mut self, most: u32) -> Result<bool, NoMemory> {
+        let mut has_acted = false;
+        for _ in 0..most {
+            if self.trapped || self.cell.first_out().is_some() || !self.cell.is_alone() {
+                break;
+            }
+            has_acted |= self.act(0)?;
+        }
+        Ok(has_acted)
+    }
+
     // Takes in what has come. Mostly no link is marked.
     #[inline(always)]
     fn take_in<R: Wait>(&mut self, rt: &R, links: &[Link], signs: &Signs) -> Result<(), NoMemory>

@@ -16,7 +16,10 @@ use std::thread::Threads;
 const MOST_IDLE: u32 = 1024;
 
 // The most turns that a worker takes at a node before it gives the node back.
-const MOST_TURNS: u32 = 64;
+const MOST_TURNS: u32 = 16;
+
+// The most instructions that run in a row before a turn.
+const MOST_RUN: u32 = 64;
 
 /// Steps so many nodes on so many threads, until each worker has ended. Where a thread can't be made its
 /// worker works when the others have ended.
@@ -110,6 +113,7 @@ fn visit<I: Naming, R: Wait, G: Gate>(
     let mut seat = lock.lock(rt);
     let mut has_acted = false;
     for _ in 0..MOST_TURNS {
+        has_acted |= run(&mut seat, signs)?;
         if !turn(rt, &mut seat, links, signs, draws.draw())? {
             return Ok(has_acted);
         }
@@ -119,6 +123,16 @@ fn visit<I: Naming, R: Wait, G: Gate>(
         }
     }
     Ok(has_acted)
+}
+
+// Instructions in a row at a node. Answers whether there was any. Want of memory stops all workers.
+#[inline(always)]
+fn run<I: Naming>(seat: &mut Locked<I>, signs: &Signs) -> Result<bool, NoMemory> {
+    let ran = seat.run(MOST_RUN);
+    if ran.is_err() {
+        signs.stop();
+    }
+    ran
 }
 
 // One turn at a node. Answers whether the node did anything. Want of memory stops all workers.

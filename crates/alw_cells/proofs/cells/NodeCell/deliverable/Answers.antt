@@ -18,3 +18,9 @@ loop-from-preserved c = found_more (λ from. may_happen c.args.self.now (deliver
 
 pub returns : goal.returns
 returns c = found_all (λ from. may_happen c.args.self.now (delivery from c.args.self.now.node.number)) (nodes_of c.loop-from.found) (nodes_of c.loop-from.rest) c.loop-from.invariant (c.in_default.ensures.none.0 refl)
+
+pub returns-then-is_empty : goal.returns-then-is_empty
+returns-then-is_empty c =
+    let start = found_start c.args.self.now c.self.inside.senders (nodes_of c.empty.result)
+    (subst (λ (v : Cell). AreSenders v.come c.self.inside.senders) c.self.view_is c.self.invariant.kept.sent_by) c.empty.ensures in
+    found_all (λ from. may_happen c.args.self.now (delivery from c.args.self.now.node.number)) (nodes_of c.empty.result) (nodes_of c.self.inside.senders) start (c.is_empty.ensures.0 c.if-is_empty.true)
