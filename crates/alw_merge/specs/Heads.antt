@@ -1,11 +1,12 @@
 -- Heads of logs as numbers: some are due, in order, the others wait in a heap, and the least of all comes first.
-use Rattle.std.specs.Prelude.{◌≡◌, ℕ, ◌≤◌, ◌+◌, ◌==◌, nat_lt, nat_le, ⊤, Bool, true, false, cond, Option, Some, None, List, [], ◌∷◌, map}
+use Rattle.std.specs.Prelude.{◌≡◌, ℕ, ◌≤◌, ◌+◌, ◌==◌, nat_lt, nat_le, ⊤, Bool, true, false, cond, Option, Some, None, IfSome, List, [], ◌∷◌, map}
 use Rattle.std.specs.List.{AllByRecursion}
 use Rattle.std.specs.BinaryHeap.{IsHeap}
 use Rattle.std.specs.Ordering.{nat_cmp}
 use Rattle.std.specs.declared.cmp.Ordering.{Ordering}
 use Rattle.std.specs.declared.cmp.Reverse.{Reverse}
 use Rattle.alw_num.specs.Weights.{digit, weigh}
+use Rattle.alw_msg.specs.Lists.{front}
 
 -- the heads, in an order that says nothing, and how many there may be
 pub record Waiting : Type 0 where
@@ -40,11 +41,14 @@ abbrev pub IsInOrder : List ℕ → Type 0
 IsInOrder [] = ⊤
 IsInOrder (head ∷ rest) = AllByRecursion (λ (later : ℕ). head ≤ later) rest × IsInOrder rest
 
--- those that are due are in order, and none is above the latest of them; the others are a heap; and there is room for all in either
-pub record HeadsAreKept (most latest : ℕ) (due : List ℕ) (room : ℕ) (heap : List (Reverse ℕ)) (capacity : ℕ) : Type 0 where
+-- those that are due are in order, and none is above the latest of them; the others are a heap, whose top is kept, before which none of them
+-- comes; and there is room for all in either
+pub record HeadsAreKept (most latest : ℕ) (due : List ℕ) (room : ℕ) (top : Option ℕ) (heap : List (Reverse ℕ)) (capacity : ℕ) : Type 0 where
   pub in_order : IsInOrder due
   pub latest_is : AllByRecursion (λ (head : ℕ). head ≤ latest) due
   pub heap_order : IsHeap heap_cmp heap
+  pub top_is : top ≡ front (heads_in heap)
+  pub top_first : IfSome top (λ top. NoneBefore top (heads_in heap))
   pub due_room : most ≤ room
   pub heap_room : most ≤ capacity
 

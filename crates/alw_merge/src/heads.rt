@@ -22,6 +22,7 @@ pub struct Heads {
     most: u32,
     latest: u64,
     due: VecDeque<u64>,
+    top: Option<u64>,
     heap: BinaryHeap<Reverse<u64>>,
 }
 
@@ -35,7 +36,7 @@ impl Model for Heads {
 
     ghost view = { λ h. record { heads = h.due.items ++ heads_in (heap_items h.heap); most = h.most } };
 
-    ghost invariant = { λ h. HeadsAreKept h.most h.latest h.due.items (deque_capacity h.due) (heap_items h.heap) (heap_capacity h.heap) };
+    ghost invariant = { λ h. HeadsAreKept h.most h.latest h.due.items (deque_capacity h.due) h.top (heap_items h.heap) (heap_capacity h.heap) };
 }
 
 impl Heads {
@@ -47,6 +48,7 @@ impl Heads {
             most,
             latest: 0,
             due: VecDeque::with_capacity(alloc, most as usize)?,
+            top: None,
             heap: BinaryHeap::with_capacity(alloc, most as usize)?,
         })
     }
@@ -58,11 +60,10 @@ impl Heads {
         ensures least { IfSome result (λ head. IsLeast head self.now.heads) }
     {
         let first = front_of(&self.due);
-        let top = top_of(&self.heap);
-        if is_due(first, top) {
+        if is_due(first, self.top) {
             return first;
         }
-        top
+        self.top
     }
 
     /// Takes the least head off.
@@ -73,12 +74,12 @@ impl Heads {
         ensures most { self.new.most ≡ self.old.most }
     {
         let first = front_of(&self.due);
-        let top = top_of(&self.heap);
-        if is_due(first, top) {
+        if is_due(first, self.top) {
             let _first = self.due.pop_front();
             return;
         }
         let _top = take_top(&mut self.heap);
+        self.top = top_of(&self.heap);
     }
 
     /// One head more, of the log whose last head was another. It takes no memory.
@@ -90,6 +91,7 @@ impl Heads {
     {
         if head < self.latest || head.wrapping_sub(last) > NEXT_STAMP {
             put(&mut self.heap, head);
+            self.top = top_of(&self.heap);
             return;
         }
         self.due.push_back_reserved(head);

@@ -9,35 +9,35 @@ use Rattle.alw_merge.proofs.heads.Heads.least.Goals as goal
 pub returns-then-is_due-clause-none : goal.returns-then-is_due-clause-none
 returns-then-is_due-clause-none c =
     let first = c.front_of-first.result in
-    let top = c.top_of-top.result in
+    let top = c.self.inside.top in
     let is = sym (ap (λ b. cond b first top) (sym c.is_due.ensures ∙ c.if-is_due.true)) in
     subst (λ (w : Waiting). IfNone first (w.heads ≡ [])) c.self.view_is
-    (least_is c.self.inside.due.items (heads_in (heap_items c.self.inside.heap)) first top first c.self.invariant.in_order c.front_of-first.ensures c.top_of-top.ensures.top
-    (c.top_of-top.ensures.least c.self.invariant.heap_order) is).1
+    (least_is c.self.inside.due.items (heads_in (heap_items c.self.inside.heap)) first top first c.self.invariant.in_order c.front_of-first.ensures c.self.invariant.top_is
+    c.self.invariant.top_first is).1
 
 pub returns-then-is_due-clause-least : goal.returns-then-is_due-clause-least
 returns-then-is_due-clause-least c =
     let first = c.front_of-first.result in
-    let top = c.top_of-top.result in
+    let top = c.self.inside.top in
     let is = sym (ap (λ b. cond b first top) (sym c.is_due.ensures ∙ c.if-is_due.true)) in
     subst (λ (w : Waiting). IfSome first (λ head. IsLeast head w.heads)) c.self.view_is
-    (least_is c.self.inside.due.items (heads_in (heap_items c.self.inside.heap)) first top first c.self.invariant.in_order c.front_of-first.ensures c.top_of-top.ensures.top
-    (c.top_of-top.ensures.least c.self.invariant.heap_order) is).0
+    (least_is c.self.inside.due.items (heads_in (heap_items c.self.inside.heap)) first top first c.self.invariant.in_order c.front_of-first.ensures c.self.invariant.top_is
+    c.self.invariant.top_first is).0
 
 pub returns-clause-none : goal.returns-clause-none
 returns-clause-none c =
     let first = c.front_of-first.result in
-    let top = c.top_of-top.result in
+    let top = c.self.inside.top in
     let is = sym (ap (λ b. cond b first top) (sym c.is_due.ensures ∙ c.if-is_due.false)) in
     subst (λ (w : Waiting). IfNone top (w.heads ≡ [])) c.self.view_is
-    (least_is c.self.inside.due.items (heads_in (heap_items c.self.inside.heap)) first top top c.self.invariant.in_order c.front_of-first.ensures c.top_of-top.ensures.top
-    (c.top_of-top.ensures.least c.self.invariant.heap_order) is).1
+    (least_is c.self.inside.due.items (heads_in (heap_items c.self.inside.heap)) first top top c.self.invariant.in_order c.front_of-first.ensures c.self.invariant.top_is
+    c.self.invariant.top_first is).1
 
 pub returns-clause-least : goal.returns-clause-least
 returns-clause-least c =
     let first = c.front_of-first.result in
-    let top = c.top_of-top.result in
+    let top = c.self.inside.top in
     let is = sym (ap (λ b. cond b first top) (sym c.is_due.ensures ∙ c.if-is_due.false)) in
     subst (λ (w : Waiting). IfSome top (λ head. IsLeast head w.heads)) c.self.view_is
-    (least_is c.self.inside.due.items (heads_in (heap_items c.self.inside.heap)) first top top c.self.invariant.in_order c.front_of-first.ensures c.top_of-top.ensures.top
-    (c.top_of-top.ensures.least c.self.invariant.heap_order) is).0
+    (least_is c.self.inside.due.items (heads_in (heap_items c.self.inside.heap)) first top top c.self.invariant.in_order c.front_of-first.ensures c.self.invariant.top_is
+    c.self.invariant.top_first is).0

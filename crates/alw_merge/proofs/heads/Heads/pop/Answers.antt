@@ -14,6 +14,8 @@ invariant_of-self c =
       in_order = subst IsInOrder (sym c.pop_front-first.ensures.rest) left.0;
       latest_is = subst (AllByRecursion (λ (one : ℕ). one ≤ c.self.inside.latest)) (sym c.pop_front-first.ensures.rest) left.1;
       heap_order = was.heap_order;
+      top_is = was.top_is;
+      top_first = was.top_first;
       due_room = omega (arith, was.due_room, c.pop_front-first.ensures.capacity);
       heap_room = was.heap_room;
     }
@@ -25,8 +27,8 @@ returns-then-is_due-clause-rest c =
     let rest = c.pop_front-first.new.self.items in
     let least = subst (λ (w : Waiting). IsLeast c.args.head w.heads) (sym c.self.view_is) c.requires in
     subst (λ (w : Waiting). HaveJoined (rest ++ others) (c.args.head ∷ []) w.heads) c.self.view_is
-    (due_popped due others rest c.front_of-first.result c.top_of-top.result c.args.head c.self.invariant.in_order c.front_of-first.ensures c.top_of-top.ensures.top
-    (c.top_of-top.ensures.least c.self.invariant.heap_order) least (sym c.is_due.ensures ∙ c.if-is_due.true) c.pop_front-first.ensures.rest)
+    (due_popped due others rest c.front_of-first.result c.self.inside.top c.args.head c.self.invariant.in_order c.front_of-first.ensures c.self.invariant.top_is
+    c.self.invariant.top_first least (sym c.is_due.ensures ∙ c.if-is_due.true) c.pop_front-first.ensures.rest)
 
 pub returns-clause-rest : goal.returns-clause-rest
 returns-clause-rest c =
@@ -35,5 +37,5 @@ returns-clause-rest c =
     let rest = heads_in (heap_items c.take_top-top.new.heap) in
     let least = subst (λ (w : Waiting). IsLeast c.args.head w.heads) (sym c.self.view_is) c.requires in
     subst (λ (w : Waiting). HaveJoined (due ++ rest) (c.args.head ∷ []) w.heads) c.self.view_is
-    (heap_popped due others rest c.front_of-first.result c.top_of-top.result c.args.head c.self.invariant.in_order c.front_of-first.ensures c.top_of-top.ensures.top
-    (c.top_of-top.ensures.least c.self.invariant.heap_order) least c.take_top-top.result (sym c.is_due.ensures ∙ c.if-is_due.false) c.take_top-top.ensures.top c.take_top-top.ensures.rest)
+    (heap_popped due others rest c.front_of-first.result c.self.inside.top c.args.head c.self.invariant.in_order c.front_of-first.ensures c.self.invariant.top_is
+    c.self.invariant.top_first least c.take_top-top.result (sym c.is_due.ensures ∙ c.if-is_due.false) c.take_top-top.ensures.top c.take_top-top.ensures.rest)

@@ -30,6 +30,8 @@ invariant_of-self-2 c =
       in_order = subst IsInOrder (sym c.push_back_reserved.ensures.items) order.0;
       latest_is = subst (AllByRecursion (λ (one : ℕ). one ≤ c.args.head)) (sym c.push_back_reserved.ensures.items) order.1;
       heap_order = was.heap_order;
+      top_is = was.top_is;
+      top_first = was.top_first;
       due_room = omega (arith, was.due_room, c.push_back_reserved.ensures.capacity);
       heap_room = was.heap_room;
     }
