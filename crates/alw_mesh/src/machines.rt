@@ -14,10 +14,12 @@ use alw_tally::Tally;
 use std::alloc::Global;
 use std::marker::Model;
 
-/// What an event did, and whether it is known to have been a quiet turn within the limit.
+/// What `Machine::pass` answers of an event.
 #[derive(Clone, Copy, PartialEq, Eq)]
 pub struct Passed {
+    /// What it did.
     pub did: Did,
+    /// Whether it is known to have been a quiet turn within the limit. Where it is false nothing is known.
     pub quiet: bool,
 }
 
