@@ -1,4 +1,4 @@
-ghost use Rattle.std.specs.Prelude.{◌≡◌, ◌<◌, ◌^◌, slice_get, IfSome};
+ghost use Rattle.std.specs.Prelude.{◌≡◌, ◌<◌, ◌^◌, length, slice_get, IfSome};
 ghost use Rattle.std.specs.Option.{option_map};
 ghost use Rattle.alw_msg.specs.Lists.{front, behind};
 ghost use Rattle.alw_cells.specs.Records.{records_in, HasRecords};
@@ -45,6 +45,13 @@ impl<'a> Cursor<'a> {
             left: count,
             rest: bytes,
         }
+    }
+
+    /// The number of events behind the one given last.
+    pub fn left(&self) -> u32
+        ensures { result ≡ length self.now.left }
+    {
+        self.left
     }
 
     /// The next event's entry. None exactly at the end.

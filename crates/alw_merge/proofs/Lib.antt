@@ -1,8 +1,14 @@
 pub mod Whole
 pub mod Leasts
+pub mod Skipping
 pub mod Merging
 pub mod Stepping
 pub mod Courses
 pub mod Walking
+pub mod Moving
 pub mod Joining
+pub mod Spanning
+pub mod Behind
 pub mod TrapTurns
+pub mod Spanned
+pub mod Left

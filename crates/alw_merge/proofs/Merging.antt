@@ -4,7 +4,7 @@ use Rattle.std.proofs.Common.{[], ◌∷◌, ◌++◌, map, flat_map, length, ta
 use Rattle.std.specs.List.{AllByRecursion}
 use Rattle.std.specs.Prelude.{IfSome}
 use Rattle.std.specs.Option.{option_map}
-use Rattle.std.proofs.lemmas.List.{length-set, length-append, map-append, take_all}
+use Rattle.std.proofs.lemmas.List.{length-set, length-append, map-append}
 use Rattle.alw_num.specs.Weights.{digit, weigh}
 use Rattle.alw_num.proofs.Weigh.{weigh-append, weigh-one}
 use Rattle.std.proofs.lemmas.Bool.{eqb-true}
@@ -14,10 +14,12 @@ use Rattle.alw_msg.specs.declared.events.Entry.{Entry}
 use Rattle.alw_msg.specs.Events.{node_of}
 use Rattle.alw_model.specs.Threads.{Logged, is_before, placed, in_order, merged}
 use Rattle.alw_msg.specs.Lists.{front, behind}
-use Rattle.alw_cells.specs.Logs.{Written, logged, Reading, reading_of, after_next, entry_of}
+use Rattle.alw_cells.specs.Logs.{Written, logged, Reading, after_next, entry_of}
 use Rattle.alw_cells.specs.Records.{Ascends}
 use Rattle.alw_merge.specs.Heads.{Waiting, NoneBefore, IsLeast, HaveJoined}
+use Rattle.alw_merge.specs.Spans.{log_from, logs_from}
 use Rattle.alw_merge.specs.Streams.{left_of, all_left, key_of, head_in, heads_from, LogIsRead, AreHeads, StreamIsUnderWay, heads_of, GoesOn}
+use Rattle.alw_merge.proofs.Skipping.{next_ends, next_ascends}
 
 -- ---- one entry taken out of others
 
@@ -325,24 +327,8 @@ read_at [] k reading there are = absurd (cc)
 read_at (first ∷ rest) zero reading there are = subst LogIsRead (same_Some first reading there) are.0
 read_at (first ∷ rest) (suc k) reading there are = read_at rest k reading there are.1
 
--- the first of a list that ascends is read
-read_first : (given : Option Logged) (left : List Logged) → Ascends left → HasNode (front left) → LogIsRead (after_next (record { given = given; left = left }))
-read_first given left ascends node = record { ends = ends left; ascends = rises left ascends; node = node }
-  where
-    ends : (left : List Logged) → front left ≡ None → behind left ≡ []
-    ends [] none = refl
-    ends (first ∷ rest) none = absurd (cc)
-
-    rises : (left : List Logged) → Ascends left → Ascends (option_to_list (front left) ++ behind left)
-    rises [] ascends = tt
-    rises (first ∷ rest) ascends = ascends
-
 read_next : (reading : Reading) → LogIsRead reading → HasNode (front reading.left) → LogIsRead (after_next reading)
-read_next reading is node = read_first reading.given reading.left (later reading.given is.ascends) node
-  where
-    later : (given : Option Logged) → Ascends (option_to_list given ++ reading.left) → Ascends reading.left
-    later None ascends = ascends
-    later (Some first) ascends = ascends.1
+read_next reading is node = record { ends = next_ends reading.left; ascends = next_ascends reading is.ascends; node = node }
 
 pub below : (readings : List Reading) (k : ℕ) (reading : Reading) → slice_get readings k ≡ Some reading → k < length readings
 below [] k reading there = absurd (cc)
@@ -399,14 +385,6 @@ goes_to_next readings waiting rest again head after at under popped most goes =
     its f =
         let place : 0 + at.k ≡ at.k = omega arith in
         λ x. weigh f (head_in (place x) (goes.reading_is x).given)
-
--- what a reader's next entry says of the log
-pub node_of_front : (left : List Logged) (entry : Option Entry) → entry ≡ option_map entry_of (front left) → IfSome entry (λ e. node_of e.event < 65536) → HasNode (front left)
-node_of_front left entry is node = by_front (front left) (subst (λ (o : Option Entry). IfSome o (λ e. node_of e.event < 65536)) is node)
-  where
-    by_front : (o : Option Logged) → IfSome (option_map entry_of o) (λ e. node_of e.event < 65536) → HasNode o
-    by_front None node = node
-    by_front (Some logged) node = node
 
 -- there are no more heads than logs
 pub heads_few : (readings : List Reading) (heads : List ℕ) → AreHeads readings heads → length heads ≤ length readings
@@ -466,36 +444,34 @@ head_there : (f : ℕ → ℕ) (log : ℕ) (o : Option Logged) → weigh f (head
 head_there f log None = refl
 head_there f log (Some logged) = refl
 
--- one log more, of which the first entry has been read
-pub one_more : (readings : List Reading) (waiting again : Waiting) (log : List Logged) (reading : Reading) (entry : Option Entry) → StreamIsUnderWay readings waiting → Ascends log
-    → reading ≡ after_next (reading_of log) → entry ≡ option_map entry_of (front log) → HaveJoined waiting.heads (heads_of (length readings) entry) again.heads → again.most ≡ waiting.most
-    → length readings + 1 ≤ waiting.most → length readings + 1 ≤ 65536 → HasNode (front log)
+-- what the entry of the event given last says of it
+node_of_given : (given : Option Logged) (entry : Option Entry) → entry ≡ option_map entry_of given → IfSome entry (λ e. node_of e.event < 65536) → HasNode given
+node_of_given None entry is node = tt
+node_of_given (Some logged) entry is node = subst (λ (o : Option Entry). IfSome o (λ e. node_of e.event < 65536)) is node
+
+-- one log more, of which an event has been given, if there is one
+pub one_more : (readings : List Reading) (waiting again : Waiting) (reading : Reading) (entry : Option Entry) → StreamIsUnderWay readings waiting
+    → (reading.given ≡ None → reading.left ≡ []) → Ascends (left_of reading) → entry ≡ option_map entry_of reading.given → IfSome entry (λ e. node_of e.event < 65536)
+    → HaveJoined waiting.heads (heads_of (length readings) entry) again.heads → again.most ≡ waiting.most → length readings + 1 ≤ waiting.most → length readings + 1 ≤ 65536
     → StreamIsUnderWay (readings ++ reading ∷ []) again
-one_more readings waiting again log reading entry under ascends reading_is entry_is joins most room few node =
+one_more readings waiting again reading entry under ends ascends entry_is node joins most room few =
     let same = length-append readings (reading ∷ []) in
     record {
-      heads = λ f.
-          let given : weigh f (head_in (0 + length readings) reading.given) ≡ weigh f (heads_of (length readings) entry) = own f log reading_is entry_is in
-          omega (arith, heads_push f readings 0 reading, given, under.heads f, joins f);
-      read = read_push readings reading under.read (subst LogIsRead (sym reading_is) (read_first None log ascends node));
+      heads = λ f. omega (arith, heads_push f readings 0 reading, own f, under.heads f, joins f);
+      read = read_push readings reading under.read (record { ends = ends; ascends = ascends; node = node_of_given reading.given entry entry_is node });
       room = omega (arith, same, room, most);
       few = omega (arith, same, few);
     }
   where
-    own : (f : ℕ → ℕ) (log : List Logged) → reading ≡ after_next (reading_of log) → entry ≡ option_map entry_of (front log)
-        → weigh f (head_in (0 + length readings) reading.given) ≡ weigh f (heads_of (length readings) entry)
-    own f log reading_is entry_is =
+    own : (f : ℕ → ℕ) → weigh f (head_in (0 + length readings) reading.given) ≡ weigh f (heads_of (length readings) entry)
+    own f =
         let place : 0 + length readings ≡ length readings = omega arith in
-        (λ x. weigh f (head_in (place x) (reading_is x).given)) ∙ (head_there f (length readings) (front log)
-        ∙ sym (ap (λ (o : Option Entry). weigh f (heads_of (length readings) o)) entry_is))
+        ap (λ (n : ℕ). weigh f (head_in n reading.given)) place
+        ∙ (head_there f (length readings) reading.given ∙ sym (ap (λ (o : Option Entry). weigh f (heads_of (length readings) o)) entry_is))
 
 entries_by : (readings : List Reading) → entries_left readings ≡ flat_map (map entry_of) (map left_of readings)
 entries_by [] = refl
 entries_by (first ∷ rest) = ap (λ (entries : List Entry). map entry_of (left_of first) ++ entries) (entries_by rest)
-
-left_first : (log : List Logged) → left_of (after_next (reading_of log)) ≡ log
-left_first [] = refl
-left_first (first ∷ rest) = refl
 
 take_next : (logs : List Written) (at : ℕ) (log : Written) → slice_get logs at ≡ Some log → take (at + 1) logs ≡ take at logs ++ log ∷ []
 take_next [] at log is = absurd (cc)
@@ -503,21 +479,17 @@ take_next (first ∷ rest) zero log is = ap (λ (one : Written). one ∷ []) (sa
 take_next (first ∷ rest) (suc at) log is = let e : suc at + 1 ≡ suc (at + 1) =
     omega arith in rw e (ap (λ (xs : List Written). first ∷ xs) (take_next rest at log is))
 
-pub lefts_more : (readings : List Reading) (logs : List Written) (at : ℕ) (log : Written) (reading : Reading)
-    → map left_of readings ≡ map (λ (one : Written). one.entries) (take at logs) → slice_get logs at ≡ Some log
-    → reading ≡ after_next (reading_of log.entries) → map left_of (readings ++ reading ∷ []) ≡ map (λ (one : Written). one.entries) (take (at + 1) logs)
-lefts_more readings logs at log reading so_far there reading_is =
-    let own : left_of reading ≡ log.entries = ap left_of reading_is ∙ left_first log.entries in
-    map-append left_of readings (reading ∷ []) ∙ ((λ x. so_far x ++ own x ∷ [])
-    ∙ (sym (map-append (λ (one : Written). one.entries) (take at logs) (log ∷ []))
-    ∙ ap (map (λ (one : Written). one.entries)) (sym (take_next logs at log there))))
+-- of one log more, what is left is from the stamp on
+pub lefts_more : (stamp : ℕ) (readings : List Reading) (logs : List Written) (at : ℕ) (log : Written) (reading : Reading)
+    → map left_of readings ≡ logs_from stamp (logged (take at logs)) → slice_get logs at ≡ Some log → left_of reading ≡ log_from stamp log.entries
+    → map left_of (readings ++ reading ∷ []) ≡ logs_from stamp (logged (take (at + 1) logs))
+lefts_more stamp readings logs at log reading so_far there left_is =
+    map-append left_of readings (reading ∷ []) ∙ ((λ x. so_far x ++ left_is x ∷ [])
+    ∙ (sym (map-append (log_from stamp) (logged (take at logs)) (log.entries ∷ []))
+    ∙ (sym (ap (logs_from stamp) (map-append (λ (one : Written). one.entries) (take at logs) (log ∷ [])))
+    ∙ ap (λ (all : List Written). logs_from stamp (logged all)) (sym (take_next logs at log there)))))
 
 -- what is left of all logs, merged
 pub left_merged : (readings : List Reading) → all_left readings ≡ merged (map left_of readings)
 unfolding merged
 left_merged readings = ap in_order (entries_by readings)
-
--- all of all logs is left
-pub all_there : (readings : List Reading) (logs : List Written) (at : ℕ) → length logs ≤ at
-    → map left_of readings ≡ map (λ (one : Written). one.entries) (take at logs) → map left_of readings ≡ logged logs
-all_there readings logs at all so_far = so_far ∙ ap (map (λ (one : Written). one.entries)) (take_all at logs all)

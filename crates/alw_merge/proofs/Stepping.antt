@@ -1,5 +1,5 @@
 -- A step of logs that are read side by side: the log of the least head goes on.
-use Rattle.std.proofs.Common.{◌≡◌, ℕ, ◌+◌, ◌*◌, ◌<◌, Option, true, not, ◌&&◌, ◌==◌, Some, None, is_some, IfSome, option_to_list, List, [], ◌∷◌, ◌++◌, map, length, slice_get, get_or, set, refl, sym, subst, ap, ◌∙◌, arith}
+use Rattle.std.proofs.Common.{◌≡◌, ℕ, ◌+◌, ◌*◌, ◌<◌, nat_le, Option, true, false, not, ◌&&◌, ◌==◌, Some, None, is_some, IfSome, option_to_list, List, [], ◌∷◌, ◌++◌, map, length, slice_get, get_or, set, refl, sym, subst, ap, ◌∙◌, arith}
 use Rattle.std.specs.Option.{option_map}
 use Rattle.std.proofs.lemmas.Bool.{true≢false, eqb-true}
 use Rattle.std.proofs.lemmas.List.{map-set, length-map, get_or-map}
@@ -14,8 +14,10 @@ use Rattle.alw_model.specs.Threads.{Logged, Logs, log_at, merged}
 use Rattle.alw_cells.specs.Logs.{Reading, after_next, taken_of, sent_of, entry_of}
 use Rattle.alw_cells.specs.Plain.{is_instr, is_plain}
 use Rattle.alw_merge.specs.Heads.{Waiting, IsLeast, HaveJoined}
+use Rattle.alw_merge.specs.Spans.{is_behind}
 use Rattle.alw_merge.specs.Streams.{left_of, all_left, StreamIsUnderWay, GoesOn, EventIsReadOff, IsPlain}
 use Rattle.alw_merge.proofs.Leasts.{joined_length}
+use Rattle.alw_merge.proofs.Skipping.{next_left}
 use Rattle.alw_merge.proofs.Merging.{Stands, stands, below, read_at, goes_to_next, heads_few, left_merged, nothing_left}
 
 -- an instruction that took and sent nothing
@@ -37,6 +39,30 @@ plain_event one plain =
     parts (Deliver from to) taken sent is = absurd (true≢false (sym is))
     parts (Handle node) taken sent is = absurd (true≢false (sym is))
     parts (Evict node set) taken sent is = absurd (true≢false (sym is))
+
+-- the node of the least head has 16 bits
+head_node : (readings : List Reading) (waiting : Waiting) (head : ℕ) → StreamIsUnderWay readings waiting → (at : Stands readings head) → node_of at.one.entry.event < 65536
+head_node readings waiting head under at =
+    subst (λ (o : Option Logged). IfSome o (λ logged. node_of (entry_of logged).event < 65536)) at.given (read_at readings at.k at.reading at.there under.read).node
+
+-- whether an end is behind the entry that comes next
+module _ {readings : List Reading} {waiting : Waiting} {head : ℕ} (under : StreamIsUnderWay readings waiting) (least : IsLeast head waiting.heads) where
+  next : Stands readings head
+  next = stands readings waiting head under least
+
+  comes : front (merged (map left_of readings)) ≡ Some next.one.entry
+  comes = ap front (sym (left_merged readings) ∙ next.first)
+
+  -- as the least head's stamp says
+  pub stamp_is_behind : {least_stamp : ℕ} → ((stamp node log : ℕ) → node < 65536 → log < 65536 → head ≡ (stamp * 65536 + node) * 65536 + log → least_stamp ≡ stamp) → (end : ℕ)
+      → nat_le end least_stamp ≡ is_behind (Some end) (front (merged (map left_of readings)))
+  stamp_is_behind stamp_is end =
+      ap (nat_le end) (stamp_is next.one.entry.stamp (node_of next.one.entry.event) next.k (head_node readings waiting head under next) next.few next.key)
+      ∙ sym (ap (is_behind (Some end)) comes)
+
+  -- there is one, which no end is behind
+  pub none_is_behind : false ≡ is_behind None (front (merged (map left_of readings)))
+  none_is_behind = sym (ap (is_behind None) comes)
 
 module _ {readings : List Reading} {waiting : Waiting} {head place : ℕ} (under : StreamIsUnderWay readings waiting) (least : IsLeast head waiting.heads)
     (place_is : (others log : ℕ) → log < 65536 → head ≡ others * 65536 + log → place ≡ log) where
@@ -105,12 +131,8 @@ module _ {readings : List Reading} {waiting : Waiting} {head place : ℕ} (under
           first_of (Some one) some = refl
 
       behind_there : left_of (after_next reading) ≡ behind (log_at (map left_of readings) place)
-      behind_there = stays reading.left ∙ (sym (behind_of reading.given given) ∙ sym (ap behind left_there))
+      behind_there = next_left reading.left ∙ (sym (behind_of reading.given given) ∙ sym (ap behind left_there))
         where
-          stays : (left : List Logged) → option_to_list (front left) ++ behind left ≡ left
-          stays [] = refl
-          stays (one ∷ rest) = refl
-
           behind_of : (o : Option Logged) → o ≡ Some at.one → behind (option_to_list o ++ reading.left) ≡ reading.left
           behind_of None none = absurd (cc)
           behind_of (Some one) some = refl
@@ -137,7 +159,7 @@ module _ {readings : List Reading} {waiting : Waiting} {head place : ℕ} (under
       its = plain_event at.one (ap is_plain (sym given) ∙ plain)
 
       node_few : node_of at.one.entry.event < 65536
-      node_few = subst (λ (o : Option Logged). IfSome o (λ logged. node_of (entry_of logged).event < 65536)) at.given (read_at readings at.k at.reading at.there under.read).node
+      node_few = head_node readings waiting head under at
 
       event_is : entry.event ≡ Instr (record { 0 = node_of at.one.entry.event })
       event_is = event at.one.entry.stamp (node_of at.one.entry.event) at.k node_few at.few at.key

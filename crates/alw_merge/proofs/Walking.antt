@@ -1,11 +1,11 @@
--- A journal whose logs are read event by event: what is read so far is what the journal's first entries leave and tell.
-use Rattle.std.proofs.Common.{◌≡◌, ℕ, suc, zero, ◌+◌, ◌*◌, ◌<◌, ◌≤◌, ◌==◌, Bool, true, false, cond, replicate, Option, Some, List, [], ◌∷◌, ◌++◌, map, length, take, drop, set, get_or, slice_get, refl, sym, ap, subst, ◌∙◌, IsTrue, nat_lt, arith}
+-- A journal whose logs are read event by event, from a place on: what is read so far is what a span of the journal's entries moves and tells.
+use Rattle.std.proofs.Common.{◌≡◌, ℕ, suc, zero, ◌+◌, ◌-◌, ◌<◌, ◌≤◌, ◌==◌, Bool, true, false, cond, Option, Some, None, List, [], ◌∷◌, ◌++◌, map, flat_map, length, take, drop, set, get_or, slice_get, refl, sym, ap, subst, ◌∙◌, arith}
 use Rattle.std.specs.List.{AllByRecursion}
 use Rattle.std.proofs.Math.Nat.{add-zero}
 use Rattle.std.specs.Option.{option_map}
-use Rattle.std.proofs.lemmas.Bool.{true≢false, ltb-true, eqb-true}
-use Rattle.std.proofs.lemmas.List.{length-set, length-drop, length_push, take_more, take_all}
-use Rattle.std.proofs.lemmas.Option.{same_Some, get_or_from_slice_get}
+use Rattle.std.proofs.lemmas.Bool.{true≢false, leb-false, eqb-true}
+use Rattle.std.proofs.lemmas.List.{length-map, length-set, length-drop, length_push, append-nil, flat_map_more, drop-drop}
+use Rattle.std.proofs.lemmas.Option.{same_Some}
 use Rattle.alw_num.proofs.Weigh.{at_nodes}
 use Rattle.alw_msg.specs.declared.messages.Msg.{Msg}
 use Rattle.alw_msg.specs.declared.events.Event.{Event}
@@ -16,33 +16,34 @@ use Rattle.alw_msg.specs.Lists.{front, behind}
 use Rattle.alw_image.specs.declared.parts.Parts.{Parts}
 use Rattle.alw_image.specs.Images.{IsImage, node_count}
 use Rattle.alw_image.specs.Parameters.{Parameters}
-use Rattle.alw_model.specs.Machine.{MachineState, is_enabled, state, links_sent, IsNext, IsLegal}
+use Rattle.alw_model.specs.Machine.{MachineState, state, IsNext, IsLegal}
 use Rattle.alw_model.specs.declared.steps.Did.{Did}
 use Rattle.alw_model.specs.Runs.{Moment, number_of, moment_of, moments}
 use Rattle.alw_model.specs.Rows.{log_in}
 use Rattle.alw_model.specs.Threads.{Logged, Logs, log_at, merged}
-use Rattle.alw_model.proofs.Journals.{and_parts, state_push, legal_take}
+use Rattle.alw_model.proofs.Journals.{legal_take}
 use Rattle.law_lines.proofs.Links.{read_set}
 use Rattle.law_lines.proofs.Steps.{enabled_is}
 use Rattle.law_order.specs.Aims.{IsAimed}
-use Rattle.law_order.proofs.Aimed.{sends_below}
 use Rattle.law_order.proofs.Reached.{state_aimed}
 use Rattle.law_order.proofs.JournalLogs.{logged_of}
-use Rattle.alw_links.specs.Traffic.{Traffic, links_with_all}
 use Rattle.alw_tally.specs.declared.happenings.Happened.{Happened}
 use Rattle.alw_tally.specs.Told.{Told, told_of, told_with}
 use Rattle.alw_tally.specs.Tallies.{told_logged}
-use Rattle.alw_tally.proofs.Telling.{told_entry}
+use Rattle.alw_tally.proofs.Telling.{told_push}
 use Rattle.alw_tally.proofs.Within.{SendsFew}
-use Rattle.alw_mesh.specs.Keeping.{after_taking, NodesAreWithin}
-use Rattle.alw_mesh.proofs.Moves.{links_are_taken, links_are_sent, goes_below}
 use Rattle.alw_mesh.proofs.FewSent.{few_sent}
-use Rattle.alw_mesh.proofs.Joined.{next_is, one_more}
+use Rattle.alw_mesh.proofs.Joined.{next_is}
 use Rattle.alw_cells.specs.Logs.{taken_of, sent_of, entry_of}
 use Rattle.alw_cells.specs.Plain.{is_instr}
 use Rattle.alw_merge.specs.declared.streams.Read.{Read}
 use Rattle.alw_merge.specs.Streams.{EventIsReadOff, IsPlain, Reads}
-use Rattle.alw_merge.specs.Joins.{Course, no_course, course_at, courses_of, course_of, dids_at, happened_at, LogsAreOfJournal, unheld, JournalIsWalked, MayFollow, Follows, EventIsTold}
+use Rattle.alw_merge.specs.declared.spans.Move.{Move}
+use Rattle.alw_merge.specs.declared.spans.Span.{Span}
+use Rattle.alw_merge.specs.Joins.{Course, no_course, course_at, courses_of, course_of, dids_at, happened_at, LogsAreOfJournal, unheld}
+use Rattle.alw_merge.specs.Spans.{place_of, end_of, is_behind, between, log_from, logs_from, dids_behind, taking_of, sending_of, moves_of, MayFollow, Follows, EventIsTold, IsSpan}
+use Rattle.alw_merge.proofs.Spanning.{Rises, merged_rises, from_merged, place_past, place_reached}
+use Rattle.alw_merge.proofs.Behind.{courses_from, dids_as_many}
 use Rattle.alw_merge.proofs.Courses.{mine, with_first, course_first, course_other, moment_at}
 use Rattle.alw_merge.proofs.Joining.{courses_long, courses_read}
 
@@ -57,45 +58,56 @@ next_of n course = happened_at n course.dids (taken_of (front course.left))
 abbrev read_on : Course → Course
 read_on course = record { left = behind course.left; dids = behind course.dids }
 
--- what is left of the courses, and what the first so many entries leave and tell
-pub record IsRead (image : Parts) (parameters : Parameters) (journal : List Entry) (i : ℕ) (courses : List Course) (traffic : Traffic) (told : Told) : Type 0 where
+-- what is left of the courses behind a journal's first entries
+pub record IsRead (image : Parts) (parameters : Parameters) (journal : List Entry) (i : ℕ) (courses : List Course) : Type 0 where
   pub counted : length courses ≡ node_count image
   pub each : (n : ℕ) → n < node_count image → course_at courses n ≡ course_of n (drop i (moments image parameters journal))
-  pub walked : JournalIsWalked image parameters (take i journal) traffic told
+
+-- what the events of a run from a place on, before another, move and tell
+pub record IsSpanned (image : Parts) (run : List Moment) (start i : ℕ) (moves : List Move) (told : Told) : Type 0 where
+  pub moves_are : moves ≡ flat_map moves_of (between start i run)
+  pub told_is : told ≡ unheld (told_of image (between start i run))
+
+-- one member more
+take_push : {A : Type 0} (k : ℕ) (ys rest : List A) (x : A) → drop k ys ≡ x ∷ rest → take (suc k) ys ≡ take k ys ++ x ∷ []
+take_push zero [] rest x is = absurd (cc)
+take_push zero (first ∷ more) rest x is = ap (λ (ys : List _). get_or ys 0 first ∷ []) is
+take_push (suc k) [] rest x is = absurd (cc)
+take_push (suc k) (first ∷ more) rest x is = ap (λ (ys : List _). first ∷ ys) (take_push k more rest x is)
+
+between_push : {A : Type 0} (start i : ℕ) (xs rest : List A) (x : A) → start ≤ i → drop i xs ≡ x ∷ rest → between start (i + 1) xs ≡ between start i xs ++ x ∷ []
+between_push start i xs rest x few is =
+    let one : i + 1 - start ≡ suc (i - start) = omega (arith, few) in
+    let place : start + (i - start) ≡ i = omega (arith, few) in
+    ap (λ (k : ℕ). take k (drop start xs)) one ∙ take_push (i - start) (drop start xs) rest x (drop-drop (i - start) start xs ∙ (ap (λ (k : ℕ). drop k xs) place ∙ is))
+
+-- nothing is between a place and itself
+between_none : {A : Type 0} (start : ℕ) (xs : List A) → between start (start + 0) xs ≡ []
+between_none start xs = let none : start + 0 - start ≡ 0 = omega arith in ap (λ (k : ℕ). take k (drop start xs)) none
 
 -- an event that was read of logs as they were
 pub read_off : {logs same after : Logs} {o : Option Read} {read : Read} {sends : List (ℕ × Msg)} → same ≡ logs → o ≡ Some read → Reads same o sends after → EventIsReadOff logs read sends after
 read_off {logs} {same} {after} {o} {read} {sends} kept is reads = subst (λ (all : Logs). EventIsReadOff all read sends after) kept (subst (λ (p : Option Read). Reads same p sends after) is reads)
 
--- an instruction that sent nothing leaves the links as they are
-pub told_follows : {image : Parts} {read : Read} {rest rest' : List (List Did)} {traffic traffic' : Traffic} {told told' : Told} → IsPlain read → EventIsTold image read [] rest rest' traffic traffic' told told'
-    → Follows image read [] rest rest' traffic traffic' told told'
-told_follows {image} {read} {rest} {rest'} {traffic} {traffic'} plain is = record {
+-- an instruction that sent nothing moves nothing
+pub told_follows : {image : Parts} {read : Read} {rest rest' : List (List Did)} {moves moves' : List Move} {told told' : Told} → IsPlain read → EventIsTold image read [] rest rest' moves moves' told told'
+    → Follows image read [] rest rest' moves moves' told told'
+told_follows {image} {read} {rest} {rest'} {moves} {moves'} plain is = record {
   rest_is = is.rest_is;
-  nodes_are = ap (λ (t : Traffic). t.nodes) is.traffic_is;
-  links_are = ap (λ (t : Traffic). t.links) (is.traffic_is ∙ stays read.entry.event plain.instr);
+  moves_are = is.moves_are ∙ sym (ap (λ (taking : List Move). moves ++ (taking ++ [])) (none read.entry.event plain.instr) ∙ append-nil moves);
   told_is = is.told_is;
 }
   where
-    stays : (event : Event) → is_instr event ≡ true → traffic ≡ after_taking traffic event
-    stays (Instr node) is = refl
-    stays (Deliver from to) is = absurd (true≢false (sym is))
-    stays (Handle node) is = refl
-    stays (Evict node set) is = refl
+    none : (event : Event) → is_instr event ≡ true → taking_of event ≡ []
+    none (Instr node) is = refl
+    none (Deliver from to) is = absurd (true≢false (sym is))
+    none (Handle node) is = refl
+    none (Evict node set) is = refl
 
 -- an event more is told
 told_more : (image : Parts) (told : Told) (moment : Moment) (rest : Course)
     → told_logged image (unheld told) (next_of (number_of moment) (with_first moment rest)) moment.stepped.sends ≡ unheld (told_with image told moment)
 told_more image told moment rest = simp add-zero
-
--- the nodes that an event names exist where it is enabled
-within_is : (image : Parts) (parameters : Parameters) (s : MachineState) (event : Event) → IsTrue (is_enabled image parameters s event) → NodesAreWithin (node_count image) event
-within_is image parameters s (Instr at) enabled = tt
-within_is image parameters s (Handle at) enabled = tt
-within_is image parameters s (Evict at emptied) enabled = tt
-within_is image parameters s (Deliver from to) enabled =
-    let is = enabled_is image parameters s (Deliver from to) enabled in
-    (ltb-true from.0 (node_count image) (and_parts (nat_lt from.0 (node_count image)) _ is.may_be).0, is.here)
 
 -- a fact of each of some events is one of the first that is left
 first_left : (P : Moment → Type 0) (run : List Moment) (i : ℕ) (moment : Moment) (rest : List Moment) → AllByRecursion P run → drop i run ≡ moment ∷ rest → P moment
@@ -160,7 +172,7 @@ module _ (image : Parts) (parameters : Parameters) (allowed : IsImage image) (jo
   exists : n < node_count image
   exists = (enabled_is image parameters s event next.enabled).here
 
-  module _ {courses : List Course} {traffic : Traffic} {told : Told} (so_far : IsRead image parameters journal i courses traffic told) where
+  module _ {courses : List Course} (so_far : IsRead image parameters journal i courses) where
     own : course_at courses n ≡ with_first moment (course_of n rest)
     own = so_far.each n exists ∙ (ap (course_of n) split ∙ course_first n moment rest refl)
 
@@ -179,35 +191,34 @@ module _ (image : Parts) (parameters : Parameters) (allowed : IsImage image) (jo
       taken_own : taken ≡ taken_of (front (with_first moment (course_of n rest)).left)
       taken_own = taken_is ∙ ap (λ (course : Course). taken_of (front course.left)) own
 
-      pub may_follow : MayFollow traffic.nodes event sends dids
-      may_follow = rw (sent, did_is, so_far.walked.nodes_are) (record {
-        sender = exists;
-        within = within_is image parameters s event next.enabled;
+      pub may_follow : MayFollow sends dids
+      may_follow = rw (sent, did_is) (record {
         did = omega arith;
         few = (first_left (SendsFew image) (moments image parameters journal) i moment rest (few_sent image parameters allowed journal legal) split).count;
-        go = goes_below (node_count image) moment.stepped.sends (sends_below image parameters s event next.enabled aimed);
       })
 
-      pub goes_on : {courses' : List Course} {traffic' : Traffic} {told' : Told} → courses' ≡ set courses n (read_on (course_at courses n)) → traffic'.nodes ≡ traffic.nodes
-          → traffic'.links ≡ links_with_all traffic.nodes (after_taking traffic event).links n sends → told' ≡ told_logged image told (happened_at n dids taken) sends
-          → IsRead image parameters journal (i + 1) courses' traffic' told'
-      goes_on {courses'} {traffic'} {told'} courses_are nodes_are links_are told_is =
-          let more = one_more image parameters journal legal i entry here read in
+      -- it is one event more of what is moved and told
+      pub spans_on : {start : ℕ} {moves moves' : List Move} {told told' : Told} → start ≤ i → IsSpanned image (moments image parameters journal) start i moves told
+          → moves' ≡ moves ++ (taking_of event ++ sending_of n sends) → told' ≡ told_logged image told (happened_at n dids taken) sends
+          → IsSpanned image (moments image parameters journal) start (i + 1) moves' told'
+      spans_on {start} {moves} {moves'} {told} {told'} behind_start spanned moves_are told_is =
+          let run = moments image parameters journal in
+          let before = between start i run in
+          let more = between_push start i run rest moment behind_start split in
+          record {
+            moves_are = moves_are ∙ ((λ x. spanned.moves_are x ++ (taking_of event ++ sending_of n (sent x)))
+                ∙ (flat_map_more moves_of [] before moment ∙ ap (flat_map moves_of) (sym more)));
+            told_is = told_is ∙ ((λ x. told_logged image (spanned.told_is x) (happened_at n (did_is x) (taken_own x)) (sent x)) ∙ (told_more image (told_of image before) moment (course_of n rest)
+                ∙ ap unheld (sym (told_push image before moment) ∙ ap (told_of image) (sym more))));
+          }
+
+      pub goes_on : {courses' : List Course} → courses' ≡ set courses n (read_on (course_at courses n)) → IsRead image parameters journal (i + 1) courses'
+      goes_on {courses'} courses_are =
           let place : suc i ≡ i + 1 = omega arith in
-          let before = told_of image (moments image parameters (take i journal)) in
-          let links = (λ x. links_with_all traffic.nodes (after_taking traffic event).links n (sent x))
-          ∙ (links_are_sent image traffic.nodes (after_taking traffic event).links n moment.stepped.sends so_far.walked.nodes_are
-          ∙ ap (λ (all : List (List Msg)). links_sent image all n moment.stepped.sends) (links_are_taken image s traffic so_far.walked.nodes_are (sym so_far.walked.links_are) event)) in
-          let tells = (λ x. told_logged image (so_far.walked.told_is x) (happened_at n (did_is x) (taken_own x)) (sent x)) ∙ told_more image before moment (course_of n rest) in
           record {
             counted = ap length courses_are ∙ (length-set courses n (read_on (course_at courses n)) ∙ so_far.counted);
             each = λ k l. subst (λ (left : Course). left ≡ course_of k (drop (i + 1) (moments image parameters journal))) (sym (ap (λ (all : List Course). course_at all k) courses_are))
                 (subst (λ (p : ℕ). course_at (set courses n (read_on (course_at courses n))) k ≡ course_of k (drop p (moments image parameters journal))) place (left_at k l));
-            walked = record {
-              nodes_are = nodes_are ∙ so_far.walked.nodes_are;
-              links_are = links_are ∙ (links ∙ sym (ap (λ (es : List Entry). (state image parameters es).links) more ∙ ap (λ (m : MachineState). m.links) (state_push image parameters (take i journal) entry)));
-              told_is = told_is ∙ (tells ∙ sym (ap (λ (es : List Entry). unheld (told_of image (moments image parameters es))) more ∙ ap unheld (told_entry image parameters (take i journal) entry)));
-            };
           }
         where
           left_at : (k : ℕ) → k < node_count image → course_at (set courses n (read_on (course_at courses n))) k ≡ course_of k rest
@@ -215,17 +226,18 @@ module _ (image : Parts) (parameters : Parameters) (allowed : IsImage image) (jo
               ∙ at_nodes (λ j left. j < node_count image → left ≡ course_of j rest) (course_at courses) n (read_on (course_at courses n)) (λ _. ap read_on own)
               (λ j other m. so_far.each j m ∙ (ap (course_of j) split ∙ course_other j moment rest (λ same. other (sym same)))) k l
 
--- what has been read is a journal's first entries, and what is left of its merge the others
-pub record IsMerging (image : Parts) (parameters : Parameters) (journal so_far : List Entry) (logs : Logs) (dids : List (List Did)) (traffic : Traffic) (told : Told) : Type 0 where
-  pub front_is : so_far ≡ take (length so_far) journal
-  pub left_is : merged logs ≡ drop (length so_far) journal
+-- what has been read is a span of a journal's entries, from a place on, and what is left of its merge those behind it
+pub record IsMerging (image : Parts) (parameters : Parameters) (journal : List Entry) (start : ℕ) (so_far : List Entry) (logs : Logs) (dids : List (List Did)) (moves : List Move) (told : Told) : Type 0 where
+  pub span_is : so_far ≡ between start (start + length so_far) journal
+  pub left_is : merged logs ≡ drop (start + length so_far) journal
   pub as_many : length dids ≡ length logs
-  pub read : IsRead image parameters journal (length so_far) (courses_of logs dids) traffic told
+  pub read : IsRead image parameters journal (start + length so_far) (courses_of logs dids)
+  pub spanned : IsSpanned image (moments image parameters journal) start (start + length so_far) moves told
 
-module _ {image : Parts} {parameters : Parameters} {journal : List Entry} (allowed : IsImage image) (legal : IsLegal image parameters journal) {so_far : List Entry} {logs logs' : Logs} {dids : List (List Did)}
-    {traffic : Traffic} {told : Told} (merging : IsMerging image parameters journal so_far logs dids traffic told) {read : Read} {sends : List (ℕ × Msg)} (next : EventIsReadOff logs read sends logs') where
+module _ {image : Parts} {parameters : Parameters} {journal : List Entry} (allowed : IsImage image) (legal : IsLegal image parameters journal) {start : ℕ} {so_far : List Entry} {logs logs' : Logs} {dids : List (List Did)}
+    {moves : List Move} {told : Told} (merging : IsMerging image parameters journal start so_far logs dids moves told) {read : Read} {sends : List (ℕ × Msg)} (next : EventIsReadOff logs read sends logs') where
   abbrev i : ℕ
-  i = length so_far
+  i = start + length so_far
 
   places : (slice_get journal i ≡ Some read.entry) × ((i < length journal) × (merged logs' ≡ drop (suc i) journal))
   places = left_from journal (merged logs') read.entry i (sym next.first ∙ merging.left_is)
@@ -258,50 +270,81 @@ module _ {image : Parts} {parameters : Parameters} {journal : List Entry} (allow
   pub follows_here : node_of read.entry.event < length dids
   follows_here = omega (arith, is_own, next.here, merging.as_many)
 
-  pub follows_may : MayFollow traffic.nodes read.entry.event sends (dids_at dids (node_of read.entry.event))
+  pub follows_may : MayFollow sends (dids_at dids (node_of read.entry.event))
   follows_may = may_follow image parameters allowed journal legal i read.entry places.1.0 places.0 merging.read taken_is sends_are dids_are
 
   -- one event more has been read
-  pub merges_on : {so_far' : List Entry} {dids' : List (List Did)} {traffic' : Traffic} {told' : Told} → so_far' ≡ so_far ++ read.entry ∷ [] → Follows image read sends dids dids' traffic traffic' told told'
-      → IsMerging image parameters journal so_far' logs' dids' traffic' told'
-  merges_on {so_far'} {dids'} {traffic'} {told'} more follows =
+  pub merges_on : {so_far' : List Entry} {dids' : List (List Did)} {moves' : List Move} {told' : Told} → so_far' ≡ so_far ++ read.entry ∷ [] → Follows image read sends dids dids' moves moves' told told'
+      → IsMerging image parameters journal start so_far' logs' dids' moves' told'
+  merges_on {so_far'} {dids'} {moves'} {told'} more follows =
       let n = node_of read.entry.event in
-      let long : length so_far' ≡ i + 1 = ap length more ∙ length_push so_far read.entry in
+      let long : start + length so_far' ≡ i + 1 = omega (arith, ap length more, length_push so_far read.entry) in
       let place : suc i ≡ i + 1 = omega arith in
       let left : logs' ≡ set logs n (behind (log_at logs n)) = next.left ∙ ap (λ (k : ℕ). set logs k (behind (log_at logs k))) (sym is_own) in
       let courses_are : courses_of logs' dids' ≡ set left_over n (read_on (course_at left_over n)) =
       (λ x. courses_of (left x) (follows.rest_is x)) ∙ (courses_set logs dids n (behind (log_at logs n)) (behind (dids_at dids n)) ∙ ap (λ (course : Course). set left_over n (read_on course)) (sym (course_there n))) in
-      let has = take_more journal i read.entry places.1.0 ∙ ap (λ (e : Entry). take i journal ++ e ∷ []) (get_or_from_slice_get journal i read.entry read.entry places.0) in
+      let has = between_push start i journal (merged logs') read.entry (omega arith) (sym merging.left_is ∙ next.first) in
       record {
-        front_is = more ∙ (ap (λ (es : List Entry). es ++ read.entry ∷ []) merging.front_is ∙ (sym has ∙ ap (λ (k : ℕ). take k journal) (sym long)));
+        span_is = more ∙ (ap (λ (es : List Entry). es ++ read.entry ∷ []) merging.span_is ∙ (sym has ∙ ap (λ (k : ℕ). between start k journal) (sym long)));
         left_is = places.1.1 ∙ ap (λ (k : ℕ). drop k journal) (place ∙ sym long);
         as_many = ap length follows.rest_is ∙ (length-set dids n (behind (dids_at dids n)) ∙ (merging.as_many ∙ sym (ap length left ∙ length-set logs n (behind (log_at logs n)))));
-        read = subst (λ (k : ℕ). IsRead image parameters journal k (courses_of logs' dids') traffic' told') (sym long)
-            (goes_on image parameters allowed journal legal i read.entry places.1.0 places.0 merging.read taken_is sends_are dids_are courses_are follows.nodes_are follows.links_are follows.told_is);
+        read = subst (λ (k : ℕ). IsRead image parameters journal k (courses_of logs' dids')) (sym long)
+            (goes_on image parameters allowed journal legal i read.entry places.1.0 places.0 merging.read taken_is sends_are dids_are courses_are);
+        spanned = subst (λ (k : ℕ). IsSpanned image (moments image parameters journal) start k moves' told') (sym long)
+            (spans_on image parameters allowed journal legal i read.entry places.1.0 places.0 merging.read taken_is sends_are dids_are (omega arith) merging.spanned follows.moves_are follows.told_is);
       }
 
--- nothing has been read yet
-pub begins : (image : Parts) (parameters : Parameters) (journal : List Entry) (courses : List Course) (traffic : Traffic) (told : Told) → LogsAreOfJournal image parameters journal courses
-    → traffic.nodes ≡ node_count image → traffic.links ≡ replicate (traffic.nodes * traffic.nodes) [] → ((parts : Parts) → told ≡ told_of parts []) → IsRead image parameters journal 0 courses traffic told
-unfolding moments state
-begins image parameters journal courses traffic told are nodes links told_is = record {
-  counted = are.counted;
-  each = are.each;
-  walked = record { nodes_are = nodes; links_are = links ∙ ap (λ count. replicate {A = List Msg} (count * count) []) nodes; told_is = told_is image };
-}
+  -- no more has been read than the span has
+  pub reaches_on : {so_far' : List Entry} (high : Option ℕ) → Rises journal → is_behind high (front (merged logs)) ≡ false → so_far' ≡ so_far ++ read.entry ∷ [] → start + length so_far' ≤ end_of high journal
+  reaches_on {so_far'} high rises within more =
+      let long : start + length so_far' ≡ suc i = omega (arith, ap length more, length_push so_far read.entry) in
+      subst (λ (k : ℕ). k ≤ end_of high journal) (sym long) (by_end high (sym within ∙ ap (λ (es : List Entry). is_behind high (front es)) next.first))
+    where
+      by_end : (high : Option ℕ) → false ≡ is_behind high (Some read.entry) → suc i ≤ end_of high journal
+      by_end None is = places.1.0
+      by_end (Some stamp) is = place_past journal i stamp read.entry rises places.0 (leb-false stamp read.entry.stamp (sym is))
 
-pub merging_begins : (image : Parts) (parameters : Parameters) (logs : Logs) (dids : List (List Did)) (traffic : Traffic) (told : Told) → length dids ≡ length logs → LogsAreOfJournal image parameters (merged logs) (courses_of logs dids)
-    → traffic.nodes ≡ node_count image → traffic.links ≡ replicate (traffic.nodes * traffic.nodes) [] → ((parts : Parts) → told ≡ told_of parts []) → IsMerging image parameters (merged logs) [] logs dids traffic told
-merging_begins image parameters logs dids traffic told as_many are nodes links told_is = record {
-  front_is = refl;
-  left_is = refl;
-  as_many = as_many;
-  read = begins image parameters (merged logs) (courses_of logs dids) traffic told are nodes links told_is;
-}
+-- the logs are read from a stamp on, and nothing has been read yet
+pub merging_begins : (image : Parts) (parameters : Parameters) (stamp : ℕ) (logs : Logs) (dids : List (List Did)) (told : Told) → length dids ≡ length logs
+    → LogsAreOfJournal image parameters (merged logs) (courses_of logs dids) → ((parts : Parts) → told ≡ told_of parts [])
+    → IsMerging image parameters (merged logs) (place_of stamp (merged logs)) [] (logs_from stamp logs) (dids_behind (logs_from stamp logs) dids) [] told
+merging_begins image parameters stamp logs dids told as_many are told_is =
+    let journal = merged logs in
+    let start = place_of stamp journal in
+    let here : start ≡ start + 0 = omega arith in
+    let many = dids_as_many stamp logs dids as_many in
+    let run = moments image parameters journal in
+    record {
+      span_is = sym (between_none start journal);
+      left_is = from_merged stamp logs ∙ ap (λ (k : ℕ). drop k journal) here;
+      as_many = many;
+      read = subst (λ (k : ℕ). IsRead image parameters journal k (courses_of (logs_from stamp logs) (dids_behind (logs_from stamp logs) dids))) here (record {
+        counted = courses_long (logs_from stamp logs) (dids_behind (logs_from stamp logs) dids) many ∙ (length-map logs (log_from stamp) ∙ (sym (courses_long logs dids as_many) ∙ are.counted));
+        each = courses_from image parameters stamp logs dids as_many are (merged_rises logs);
+      });
+      spanned = record {
+        moves_are = ap (flat_map moves_of) (sym (between_none start run));
+        told_is = told_is image ∙ ap (λ (run : List Moment). unheld (told_of image run)) (sym (between_none start run));
+      };
+    }
 
--- all has been read
-pub merging_ends : (image : Parts) (parameters : Parameters) (journal so_far : List Entry) (logs : Logs) (dids : List (List Did)) (traffic : Traffic) (told : Told) → merged logs ≡ []
-    → IsMerging image parameters journal so_far logs dids traffic told → (so_far ≡ journal) × JournalIsWalked image parameters journal traffic told
-merging_ends image parameters journal so_far logs dids traffic told none merging =
-    let past : length journal ≤ length so_far = omega (arith, length-drop (length so_far) journal, ap length (sym merging.left_is ∙ none)) in
-    (merging.front_is ∙ take_all (length so_far) journal past, subst (λ (es : List Entry). JournalIsWalked image parameters es traffic told) (take_all (length so_far) journal past) merging.read.walked)
+-- all of a span has been read
+pub merging_ends : (image : Parts) (parameters : Parameters) (journal : List Entry) (low : ℕ) (high : Option ℕ) (span : Span) (logs : Logs) (dids : List (List Did)) → Rises journal
+    → is_behind high (front (merged logs)) ≡ true → IsMerging image parameters journal (place_of low journal) span.journal logs dids span.moves.items span.tally.told
+    → place_of low journal + length span.journal ≤ end_of high journal → IsSpan image parameters journal low high span
+merging_ends image parameters journal low high span logs dids rises past merging reached =
+    let i = place_of low journal + length span.journal in
+    let end : i ≡ end_of high journal = at_end high (sym (ap (λ (es : List Entry). is_behind high (front es)) merging.left_is) ∙ past) reached in
+    record {
+      entries_are = merging.span_is ∙ ap (λ (k : ℕ). between (place_of low journal) k journal) end;
+      moves_are = merging.spanned.moves_are ∙ ap (λ (k : ℕ). flat_map moves_of (between (place_of low journal) k (moments image parameters journal))) end;
+      told_is = merging.spanned.told_is ∙ ap (λ (k : ℕ). unheld (told_of image (between (place_of low journal) k (moments image parameters journal)))) end;
+    }
+  where
+    no_more : (es : List Entry) → is_behind None (front es) ≡ true → length es ≡ 0
+    no_more [] is = refl
+    no_more (entry ∷ rest) is = absurd (true≢false (sym is))
+
+    at_end : {i : ℕ} (high : Option ℕ) → is_behind high (front (drop i journal)) ≡ true → i ≤ end_of high journal → i ≡ end_of high journal
+    at_end {i} None is most = omega (arith, no_more (drop i journal) is, length-drop i journal, most)
+    at_end {i} (Some stamp) is most = omega (arith, place_reached journal i stamp rises is, most)

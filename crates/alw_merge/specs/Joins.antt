@@ -1,13 +1,8 @@
 -- What workers leave, as it is read in the order of the merge.
-use Rattle.std.specs.Prelude.{◌≡◌, ℕ, ◌<◌, ◌≤◌, false, Option, None, List, [], ◌∷◌, map, filter, ◌==◌, is_some, length, slice_index_or, slice_set}
-use Rattle.std.specs.List.{All}
-use Rattle.alw_num.specs.Limits.{most_nodes}
+use Rattle.std.specs.Prelude.{◌≡◌, ℕ, ◌<◌, false, Option, None, List, [], ◌∷◌, map, filter, ◌==◌, is_some, length, slice_index_or}
 use Rattle.alw_num.specs.Weights.{digit, weigh}
 use Rattle.alw_msg.specs.declared.messages.Msg.{Msg}
-use Rattle.alw_msg.specs.declared.events.Event.{Event}
 use Rattle.alw_msg.specs.declared.events.Entry.{Entry}
-use Rattle.alw_msg.specs.Events.{node_of}
-use Rattle.alw_msg.specs.Lists.{behind}
 use Rattle.alw_image.specs.declared.parts.Parts.{Parts}
 use Rattle.alw_image.specs.Images.{node_count}
 use Rattle.alw_image.specs.Parameters.{Parameters}
@@ -17,13 +12,10 @@ use Rattle.alw_model.specs.Machine.{state, IsLegal}
 use Rattle.alw_model.specs.Runs.{Moment, number_of, moments}
 use Rattle.alw_model.specs.Rows.{log_in}
 use Rattle.alw_model.specs.Threads.{Logged}
-use Rattle.alw_links.specs.Traffic.{Traffic, links_with_all}
+use Rattle.alw_links.specs.Traffic.{Traffic}
 use Rattle.alw_tally.specs.declared.happenings.Happened.{Happened}
 use Rattle.alw_tally.specs.Told.{Told, told_of}
-use Rattle.alw_tally.specs.Tallies.{told_logged}
 use Rattle.alw_node.specs.Nodes.{Whole}
-use Rattle.alw_mesh.specs.Keeping.{after_taking, NodesAreWithin}
-use Rattle.alw_merge.specs.declared.streams.Read.{Read}
 
 -- the slots with a hold, at all of some nodes
 abbrev pub holds_at : List Whole → ℕ
@@ -83,24 +75,3 @@ pub record JournalIsWalked (image : Parts) (parameters : Parameters) (journal : 
   pub nodes_are : traffic.nodes ≡ node_count image
   pub links_are : traffic.links ≡ (state image parameters journal).links
   pub told_is : told ≡ unheld (told_of image (moments image parameters journal))
-
--- an event may be read off its node's log: what it did is there, and it names nodes that exist, as its messages do
-pub record MayFollow (nodes : ℕ) (event : Event) (sends : List (ℕ × Msg)) (dids : List Did) : Type 0 where
-  pub sender : node_of event < nodes
-  pub within : NodesAreWithin nodes event
-  pub did : 1 ≤ length dids
-  pub few : length sends ≤ most_nodes
-  pub go : All (λ (send : ℕ × Msg). send.0 < nodes) sends
-
--- it has been read, its messages are moved, and it is told
-pub record Follows (image : Parts) (read : Read) (sends : List (ℕ × Msg)) (rest rest' : List (List Did)) (traffic traffic' : Traffic) (told told' : Told) : Type 0 where
-  pub rest_is : rest' ≡ slice_set rest (node_of read.entry.event) (behind (dids_at rest (node_of read.entry.event)))
-  pub nodes_are : traffic'.nodes ≡ traffic.nodes
-  pub links_are : traffic'.links ≡ links_with_all traffic.nodes (after_taking traffic read.entry.event).links (node_of read.entry.event) sends
-  pub told_is : told' ≡ told_logged image told (happened_at (node_of read.entry.event) (dids_at rest (node_of read.entry.event)) read.taken) sends
-
--- it has been read and is told, and the links are as they were
-pub record EventIsTold (image : Parts) (read : Read) (sends : List (ℕ × Msg)) (rest rest' : List (List Did)) (traffic traffic' : Traffic) (told told' : Told) : Type 0 where
-  pub rest_is : rest' ≡ slice_set rest (node_of read.entry.event) (behind (dids_at rest (node_of read.entry.event)))
-  pub traffic_is : traffic' ≡ traffic
-  pub told_is : told' ≡ told_logged image told (happened_at (node_of read.entry.event) (dids_at rest (node_of read.entry.event)) read.taken) sends

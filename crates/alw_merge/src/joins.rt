@@ -5,8 +5,9 @@ ghost use Rattle.alw_cells.specs.Logs.{logged};
 ghost use Rattle.alw_mesh.specs.declared.errors.TheConstants.{MOST_STEPS};
 ghost use Rattle.alw_mesh.specs.Histories.{stamps_of, joined_of};
 ghost use Rattle.alw_merge.specs.Joins.{holds_at};
+ghost use Rattle.alw_merge.specs.Spans.{IsOfWorked};
 
-use crate::walks::{lists_of, walk};
+use crate::walks::{Walked, lists_of, walk, walk_by};
 use alw_cells::Worked;
 use alw_image::{Image, Params};
 use alw_mesh::Machine;
@@ -14,6 +15,7 @@ use alw_model::Counts;
 use alw_node::Nodes;
 use alw_num::NoMemory;
 use std::alloc::Global;
+use std::thread::Threads;
 
 /// The machine that workers leave: its journal is the merge of their logs, its nodes are theirs, and its
 /// links have what each log sent beyond what the other took. No node takes a step again. What was moved
@@ -28,18 +30,58 @@ pub fn join(
     requires worked { LogsAreWorked image.now params.now worked }
     ensures { IfOk result (λ machine. machine ≡ joined_of image.now params.now (merged (logged worked.logs))) }
 {
-    let _allowed = image.parts();
-    let _read = params.limit();
     let Worked { logs, nodes, dids } = worked;
     let walked = walk(alloc, image, params, &logs, &dids)?;
+    machine_of(alloc, image, params, walked, nodes)
+}
+
+/// The same by so many threads at most, each of which merges a span of stamps.
+pub fn join_by<R: Threads + Sync>(
+    rt: &R,
+    alloc: Global,
+    image: &Image,
+    params: &Params,
+    worked: Worked,
+    threads: u32,
+) -> Result<Machine, NoMemory>
+    requires fits { stamps_of image.now params.now ≤ MOST_STEPS }
+    requires worked { LogsAreWorked image.now params.now worked }
+    ensures { IfOk result (λ machine. machine ≡ joined_of image.now params.now (merged (logged worked.logs))) }
+{
+    let Worked { logs, nodes, dids } = worked;
+    let last = last_clock(&nodes);
+    let walked = walk_by(rt, alloc, image, params, &logs, &dids, threads, last)?;
+    machine_of(alloc, image, params, walked, nodes)
+}
+
+// The latest clock of nodes.
+fn last_clock(nodes: &Nodes) -> u32 {
+    let mut last = 0;
+    for n in 0..nodes.len() {
+        last = last.max(nodes.at_ref(n).clock());
+    }
+    last
+}
+
+// The machine of what was walked, whose nodes these are.
+fn machine_of(
+    alloc: Global,
+    image: &Image,
+    params: &Params,
+    walked: Walked,
+    nodes: Nodes,
+) -> Result<Machine, NoMemory>
+    requires fits { stamps_of image.now params.now ≤ MOST_STEPS }
+    requires worked { IsOfWorked image.now params.now walked nodes }
+    ensures { IfOk result (λ machine. machine ≡ joined_of image.now params.now walked.journal) }
+{
+    let _allowed = image.parts(); // for its clause
+    let _read = params.limit(); // for its clause
     let links = lists_of(alloc, &walked.links, nodes.len())?;
-    let holds = holds_of(&nodes);
-    let told = walked.tally.counts();
     let counts = Counts {
-        used: told.replies - holds,
-        ..told
+        used: walked.counts.replies - holds_of(&nodes),
+        ..walked.counts
     };
-    let (turns, prints) = walked.tally.into_parts();
     Machine::joined(
         alloc,
         image,
@@ -47,8 +89,8 @@ pub fn join(
         walked.journal,
         nodes,
         links,
-        turns,
-        prints,
+        walked.turns,
+        walked.prints,
         counts,
     )
 }

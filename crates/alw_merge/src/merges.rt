@@ -14,7 +14,7 @@ use std::alloc::Global;
 pub fn stream(alloc: Global, logs: &Logs) -> Result<Stream<'_>, NoMemory>
     ensures { IfOk result (λ stream. stream ≡ logged logs.now) }
 {
-    Stream::over(alloc, logs)
+    Stream::from(alloc, logs, 0)
 }
 
 /// The entries of all logs, by stamp and then by node number (Lamport 1978). A journal has fewer than

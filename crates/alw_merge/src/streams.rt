@@ -1,11 +1,14 @@
-ghost use Rattle.std.specs.Prelude.{◌≡◌, ◌+◌, ◌<◌, ◌*◌, ℕ, [], length, IfOk, IfSome, IfNone, OnOk};
+ghost use Rattle.std.specs.Prelude.{◌≡◌, ◌+◌, ◌≤◌, ◌<◌, ◌*◌, ℕ, [], None, length, IfOk, IfSome, IfNone, OnOk};
 ghost use Rattle.alw_msg.specs.declared.events.Event.TheVariants.{Instr};
 ghost use Rattle.alw_msg.specs.Events.{node_of};
 ghost use Rattle.alw_msg.specs.Lists.{front, behind};
-ghost use Rattle.alw_model.specs.Threads.{merged};
-ghost use Rattle.alw_cells.specs.Logs.{logged, sent_of};
+ghost use Rattle.alw_model.specs.Threads.{log_at, merged};
+ghost use Rattle.alw_cells.specs.Logs.{entry_of, logged, sent_of};
+ghost use Rattle.alw_cells.specs.Records.{Ascends};
 ghost use Rattle.alw_merge.specs.Heads.{HaveJoined};
-ghost use Rattle.alw_merge.specs.Streams.{key_of, heads_of, GoesOn, EventIsReadOff, IsPlain, Reads};
+ghost use Rattle.alw_merge.specs.Spans.{is_behind, log_from, logs_from};
+ghost use Rattle.alw_merge.specs.Streams.{key_of, heads_of, left_of, GoesOn, EventIsReadOff, IsPlain, Reads};
+ghost use Rattle.std.specs.Option.{option_map};
 
 use crate::heads::Heads;
 use alw_cells::{Cursor, Logs};
@@ -47,9 +50,9 @@ impl<'a> Model for Stream<'a> {
 }
 
 impl<'a> Stream<'a> {
-    // Logs that are read from their beginnings. More of them than there are node numbers are refused.
-    pub(crate) fn over(alloc: Global, logs: &'a Logs) -> Result<Stream<'a>, NoMemory>
-        ensures { IfOk result (λ stream. stream ≡ logged logs.now) }
+    // Logs that are read from a stamp on. More of them than there are node numbers are refused.
+    pub(crate) fn from(alloc: Global, logs: &'a Logs, stamp: u64) -> Result<Stream<'a>, NoMemory>
+        ensures { IfOk result (λ stream. stream ≡ logs_from stamp (logged logs.now)) }
     {
         let count = logs.len();
         if count > MOST_LOGS {
@@ -59,10 +62,31 @@ impl<'a> Stream<'a> {
         let mut heads = Heads::room(alloc, count)?;
         for at in 0..count {
             let mut reading = logs.at_ref(at).cursor();
-            add(&mut heads, at, 0, reading.next());
+            add(&mut heads, at, 0, skip_to(&mut reading, stamp));
             readings.push_reserved(reading);
         }
         Ok(Stream { readings, heads })
+    }
+
+    // The number of events that are left of a log.
+    pub(crate) fn left(&self, log: u32) -> usize
+        requires { log < length self.now }
+        ensures { result ≡ length (log_at self.now log) }
+    {
+        let reading = &self.readings[log as usize];
+        reading.left() as usize + usize::from(reading.entry().is_some())
+    }
+
+    // There is no next entry, or its stamp isn't below an end.
+    #[inline(always)]
+    pub(crate) fn is_past(&self, end: Option<u64>) -> bool
+        ensures { result ≡ is_behind end (front (merged self.now)) }
+    {
+        match (self.heads.least(), end) {
+            (Some(head), Some(end)) => end <= stamp_in(head),
+            (Some(_), None) => false,
+            (None, _) => true,
+        }
     }
 
     /// The next entry of the merge. None exactly at the end.
@@ -142,6 +166,14 @@ fn place_in(head: u64) -> u32
     (head % 65536) as u32
 }
 
+// The stamp of the entry whose head this is.
+#[inline(always)]
+fn stamp_in(head: u64) -> u64
+    ensures { (stamp node log : ℕ) → node < 65536 → log < 65536 → head ≡ (stamp * 65536 + node) * 65536 + log → result ≡ stamp }
+{
+    head / 65536 / 65536
+}
+
 // The entry of the instruction whose head this is.
 #[inline(always)]
 fn instr_in(head: u64) -> Entry
@@ -154,6 +186,26 @@ fn instr_in(head: u64) -> Entry
             node: NodeNo((head / 65536 % 65536) as u16),
         },
     }
+}
+
+// Reads a log on to its first event at or behind a stamp, and answers its entry. None exactly where there is
+// none.
+fn skip_to(reading: &mut Cursor<'_>, stamp: u64) -> Option<Entry>
+    requires begun { reading.old.given ≡ None }
+    requires ascends { Ascends reading.old.left }
+    ensures entry { result ≡ option_map entry_of reading.new.given }
+    ensures left { left_of reading.new ≡ log_from stamp reading.old.left }
+    ensures ends { reading.new.given ≡ None → reading.new.left ≡ [] }
+    ensures ascends { Ascends (left_of reading.new) }
+{
+    let mut entry = reading.next();
+    while let Some(next) = entry {
+        if stamp <= u64::from(next.stamp) {
+            return entry;
+        }
+        entry = reading.next();
+    }
+    None
 }
 
 // A log goes on to its next event, whose head joins the others.

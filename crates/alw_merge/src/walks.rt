@@ -1,57 +1,30 @@
-ghost use Rattle.std.specs.Prelude.{◌≡◌, ◌≤◌, ◌<◌, ◌*◌, ◌++◌, [], ◌∷◌, length, IfOk, OnOk};
-ghost use Rattle.std.specs.List.{All};
+ghost use Rattle.std.specs.Prelude.{◌≡◌, ◌≤◌, ◌<◌, ◌*◌, ◌+◌, ◌^◌, ◌++◌, [], ◌∷◌, length, None, IfOk, OnOk};
+ghost use Rattle.std.specs.List.{AllByRecursion};
 ghost use Rattle.alw_num.specs.declared.node_sets.TheConstants.{MOST_NODES};
-ghost use Rattle.alw_msg.specs.Events.{node_of};
 ghost use Rattle.alw_model.specs.Threads.{merged};
 ghost use Rattle.alw_cells.specs.Logs.{logged};
-ghost use Rattle.alw_links.specs.Traffic.{link_in, links_with_all};
-ghost use Rattle.alw_mesh.specs.Keeping.{NodesAreWithin, after_taking};
-ghost use Rattle.alw_msg.specs.Lists.{behind};
-ghost use Rattle.alw_merge.specs.Joins.{courses_of, next_did, dids_at, LogsAreOfJournal, JournalIsWalked, MayFollow, Follows, EventIsTold};
+ghost use Rattle.alw_links.specs.Traffic.{link_in};
+ghost use Rattle.alw_tally.specs.Told.{sum_of};
+ghost use Rattle.alw_merge.specs.Joins.{courses_of, LogsAreOfJournal, JournalIsWalked};
+ghost use Rattle.alw_merge.specs.Spans as spans;
+ghost use Rattle.alw_merge.specs.Spans.{IsSpan, MovesAreWithin, IsBegun, IsWalkedOn, links_moved, told_in};
 
-use crate::merges::stream;
-use crate::streams::Read;
+use crate::spans::{Move, Span, walk_span};
 use alw_cells::{DidLists, Logs};
 use alw_image::{Image, Params};
 use alw_links::Links;
 use alw_mesh::LinkLists;
-use alw_model::Did;
-use alw_msg::{Event, Journal, Msg, MsgList};
-use alw_num::{MOST_NODES, NoMemory, NodeNo};
-use alw_tally::{Happened, Tally};
+use alw_model::Counts;
+use alw_msg::{Journal, Msg, MsgList, Prints, Turns};
+use alw_num::{MOST_NODES, NoMemory, NodeNo, Sequence};
 use std::alloc::Global;
-use std::marker::Model;
+use std::thread;
+use std::thread::Threads;
 
-// What the events of a node did, from the next one on.
-#[derive(Drop)]
-struct Rest<'a> {
-    dids: &'a [Did],
-}
+// A run is walked in so many spans at most, and in one more for each so many events.
+const MOST_SPANS: u32 = 8;
 
-impl<'a> Model for Rest<'a> {
-    ghost use Rattle.std.specs.Prelude.{List};
-    ghost use Rattle.alw_model.specs.declared.steps.Did.{Did};
-
-    ghost Value = { List Did };
-
-    ghost view = { λ r. r.dids.now };
-}
-
-impl<'a> Rest<'a> {
-    // What the next event did, which then isn't left any longer.
-    #[inline(always)]
-    fn next(&mut self) -> Did
-        requires { 1 ≤ length self.old }
-        ensures did { result ≡ next_did self.old }
-        ensures rest { self.new ≡ behind self.old }
-    {
-        let Some((did, rest)) = self.dids.split_first() else {
-            unreachable!();
-        };
-        self.dids = rest;
-        *did
-    }
-}
+const SPAN_EVENTS: u32 = 16384;
 
 /// The journal that logs merge to, and what its events leave and tell, as the logs say it: what is on the
 /// links, and turns, prints and counts, where no turn counts as having ended a hold.
@@ -59,7 +32,9 @@ impl<'a> Rest<'a> {
 pub struct Walked {
     pub journal: Journal,
     pub links: Links,
-    pub tally: Tally,
+    pub turns: Turns,
+    pub prints: Prints,
+    pub counts: Counts,
 }
 
 /// Goes through the merge of logs, and reads off them what each event took, sent and did. More entries than
@@ -74,121 +49,192 @@ pub fn walk(
     requires counted { length dids.now ≡ length logs.now }
     requires read { LogsAreOfJournal image.now params.now (merged (logged logs.now)) (courses_of (logged logs.now) dids.now) }
     ensures journal { IfOk result (λ walked. walked.journal ≡ merged (logged logs.now)) }
-    ensures walked { IfOk result (λ walked. JournalIsWalked image.now params.now (merged (logged logs.now)) walked.links walked.tally.told) }
+    ensures walked { IfOk result (λ walked. JournalIsWalked image.now params.now (merged (logged logs.now)) walked.links (told_in walked)) }
 {
-    let _allowed = image.parts();
-    let mut events = stream(alloc, logs)?;
-    let mut rests = rests_of(alloc, dids)?;
-    let mut sends = Vec::new(alloc);
-    let mut walked = Walked {
+    let _allowed = image.parts(); // for its clause
+    let span = walk_span(alloc, image, params, logs, dids, 0, None)?;
+    append(nothing(alloc, logs.len())?, span)
+}
+
+/// The same by so many threads at most, each of which walks a span of stamps up to the last, which is a
+/// guess that no clause needs.
+pub fn walk_by<R: Threads + Sync>(
+    rt: &R,
+    alloc: Global,
+    image: &Image,
+    params: &Params,
+    logs: &Logs,
+    dids: &DidLists,
+    threads: u32,
+    last: u32,
+) -> Result<Walked, NoMemory>
+    requires counted { length dids.now ≡ length logs.now }
+    requires read { LogsAreOfJournal image.now params.now (merged (logged logs.now)) (courses_of (logged logs.now) dids.now) }
+    ensures journal { IfOk result (λ walked. walked.journal ≡ merged (logged logs.now)) }
+    ensures walked { IfOk result (λ walked. JournalIsWalked image.now params.now (merged (logged logs.now)) walked.links (told_in walked)) }
+{
+    let _allowed = image.parts(); // for its clause
+    let count = threads
+        .min(MOST_SPANS)
+        .min(events_in(logs) / SPAN_EVENTS + 1)
+        .max(1);
+    let width = (last / count).saturating_add(1);
+    let spans = thread::map_indices(
+        rt,
+        alloc,
+        count as usize,
+        &move |k: usize| -> Result<Span, NoMemory>
+            requires { (k < count) × (length dids.now ≡ length logs.now)
+                × LogsAreOfJournal image.now params.now (merged (logged logs.now)) (courses_of (logged logs.now) dids.now) }
+            ensures { IfOk result (λ span. IsSpan image.entry.now params.entry.now (merged (logged logs.entry.now)) (k * width) (spans.bound count width (k + 1)) span) }
+        {
+            let low = k as u64 * u64::from(width);
+            walk_span(
+                alloc,
+                image,
+                params,
+                logs,
+                dids,
+                low,
+                bound(count, width, k as u32 + 1),
+            )
+        },
+    )?;
+    let mut walked = nothing(alloc, logs.len())?;
+    for span in spans {
+        walked = append(walked, span?)?;
+    }
+    Ok(walked)
+}
+
+// The number of events of all logs.
+fn events_in(logs: &Logs) -> u32 {
+    let mut events = 0u32;
+    for n in 0..logs.len() {
+        events = events.saturating_add(logs.at_ref(n).len());
+    }
+    events
+}
+
+// Where the k-th of so many spans of a width begins. The last goes on to the end.
+fn bound(count: u32, width: u32, k: u32) -> Option<u64>
+    ensures { result ≡ spans.bound count width k }
+{
+    if k < count {
+        Some(u64::from(k) * u64::from(width))
+    } else {
+        None
+    }
+}
+
+// No entry has been walked yet.
+fn nothing(alloc: Global, nodes: u32) -> Result<Walked, NoMemory>
+    requires { nodes ≤ MOST_NODES }
+    ensures { IfOk result (λ walked. IsBegun nodes walked) }
+{
+    Ok(Walked {
         journal: Journal::empty(alloc),
-        links: Links::start(alloc, logs.len())?,
-        tally: Tally::start(alloc),
-    };
-    loop {
-        if let Some(read) = events.plain() {
-            tell(image, &read, &[], &mut rests, &mut walked)?;
-            continue;
+        links: Links::start(alloc, nodes)?,
+        turns: Turns::empty(alloc),
+        prints: Prints::empty(alloc),
+        counts: Counts::default(),
+    })
+}
+
+// A span behind what has been walked.
+fn append(walked: Walked, span: Span) -> Result<Walked, NoMemory>
+    requires { MovesAreWithin walked.links.nodes span.moves.items }
+    ensures { IfOk result (λ more. IsWalkedOn walked span more) }
+{
+    let Walked {
+        journal,
+        mut links,
+        turns,
+        prints,
+        counts,
+    } = walked;
+    let counts = sum(&counts, &span.tally.counts())?;
+    let (more_turns, more_prints) = span.tally.into_parts();
+    carry(&mut links, &span.moves)?;
+    Ok(Walked {
+        journal: concat(journal, span.journal)?,
+        links,
+        turns: concat(turns, more_turns)?,
+        prints: concat(prints, more_prints)?,
+        counts,
+    })
+}
+
+// A list behind another. More members than a list can have are refused as too much memory is.
+fn concat<T: Copy + Drop>(list: Sequence<T>, more: Sequence<T>) -> Result<Sequence<T>, NoMemory>
+    ensures { IfOk result (λ all. all ≡ list ++ more) }
+{
+    if list.is_empty() {
+        return Ok(more);
+    }
+    let mut all = list;
+    for member in more.members() {
+        if all.len() == u32::MAX {
+            return Err(NoMemory);
         }
-        let Some(read) = events.event(&mut sends)? else {
-            return Ok(walked);
-        };
-        follow(image, &read, &sends, &mut rests, &mut walked)?;
+        all.push(*member)?;
     }
+    Ok(all)
 }
 
-// What the events of each node did.
-fn rests_of<'a>(alloc: Global, dids: &'a DidLists) -> Result<Vec<Rest<'a>>, NoMemory>
-    ensures { IfOk result (λ rests. rests.items ≡ dids.now) }
-{
-    let mut rests = Vec::new(alloc);
-    for n in 0..dids.len() {
-        rests.push(Rest {
-            dids: dids.at_ref(n).members(),
-        })?;
-    }
-    Ok(rests)
-}
-
-// One event more, as its node's log says it, and what is left of what the node's events did.
-#[inline(never)]
-fn follow(
-    image: &Image,
-    read: &Read,
-    sends: &[(u16, Msg)],
-    rests: &mut Vec<Rest<'_>>,
-    walked: &mut Walked,
-) -> Result<(), NoMemory>
-    requires here { node_of read.now.entry.event < length rests.old.items }
-    requires follows { MayFollow walked.old.links.nodes read.now.entry.event sends.now (dids_at rests.old.items (node_of read.now.entry.event)) }
-    ensures journal { OnOk result (walked.new.journal ≡ walked.old.journal ++ read.now.entry ∷ []) }
-    ensures follows { OnOk result (Follows image.now read.now sends.now rests.old.items rests.new.items walked.old.links walked.new.links walked.old.tally.told walked.new.tally.told) }
-{
-    tell(image, read, sends, rests, walked)?;
-    take_off(&mut walked.links, read.entry.event);
-    send_all(&mut walked.links, read.entry.event.node(), sends)
-}
-
-// The same, but for the links.
-#[inline(always)]
-fn tell(
-    image: &Image,
-    read: &Read,
-    sends: &[(u16, Msg)],
-    rests: &mut Vec<Rest<'_>>,
-    walked: &mut Walked,
-) -> Result<(), NoMemory>
-    requires here { node_of read.now.entry.event < length rests.old.items }
-    requires did { 1 ≤ length (dids_at rests.old.items (node_of read.now.entry.event)) }
-    requires few { length sends.now ≤ MOST_NODES }
-    ensures journal { OnOk result (walked.new.journal ≡ walked.old.journal ++ read.now.entry ∷ []) }
-    ensures told { OnOk result (EventIsTold image.now read.now sends.now rests.old.items rests.new.items walked.old.links walked.new.links walked.old.tally.told walked.new.tally.told) }
-{
-    if walked.journal.len() == u32::MAX {
-        return Err(NoMemory);
-    }
-    walked.journal.push(read.entry)?;
-    let node = read.entry.event.node();
-    let happened = Happened {
-        node,
-        did: rests[usize::from(node.0)].next(),
-        taken: read.taken,
-        used: false,
-        pc: 0,
-    };
-    walked.tally.reserve()?;
-    walked.tally.add_logged(image, &happened, sends);
-    Ok(())
-}
-
-// What an event of a node sent goes to the ends of links. Mostly it is nothing.
-fn send_all(links: &mut Links, from: NodeNo, sends: &[(u16, Msg)]) -> Result<(), NoMemory>
-    requires sender { from.0 < links.old.nodes }
-    requires few { length sends.now ≤ MOST_NODES }
-    requires go { All (λ send. send.0 < links.old.nodes) sends.now }
+// What has been moved goes over the links.
+fn carry(links: &mut Links, moves: &[Move]) -> Result<(), NoMemory>
+    requires { MovesAreWithin links.old.nodes moves.now }
     ensures nodes { OnOk result (links.new.nodes ≡ links.old.nodes) }
-    ensures links { OnOk result (links.new.links ≡ links_with_all links.old.nodes links.old.links from.0 sends.now) }
+    ensures links { OnOk result (links.new.links ≡ links_moved links.old.nodes links.old.links moves.now) }
 {
-    if sends.is_empty() {
-        return Ok(());
-    }
-    links.reserve(sends.len() as u32)?;
-    for i in 0..sends.len() {
-        let (to, msg) = sends[i];
-        links.send(from, NodeNo(to), msg);
+    for i in 0..moves.len() {
+        let Move { from, to, sent } = moves[i];
+        match sent {
+            None => {
+                let _taken = links.take(from, to);
+            }
+            Some(msg) => {
+                links.reserve(1)?;
+                links.send(from, to, msg);
+            }
+        }
     }
     Ok(())
 }
 
-// A delivery takes the head off its link.
-#[inline(always)]
-fn take_off(links: &mut Links, event: Event)
-    requires { NodesAreWithin links.old.nodes event }
-    ensures { links.new ≡ after_taking links.old event }
+// The counts of two runs, one behind the other.
+fn sum(one: &Counts, other: &Counts) -> Result<Counts, NoMemory>
+    ensures { IfOk result (λ counts. counts ≡ sum_of one.now other.now) }
 {
-    if let Event::Deliver { from, to } = event {
-        let _taken = links.take(from, to);
-    }
+    Ok(Counts {
+        entries: add(one.entries, other.entries)?,
+        turns: add(one.turns, other.turns)?,
+        misses: add(one.misses, other.misses)?,
+        evicts: add(one.evicts, other.evicts)?,
+        rreq: add(one.rreq, other.rreq)?,
+        wreq: add(one.wreq, other.wreq)?,
+        repm: add(one.repm, other.repm)?,
+        update: add(one.update, other.update)?,
+        ackc: add(one.ackc, other.ackc)?,
+        rdata: add(one.rdata, other.rdata)?,
+        wdata: add(one.wdata, other.wdata)?,
+        inv: add(one.inv, other.inv)?,
+        busy: add(one.busy, other.busy)?,
+        hops: add(one.hops, other.hops)?,
+        handlers: add(one.handlers, other.handlers)?,
+        spills: add(one.spills, other.spills)?,
+        replies: add(one.replies, other.replies)?,
+        used: add(one.used, other.used)?,
+    })
+}
+
+// Counts that come to more than can be counted are refused as too much memory is.
+#[inline(always)]
+fn add(one: u64, other: u64) -> Result<u64, NoMemory>
+    ensures { IfOk result (λ sum. sum ≡ one + other) }
+{
+    one.checked_add(other).ok_or(NoMemory)
 }
 
 /// The messages on the links of so many nodes, those of (from, to) at the place from * nodes + to.

@@ -8,7 +8,7 @@ ghost use Rattle.alw_threads.specs.Working.{Works, IsNotWorked, HasRoom, IsJoine
 use alw_answers::{InputErr, Output, Refusal};
 use alw_config::Form;
 use alw_image::{Image, Params, read_image};
-use alw_merge::join;
+use alw_merge::join_by;
 use alw_mesh::{Machine, fit};
 use alw_num::NoMemory;
 use alw_runs::told;
@@ -70,5 +70,5 @@ fn joined<R: Threads + Wait + Sync, G: Gate>(
     ensures { IfOk result (λ machine. IsJoinedByWorkers image.now params.now machine) }
 {
     let worked = run_workers::<R, G>(rt, alloc, image, params, workers, gate)?;
-    join(alloc, image, params, worked)
+    join_by(rt, alloc, image, params, worked, workers)
 }

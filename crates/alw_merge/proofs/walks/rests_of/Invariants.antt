@@ -1,6 +1,0 @@
-use Rattle.std.proofs.Common.{◌≡◌, take}
-use Rattle.alw_merge.proofs.walks.rests_of.Given as goal
-
--- the nodes so far
-abbrev pub invariant-loop-n : goal.invariant-loop-n
-invariant-loop-n l = l.rests.items ≡ take l.n l.dids
