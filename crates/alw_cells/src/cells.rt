@@ -119,7 +119,8 @@ impl NodeCell {
         }
     }
 
-    /// Whether an instruction is the one event that a step may take, whatever number picks.
+    /// True where an instruction may happen, and false where it may not. It is false too where another event
+    /// may be taken in its place, which no clause says.
     #[inline(always)]
     pub fn is_alone(&self) -> bool
         ensures { IsTrue result → may_happen self.now (instr_at self.now.node.number) ≡ true }

@@ -1,6 +1,6 @@
 -- Journals whose stamps don't fall, and the places of stamps in them: the merge of logs from a stamp on is what stands from its place on.
-use Rattle.std.proofs.Common.{◌≡◌, ℕ, zero, suc, ◌+◌, ◌-◌, ◌≤◌, ◌<◌, nat_lt, nat_le, Bool, true, false, cond, Option, Some, None, List, [], ◌∷◌, ◌++◌}
-use Rattle.std.proofs.Common.{map, flat_map, filter, length, take, drop, slice_get, refl, sym, ap, ap₂, ◌∙◌, arith, take-add, drop-drop}
+use Rattle.std.proofs.Common.{◌≡◌, ℕ, zero, suc, ◌+◌, ◌≤◌, ◌<◌, nat_lt, nat_le, Bool, true, false, cond, Option, Some, None, List, [], ◌∷◌, ◌++◌}
+use Rattle.std.proofs.Common.{map, flat_map, filter, length, drop, slice_get, refl, sym, ap, ap₂, ◌∙◌, arith}
 use Rattle.std.specs.Prelude.{⊤}
 use Rattle.std.specs.List.{AllByRecursion}
 use Rattle.std.proofs.lemmas.Bool.{true≢false, leb-true, le-leb, lt-ltb}
@@ -11,7 +11,7 @@ use Rattle.alw_msg.specs.declared.events.Entry.{Entry}
 use Rattle.alw_msg.specs.Lists.{front}
 use Rattle.alw_model.specs.Threads.{Logged, Logs, is_before, placed, in_order, merged}
 use Rattle.alw_node.proofs.KeptMembers.{few_kept}
-use Rattle.alw_merge.specs.Spans.{place_of, end_of, IsAtMost, is_behind, between, log_from, logs_from}
+use Rattle.alw_merge.specs.Spans.{place_of, end_of, IsAtMost, is_behind, log_from, logs_from}
 
 -- ---- stamps that don't fall
 
@@ -231,21 +231,3 @@ place_rises low high (first ∷ rest) most = go (is_below low first) refl (is_be
 pub place_before : (low : ℕ) (high : Option ℕ) (journal : List Entry) → IsAtMost low high → place_of low journal ≤ end_of high journal
 place_before low None journal most = place_fits low journal
 place_before low (Some high) journal most = place_rises low high journal most
-
--- ---- what stands between places
-
-between_both : {A : Type 0} (i m n : ℕ) (xs : List A) → take m (drop i xs) ++ take n (drop (i + m) xs) ≡ take (m + n) (drop i xs)
-between_both {A = A} i m n xs = ap (λ (l : List A). take m (drop i xs) ++ take n l) (sym (drop-drop m i xs)) ∙ sym (take-add m n (drop i xs))
-
--- what stands up to a place and from there on
-pub between_more : {A : Type 0} (i j k : ℕ) (xs : List A) → i ≤ j → j ≤ k → between i j xs ++ between j k xs ≡ between i k xs
-between_more i j k xs low high =
-    let place : j ≡ i + (j - i) = omega (arith, low) in
-    let most : (j - i) + (k - j) ≡ k - i = omega (arith, low, high) in
-    ap (λ (n : ℕ). between i j xs ++ take (k - j) (drop n xs)) place ∙ (between_both i (j - i) (k - j) xs ∙ ap (λ (n : ℕ). take n (drop i xs)) most)
-
--- what stands in front of a place and from there on
-pub between_take : {A : Type 0} (j k : ℕ) (xs : List A) → j ≤ k → take j xs ++ between j k xs ≡ take k xs
-between_take j k xs high =
-    let most : j + (k - j) ≡ k = omega (arith, high) in
-    sym (take-add j (k - j) xs) ∙ ap (λ (n : ℕ). take n xs) most
