@@ -1,9 +1,7 @@
 -- Logs from a stamp on, with what their events did: the courses of nodes behind a place of a journal whose stamps rise.
-use Rattle.std.proofs.Common.{◌≡◌, ℕ, zero, suc, ◌+◌, ◌-◌, ◌<◌, ◌≤◌, ◌==◌, nat_lt}
+use Rattle.std.proofs.Common.{◌≡◌, ℕ, zero, suc, ◌+◌, ◌-◌, ◌<◌, ◌≤◌, ◌==◌}
 use Rattle.std.proofs.Common.{Bool, true, false, cond, Some, List, [], ◌∷◌, ◌++◌, map, length, take, drop, slice_get, refl, sym, ap, subst, ◌∙◌, arith}
 use Rattle.std.specs.Prelude.{filter, nat_le}
-use Rattle.std.specs.List.{AllByRecursion}
-use Rattle.std.proofs.lemmas.Bool.{ltb-true, ltb-false, le-ltb, le-leb, lt-leb}
 use Rattle.std.proofs.lemmas.List.{length-map, length-append, map-append, take-append-drop, take_more, take_all, drop_at}
 use Rattle.std.proofs.lemmas.List.Elements.{filter-append}
 use Rattle.std.proofs.lemmas.Option.{get_or_from_slice_get}
@@ -16,12 +14,13 @@ use Rattle.alw_model.specs.Machine.{MachineState, machine_start, step}
 use Rattle.alw_model.specs.Runs.{Moment, number_of, moments_from, moments}
 use Rattle.alw_model.specs.Rows.{log_in}
 use Rattle.alw_model.specs.Threads.{Logged, Logs, log_at, merged}
+use Rattle.alw_node.proofs.KeptMembers.{few_kept}
 use Rattle.law_order.proofs.JournalLogs.{logged_of}
 use Rattle.alw_merge.specs.Joins.{Course, course_at, courses_of, course_of, dids_at, LogsAreOfJournal}
 use Rattle.alw_merge.specs.Spans.{place_of, log_from, logs_from, dids_behind}
 use Rattle.alw_merge.proofs.Courses.{mine, dids_in}
 use Rattle.alw_merge.proofs.Joining.{courses_long, courses_read}
-use Rattle.alw_merge.proofs.Spanning.{Rises}
+use Rattle.alw_merge.proofs.Spanning.{Rises, from_rising}
 
 -- ---- moments from a stamp on
 
@@ -38,36 +37,9 @@ pub entries_of : (image : Parts) (parameters : Parameters) (journal : List Entry
 unfolding moments
 entries_of image parameters journal = entries_from image parameters (machine_start image) journal
 
--- the moments whose stamps aren't below one, and the entries whose stamps are
+-- the moments whose stamps aren't below one
 abbrev late : ℕ → List Moment → List Moment
 late stamp run = filter (λ (moment : Moment). nat_le stamp moment.entry.stamp) run
-
-abbrev early : ℕ → List Entry → List Entry
-early stamp journal = filter (λ (entry : Entry). nat_lt entry.stamp stamp) journal
-
--- where all stamps are at least one, none is below it
-none_early : (stamp low : ℕ) (run : List Moment) → stamp ≤ low → AllByRecursion (λ (later : Entry). low ≤ later.stamp) (entries run) → (place_of stamp (entries run) ≡ 0) × (late stamp run ≡ run)
-none_early stamp low [] least all = (refl, refl)
-none_early stamp low (moment ∷ rest) least all =
-    let deeper = none_early stamp low rest least all.1 in
-    let here : stamp ≤ moment.entry.stamp = omega (arith, least, all.0) in (
-      ap (λ b. length (cond b (moment.entry ∷ early stamp (entries rest)) (early stamp (entries rest)))) (le-ltb moment.entry.stamp stamp here) ∙ deeper.0,
-      ap (λ b. cond b (moment ∷ late stamp rest) (late stamp rest)) (le-leb stamp moment.entry.stamp here) ∙ ap (λ (xs : List Moment). moment ∷ xs) deeper.1,
-    )
-
--- of a run whose stamps rise, those from a stamp on are the ones behind its place
-late_are : (stamp : ℕ) (run : List Moment) → Rises (entries run) → drop (place_of stamp (entries run)) run ≡ late stamp run
-late_are stamp [] rises = refl
-late_are stamp (moment ∷ rest) rises = go (nat_lt moment.entry.stamp stamp) refl (late_are stamp rest rises.1)
-  where
-    go : (b : Bool) → nat_lt moment.entry.stamp stamp ≡ b → drop (place_of stamp (entries rest)) rest ≡ late stamp rest
-        → drop (length (cond b (moment.entry ∷ early stamp (entries rest)) (early stamp (entries rest)))) (moment ∷ rest) ≡ cond (nat_le stamp moment.entry.stamp) (moment ∷ late stamp rest) (late stamp rest)
-    go true below deeper = deeper ∙ sym (ap (λ b. cond b (moment ∷ late stamp rest) (late stamp rest)) (lt-leb stamp moment.entry.stamp (ltb-true moment.entry.stamp stamp below)))
-    go false least deeper =
-        let here : stamp ≤ moment.entry.stamp = ltb-false moment.entry.stamp stamp least in
-        let none = none_early stamp moment.entry.stamp rest here rises.0 in
-        ap (λ (n : ℕ). drop n (moment ∷ rest)) none.0
-        ∙ sym (ap (λ b. cond b (moment ∷ late stamp rest) (late stamp rest)) (le-leb stamp moment.entry.stamp here) ∙ ap (λ (xs : List Moment). moment ∷ xs) none.1)
 
 -- ---- the log of a node, and what its events did
 
@@ -141,14 +113,6 @@ rests_more logs dids rests n all rest same here there so_far is =
 pub rests_end : (logs : Logs) (dids rests : List (List Did)) (n : ℕ) → length dids ≡ length logs → length dids ≤ n → rests ≡ take n (dids_behind logs dids) → rests ≡ dids_behind logs dids
 rests_end logs dids rests n same past so_far = so_far ∙ take_all n (dids_behind logs dids) (omega (arith, dids_long logs dids same, same, past))
 
-few_pass : {X : Type 0} (test : X → Bool) (xs : List X) → length (filter test xs) ≤ length xs
-few_pass test [] = omega arith
-few_pass test (x ∷ xs) = go (test x) (few_pass test xs)
-  where
-    go : (b : Bool) → length (filter test xs) ≤ length xs → length (cond b (x ∷ filter test xs) (filter test xs)) ≤ suc (length xs)
-    go true deeper = omega (arith, deeper)
-    go false deeper = omega (arith, deeper)
-
 -- ---- courses
 
 module _ (image : Parts) (parameters : Parameters) (stamp : ℕ) (logs : Logs) (dids : List (List Did)) (same : length dids ≡ length logs)
@@ -173,7 +137,7 @@ module _ (image : Parts) (parameters : Parameters) (stamp : ℕ) (logs : Logs) (
   behind_are : drop place run ≡ late stamp run
   behind_are =
       let entries_are = entries_of image parameters (merged logs) in
-      ap (λ (journal : List Entry). drop (place_of stamp journal) run) (sym entries_are) ∙ late_are stamp run (subst Rises (sym entries_are) rises)
+      ap (λ (journal : List Entry). drop (place_of stamp journal) run) (sym entries_are) ∙ from_rising (λ (moment : Moment). moment.entry) stamp run (subst Rises (sym entries_are) rises)
 
   -- what is left of each log from a stamp on, and of what its events did, is the course of the moments behind the stamp's place
   pub courses_from : (n : ℕ) → n < node_count image
@@ -191,7 +155,7 @@ module _ (image : Parts) (parameters : Parameters) (stamp : ℕ) (logs : Logs) (
       omega (
         arith,
         ap length (log_there stamp logs n),
-        few_pass (λ (logged : Logged). nat_le stamp logged.entry.stamp) (log_at logs n),
+        few_kept (λ (logged : Logged). nat_le stamp logged.entry.stamp) (log_at logs n),
         ap length (log_is n here),
         ap length (dids_are n here),
         length-map (mine n run) (λ (moment : Moment). moment.stepped.did),

@@ -1,9 +1,11 @@
 -- Spans that are walked one behind the other: each goes on where the one before it ends.
-use Rattle.std.proofs.Common.{◌≡◌, ℕ, ◌+◌, ◌*◌, ◌≤◌, ◌<◌, nat_lt, Bool, true, false, cond, Option, Some, None, Result, Ok, List, [], ◌∷◌, ◌++◌, length, slice_index_or, refl, sym, ap, subst, ◌∙◌, arith}
-use Rattle.std.specs.Prelude.{IfOk}
-use Rattle.std.proofs.lemmas.Bool.{lt-ltb, ltb-true}
+use Rattle.std.proofs.Common.{◌≡◌, ℕ, ◌+◌, ◌*◌, ◌≤◌, ◌<◌, nat_lt, Bool, true, false, cond, Option, Some, None, Result, Ok, List, [], ◌∷◌, ◌++◌, length, refl, sym, ap, subst, ◌∙◌, append_assoc, arith}
+use Rattle.std.proofs.Math.Seq.{get_or-append_seam}
+use Rattle.std.proofs.lemmas.Bool.{lt-ltb, le-ltb}
 use Rattle.std.proofs.lemmas.Nat.{mul-le}
-use Rattle.std.proofs.lemmas.List.{take_all}
+use Rattle.std.proofs.lemmas.List.{length-append, length_push, take_all}
+use Rattle.std.proofs.lemmas.Option.{slice_get_read}
+use Rattle.alw_num.specs.declared.memory.NoMemory.{NoMemory}
 use Rattle.alw_msg.specs.declared.events.Entry.{Entry}
 use Rattle.alw_image.specs.declared.parts.Parts.{Parts}
 use Rattle.alw_image.specs.Images.{node_count}
@@ -12,7 +14,7 @@ use Rattle.alw_model.specs.Machine.{IsLegal}
 use Rattle.alw_merge.specs.declared.spans.Span.{Span}
 use Rattle.alw_merge.specs.declared.walks.Walked.{Walked}
 use Rattle.alw_merge.specs.Joins.{JournalIsWalked}
-use Rattle.alw_merge.specs.Spans.{place_of, end_of, bound, IsAtMost, MovesAreWithin, IsSpan, IsBegun, IsWalkedOn, IsWalkedTo, told_in}
+use Rattle.alw_merge.specs.Spans.{place_of, end_of, bound, IsAtMost, MovesAreWithin, IsSpan, AreSpans, IsBegun, IsWalkedOn, IsWalkedTo, told_in}
 use Rattle.alw_merge.proofs.Spanning.{place_fits, place_before, place_start}
 use Rattle.alw_merge.proofs.Moving.{moves_within, walked_on, walked_begins}
 
@@ -47,44 +49,8 @@ bound_is : (count width k : ℕ) → k < count → bound count width k ≡ Some 
 bound_is count width k here = ap (λ (b : Bool). cond b (Some (k * width)) None) (lt-ltb k count here)
 
 -- the last goes on to the end
-pub bound_last : (count width k : ℕ) → count ≤ k → bound count width k ≡ None
-bound_last count width k past = ap (λ (b : Bool). cond b (Some (k * width)) None) (ltb-past k count past)
-  where
-    ltb-past : (k count : ℕ) → count ≤ k → nat_lt k count ≡ false
-    ltb-past k count past = by_case (nat_lt k count) refl
-      where
-        by_case : (b : Bool) → nat_lt k count ≡ b → b ≡ false
-        by_case true is = absurd (omega (arith, ltb-true k count is, past))
-        by_case false is = refl
-
--- a member of a list stands behind those before it
-stands_at : {A : Type 0} (before rest all : List A) (x d : A) → before ++ x ∷ rest ≡ all → slice_index_or all (length before) d ≡ x
-stands_at before rest all x d is = sym (ap (λ (xs : List _). slice_index_or xs (length before) d) is) ∙ here before
-  where
-    here : (before : List _) → slice_index_or (before ++ x ∷ rest) (length before) d ≡ x
-    here [] = refl
-    here (one ∷ more) = here more
-
-pub span_at : {A E : Type 0} (P : A → Type 0) (before rest all : List (Result A E)) (x : Result A E) (span : A) → before ++ x ∷ rest ≡ all → x ≡ Ok span → IfOk (slice_index_or all (length before) x) P → P span
-span_at P before rest all x span is ok holds = subst (λ (r : Result _ _). IfOk r P) (stands_at before rest all x x is ∙ ok) holds
-
-module _ {image : Parts} {parameters : Parameters} {journal : List Entry} (legal : IsLegal image parameters journal) (count width k : ℕ) (here : k < count) {walked : Walked}
-    (so_far : IsWalkedTo image parameters journal (end_of (bound count width k) journal) walked) {span : Span} (is : IsSpan image parameters journal (k * width) (bound count width (k + 1)) span) where
-  -- the k-th span moves between nodes that exist
-  pub next_within : MovesAreWithin walked.links.nodes span.moves.items
-  next_within = span_within legal (bound_next count width k) is so_far.walked_is.nodes_are
-
-  -- it has been walked besides
-  pub next_walked : {more : Walked} → IsWalkedOn walked span more → IsWalkedTo image parameters journal (end_of (bound count width (k + 1)) journal) more
-  next_walked {more} on = span_walked legal (bound_next count width k) is (subst (λ (begin : Option ℕ). IsWalkedTo image parameters journal (end_of begin journal) walked) (bound_is count width k here) so_far) on
-
--- nothing has been walked yet
-pub none_walked : {image : Parts} {parameters : Parameters} {journal : List Entry} (count width : ℕ) → 1 ≤ count → {walked : Walked} → IsBegun (node_count image) walked
-    → IsWalkedTo image parameters journal (end_of (bound count width 0) journal) walked
-none_walked {image} {parameters} {journal} count width some {walked} begun =
-    let nought : 0 * width ≡ 0 = omega arith in
-    let start : end_of (bound count width 0) journal ≡ 0 = ap (λ (begin : Option ℕ). end_of begin journal) (bound_is count width 0 (omega (arith, some))) ∙ (ap (λ (stamp : ℕ). place_of stamp journal) nought ∙ place_start journal) in
-    subst (λ (i : ℕ). IsWalkedTo image parameters journal i walked) (sym start) (walked_begins image parameters journal walked begun)
+bound_last : (count width k : ℕ) → count ≤ k → bound count width k ≡ None
+bound_last count width k past = ap (λ (b : Bool). cond b (Some (k * width)) None) (le-ltb k count past)
 
 -- all is one span
 module _ {image : Parts} {parameters : Parameters} {journal : List Entry} (legal : IsLegal image parameters journal) {begun : Walked} {nodes : ℕ} (nodes_are : nodes ≡ node_count image) (is_begun : IsBegun nodes begun)
@@ -96,14 +62,57 @@ module _ {image : Parts} {parameters : Parameters} {journal : List Entry} (legal
   whole_walked {more} on = span_walked legal {low = 0} {high = None} tt is (subst (λ (i : ℕ). IsWalkedTo image parameters journal i begun) (sym (place_start journal))
       (walked_begins image parameters journal begun (subst (λ (n : ℕ). IsBegun n begun) nodes_are is_begun))) on
 
--- the last span has been walked
-pub whole_at : {image : Parts} {parameters : Parameters} {journal : List Entry} {walked : Walked} {begin : Option ℕ} → begin ≡ None → IsWalkedTo image parameters journal (end_of begin journal) walked
-    → IsWalkedTo image parameters journal (length journal) walked
-whole_at {image} {parameters} {journal} {walked} none is = subst (λ (begin : Option ℕ). IsWalkedTo image parameters journal (end_of begin journal) walked) none is
-
 -- all has been walked
 pub all_walked : {image : Parts} {parameters : Parameters} {journal : List Entry} {walked : Walked} → IsWalkedTo image parameters journal (length journal) walked
     → (walked.journal ≡ journal) × JournalIsWalked image parameters journal walked.links (told_in walked)
 all_walked {image} {parameters} {journal} {walked} is =
     let all = take_all (length journal) journal (omega arith) in
     (is.entries_are ∙ all, subst (λ (entries : List Entry). JournalIsWalked image parameters entries walked.links (told_in walked)) all is.walked_is)
+
+-- ---- spans of one width, one by one
+
+-- spans of one width, of which some have been walked and others are left
+pub record AreUnderWay (image : Parts) (parameters : Parameters) (journal : List Entry) (count width : ℕ) (before left : List (Result Span NoMemory)) (walked : Walked) : Type 0 where
+  pub are : AreSpans image parameters journal count width (before ++ left)
+  pub walked_is : IsWalkedTo image parameters journal (end_of (bound count width (length before)) journal) walked
+
+module _ {image : Parts} {parameters : Parameters} {journal : List Entry} {count width : ℕ} where
+  -- none has been walked yet
+  pub begins : 1 ≤ count → {spans left : List (Result Span NoMemory)} → AreSpans image parameters journal count width spans → left ≡ spans → {nodes : ℕ} → nodes ≡ node_count image
+      → {walked : Walked} → IsBegun nodes walked → AreUnderWay image parameters journal count width [] left walked
+  begins some are all nodes_are {walked} begun =
+      let start : end_of (bound count width 0) journal ≡ 0 = ap (λ (begin : Option ℕ). end_of begin journal) (bound_is count width 0 some) ∙ (ap (λ (stamp : ℕ). place_of stamp journal) (omega arith) ∙ place_start journal) in
+      record {
+        are = subst (AreSpans image parameters journal count width) (sym all) are;
+        walked_is = subst (λ (i : ℕ). IsWalkedTo image parameters journal i walked) (sym start) (walked_begins image parameters journal walked (subst (λ (n : ℕ). IsBegun n walked) nodes_are begun));
+      }
+
+  module _ {before left : List (Result Span NoMemory)} {walked : Walked} (so_far : AreUnderWay image parameters journal count width before left walked) where
+    -- all have been walked
+    pub ends : length left ≡ 0 → (walked.journal ≡ journal) × JournalIsWalked image parameters journal walked.links (told_in walked)
+    ends none =
+        let past : count ≤ length before = omega (arith, none, length-append before left, so_far.are.count_is) in
+        all_walked (subst (λ (begin : Option ℕ). IsWalkedTo image parameters journal (end_of begin journal) walked) (bound_last count width (length before) past) so_far.walked_is)
+
+    module _ (legal : IsLegal image parameters journal) {one : Result Span NoMemory} {rest : List (Result Span NoMemory)} (next : left ≡ one ∷ rest) {span : Span} (ok : one ≡ Ok span) where
+      are : AreSpans image parameters journal count width (before ++ one ∷ rest)
+      are = subst (λ (spans : List (Result Span NoMemory)). AreSpans image parameters journal count width (before ++ spans)) next so_far.are
+
+      within : length before < length (before ++ one ∷ rest)
+      within = omega (arith, length-append before (one ∷ rest))
+
+      is : IsSpan image parameters journal (length before * width) (bound count width (length before + 1)) span
+      is = are.each (length before) span (slice_get_read (before ++ one ∷ rest) _ (length before) (Ok span) refl within (sym (get_or-append_seam before one rest (Ok span) ∙ ok)))
+
+      -- the next span moves between nodes that exist
+      pub next_within : MovesAreWithin walked.links.nodes span.moves.items
+      next_within = span_within legal (bound_next count width (length before)) is so_far.walked_is.walked_is.nodes_are
+
+      -- it has been walked besides
+      pub goes_on : {more : Walked} → IsWalkedOn walked span more → AreUnderWay image parameters journal count width (before ++ one ∷ []) rest more
+      goes_on {more} on = record {
+        are = subst (AreSpans image parameters journal count width) (sym (append_assoc before (one ∷ []) rest)) are;
+        walked_is = subst (λ (k : ℕ). IsWalkedTo image parameters journal (end_of (bound count width k) journal) more) (sym (length_push before one))
+            (span_walked legal (bound_next count width (length before)) is (subst (λ (begin : Option ℕ). IsWalkedTo image parameters journal (end_of begin journal) walked)
+            (bound_is count width (length before) (omega (arith, within, are.count_is))) so_far.walked_is) on);
+      }

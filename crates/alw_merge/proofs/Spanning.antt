@@ -1,10 +1,11 @@
 -- Journals whose stamps don't fall, and the places of stamps in them: the merge of logs from a stamp on is what stands from its place on.
-use Rattle.std.proofs.Common.{◌≡◌, ℕ, zero, suc, ◌+◌, ◌≤◌, ◌<◌, nat_lt, nat_le, Bool, true, false, cond, Option, Some, None, List, [], ◌∷◌, ◌++◌}
-use Rattle.std.proofs.Common.{map, flat_map, filter, length, drop, slice_get, refl, sym, ap, ap₂, ◌∙◌, arith}
+use Rattle.std.proofs.Common.{◌≡◌, ℕ, zero, suc, ◌≤◌, ◌<◌, nat_lt, nat_le, Bool, true, false, cond, Option, Some, None, List, [], ◌∷◌, ◌++◌}
+use Rattle.std.proofs.Common.{map, flat_map, filter, length, drop, slice_get, refl, sym, ap, ap₂, subst, ◌∙◌, arith}
 use Rattle.std.specs.Prelude.{⊤}
 use Rattle.std.specs.List.{AllByRecursion}
-use Rattle.std.proofs.lemmas.Bool.{true≢false, leb-true, le-leb, lt-ltb}
+use Rattle.std.proofs.lemmas.Bool.{true≢false, ltb-true, ltb-false, le-ltb, lt-ltb, leb-true, le-leb, lt-leb}
 use Rattle.std.proofs.lemmas.Bool.Decides.{nat_tests}
+use Rattle.std.proofs.lemmas.List.{map-id}
 use Rattle.std.proofs.lemmas.List.Elements.{filter-append}
 use Rattle.std.proofs.lemmas.Option.{same_Some}
 use Rattle.alw_msg.specs.declared.events.Entry.{Entry}
@@ -126,41 +127,38 @@ logs_entries stamp (log ∷ logs) = ap₂ (λ (one other : List Entry). one ++ o
 
 -- ---- where stamps don't fall
 
-all_from : (stamp : ℕ) (entries : List Entry) → AreFrom stamp entries → filter (is_from stamp) entries ≡ entries
-all_from stamp [] all = refl
-all_from stamp (first ∷ rest) all = ap₂ (λ b l. cond b (first ∷ l) l) (le-leb stamp first.stamp all.0) (all_from stamp rest all.1)
-
-not_below : (n stamp : ℕ) → stamp ≤ n → nat_lt n stamp ≡ false
-not_below n stamp above = grind (arith, nat_tests)
-
-not_from : (n stamp : ℕ) → nat_lt n stamp ≡ true → nat_le stamp n ≡ false
-not_from n stamp below = grind (arith, nat_tests)
-
-at_least : (n stamp : ℕ) → nat_lt n stamp ≡ false → stamp ≤ n
-at_least n stamp above = grind (arith, nat_tests)
-
 none_below : (stamp : ℕ) (entries : List Entry) → AreFrom stamp entries → filter (is_below stamp) entries ≡ []
 none_below stamp [] all = refl
-none_below stamp (first ∷ rest) all = ap₂ (λ b l. cond b (first ∷ l) l) (not_below first.stamp stamp all.0) (none_below stamp rest all.1)
+none_below stamp (first ∷ rest) all = ap₂ (λ b l. cond b (first ∷ l) l) (le-ltb first.stamp stamp all.0) (none_below stamp rest all.1)
 
-from_rising : (stamp : ℕ) (entries : List Entry) → Rises entries → filter (is_from stamp) entries ≡ drop (place_of stamp entries) entries
-from_rising stamp [] rises = refl
-from_rising stamp (first ∷ rest) rises = go (is_below stamp first) refl (from_rising stamp rest rises.1)
+-- of what has entries whose stamps don't fall, that from a stamp on is what stands from the stamp's place on
+pub from_rising : {X : Type 0} (entry_of : X → Entry) (stamp : ℕ) (xs : List X) → Rises (map entry_of xs)
+    → drop (place_of stamp (map entry_of xs)) xs ≡ filter (λ (x : X). nat_le stamp (entry_of x).stamp) xs
+from_rising entry_of stamp [] rises = refl
+from_rising {X} entry_of stamp (first ∷ rest) rises = go (is_below stamp (entry_of first)) refl (from_rising entry_of stamp rest rises.1)
   where
-    go : (b : Bool) → is_below stamp first ≡ b → filter (is_from stamp) rest ≡ drop (place_of stamp rest) rest
-        → cond (is_from stamp first) (first ∷ filter (is_from stamp) rest) (filter (is_from stamp) rest)
-        ≡ drop (length (cond b (first ∷ filter (is_below stamp) rest) (filter (is_below stamp) rest))) (first ∷ rest)
-    go true below deep = ap (λ b. cond b (first ∷ filter (is_from stamp) rest) (filter (is_from stamp) rest)) (not_from first.stamp stamp below) ∙ deep
-    go false below deep =
-        let above = at_least first.stamp stamp below in
-        let all = lower stamp first.stamp rest above rises.0 in
-        all_from stamp (first ∷ rest) (above, all) ∙ ap (λ (l : List Entry). drop (length l) (first ∷ rest)) (sym (none_below stamp rest all))
+    from : List X → List X
+    from xs = filter (λ (x : X). is_from stamp (entry_of x)) xs
+
+    below : List Entry
+    below = filter (is_below stamp) (map entry_of rest)
+
+    go : (b : Bool) → is_below stamp (entry_of first) ≡ b → drop (length below) rest ≡ from rest
+        → drop (length (cond b (entry_of first ∷ below) below)) (first ∷ rest) ≡ cond (is_from stamp (entry_of first)) (first ∷ from rest) (from rest)
+    go true under deep = rw (lt-leb stamp (entry_of first).stamp (ltb-true (entry_of first).stamp stamp under)) deep
+    go false above deep =
+        let here = ltb-false (entry_of first).stamp stamp above in
+        let none = none_below stamp (map entry_of rest) (lower stamp (entry_of first).stamp (map entry_of rest) here rises.0) in
+        rw (le-leb stamp (entry_of first).stamp here, none) (ap (λ (l : List X). first ∷ l) (ap (λ (es : List Entry). drop (length es) rest) (sym none) ∙ deep))
 
 -- the merge of logs from a stamp on is what stands from its place on
 pub from_merged : (stamp : ℕ) (logs : Logs) → merged (logs_from stamp logs) ≡ drop (place_of stamp (merged logs)) (merged logs)
 unfolding merged
 from_merged stamp logs = ap in_order (logs_entries stamp logs) ∙ (ordered_from stamp (entries_of logs)
-    ∙ from_rising stamp (in_order (entries_of logs)) (ordered_rises (entries_of logs)))
+    ∙ sym (subst (λ (es : List Entry). Rises es → drop (place_of stamp es) whole ≡ filter (is_from stamp) whole) (map-id whole) (from_rising (λ (entry : Entry). entry) stamp whole) (ordered_rises (entries_of logs))))
+  where
+    whole : List Entry
+    whole = in_order (entries_of logs)
 
 log_start : (log : List Logged) → log_from 0 log ≡ log
 log_start [] = refl
@@ -176,7 +174,7 @@ from_start (log ∷ logs) = ap₂ (λ (one : List Logged) (other : Logs). one �
 -- 0 stands in front of all
 pub place_start : (journal : List Entry) → place_of 0 journal ≡ 0
 place_start [] = refl
-place_start (entry ∷ rest) = ap (λ b. length (cond b (entry ∷ filter (is_below 0) rest) (filter (is_below 0) rest))) (not_below entry.stamp 0 (omega arith)) ∙ place_start rest
+place_start (entry ∷ rest) = ap (λ b. length (cond b (entry ∷ filter (is_below 0) rest) (filter (is_below 0) rest))) (le-ltb entry.stamp 0 (omega arith)) ∙ place_start rest
 
 above_first : (stamp : ℕ) (entries : List Entry) (i : ℕ) (entry : Entry) → AreFrom stamp entries → slice_get entries i ≡ Some entry → stamp ≤ entry.stamp
 above_first stamp [] i entry all is = absurd (cc)

@@ -1,7 +1,9 @@
 -- A run in spans of stamps: what a span has of a journal and of logs, what its events move on links, and what they tell.
-use Rattle.std.specs.Prelude.{◌≡◌, ℕ, ◌≤◌, ◌<◌, ◌*◌, ◌-◌, nat_lt, nat_le, ⊤, Bool, true, cond, not, Option, Some, None, List, [], ◌∷◌, ◌++◌, map, flat_map, filter, length, take, drop, replicate, slice_set}
+use Rattle.std.specs.Prelude.{◌≡◌, ℕ, ◌≤◌, ◌<◌, ◌+◌, ◌*◌, ◌-◌, nat_lt, nat_le, ⊤, Bool, true, false, cond, Option, Some, None, Result, Ok, List, [], ◌∷◌, ◌++◌}
+use Rattle.std.specs.Prelude.{map, flat_map, filter, length, take, drop, replicate, slice_get, slice_set}
 use Rattle.std.specs.List.{AllByRecursion}
 use Rattle.alw_num.specs.Limits.{most_nodes}
+use Rattle.alw_num.specs.declared.memory.NoMemory.{NoMemory}
 use Rattle.alw_msg.specs.declared.messages.Msg.{Msg}
 use Rattle.alw_msg.specs.declared.events.Event.{Event}
 use Rattle.alw_msg.specs.declared.events.Event.TheVariants.{Deliver}
@@ -45,7 +47,7 @@ IsAtMost low (Some high) = low ≤ high
 -- the next entry, if there is one, is no longer of a span
 abbrev pub is_behind : Option ℕ → Option Entry → Bool
 is_behind high None = true
-is_behind None (Some entry) = not true
+is_behind None (Some entry) = false
 is_behind (Some high) (Some entry) = nat_le high entry.stamp
 
 -- the members of a list from a place on, before another
@@ -124,6 +126,11 @@ pub record IsSpan (image : Parts) (parameters : Parameters) (journal : List Entr
 -- where the k-th of so many spans of one width begins: the last goes on to the end
 abbrev pub bound : ℕ → ℕ → ℕ → Option ℕ
 bound count width k = cond (nat_lt k count) (Some (k * width)) None
+
+-- so many spans of one width, in order, as far as memory was had for each
+pub record AreSpans (image : Parts) (parameters : Parameters) (journal : List Entry) (count width : ℕ) (spans : List (Result Span NoMemory)) : Type 0 where
+  pub count_is : length spans ≡ count
+  pub each : (k : ℕ) → (span : Span) → slice_get spans k ≡ Some (Ok span) → IsSpan image parameters journal (k * width) (bound count width (k + 1)) span
 
 -- what is told so far, where no trap is kept
 abbrev pub told_in : Walked → Told

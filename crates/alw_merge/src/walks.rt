@@ -1,5 +1,4 @@
-ghost use Rattle.std.specs.Prelude.{◌≡◌, ◌≤◌, ◌<◌, ◌*◌, ◌+◌, ◌^◌, ◌++◌, [], ◌∷◌, length, None, IfOk, OnOk};
-ghost use Rattle.std.specs.List.{AllByRecursion};
+ghost use Rattle.std.specs.Prelude.{◌≡◌, ◌≤◌, ◌<◌, ◌*◌, ◌+◌, ◌++◌, [], ◌∷◌, length, IfOk, OnOk};
 ghost use Rattle.alw_num.specs.declared.node_sets.TheConstants.{MOST_NODES};
 ghost use Rattle.alw_model.specs.Threads.{merged};
 ghost use Rattle.alw_cells.specs.Logs.{logged};
@@ -7,7 +6,7 @@ ghost use Rattle.alw_links.specs.Traffic.{link_in};
 ghost use Rattle.alw_tally.specs.Told.{sum_of};
 ghost use Rattle.alw_merge.specs.Joins.{courses_of, LogsAreOfJournal, JournalIsWalked};
 ghost use Rattle.alw_merge.specs.Spans as spans;
-ghost use Rattle.alw_merge.specs.Spans.{IsSpan, MovesAreWithin, IsBegun, IsWalkedOn, links_moved, told_in};
+ghost use Rattle.alw_merge.specs.Spans.{IsSpan, AreSpans, MovesAreWithin, IsBegun, IsWalkedOn, links_moved, told_in};
 
 use crate::spans::{Move, Span, walk_span};
 use alw_cells::{DidLists, Logs};
@@ -79,6 +78,29 @@ pub fn walk_by<R: Threads + Sync>(
         .min(events_in(logs) / SPAN_EVENTS + 1)
         .max(1);
     let width = (last / count).saturating_add(1);
+    let spans = walk_spans(rt, alloc, image, params, logs, dids, count, width)?;
+    let mut walked = nothing(alloc, logs.len())?;
+    for span in spans {
+        walked = append(walked, span?)?;
+    }
+    Ok(walked)
+}
+
+// The spans of a merge, so many of one width, each walked by a thread.
+fn walk_spans<R: Threads + Sync>(
+    rt: &R,
+    alloc: Global,
+    image: &Image,
+    params: &Params,
+    logs: &Logs,
+    dids: &DidLists,
+    count: u32,
+    width: u32,
+) -> Result<Vec<Result<Span, NoMemory>>, NoMemory>
+    requires counted { length dids.now ≡ length logs.now }
+    requires read { LogsAreOfJournal image.now params.now (merged (logged logs.now)) (courses_of (logged logs.now) dids.now) }
+    ensures { IfOk result (λ spans. AreSpans image.now params.now (merged (logged logs.now)) count width spans.items) }
+{
     let spans = thread::map_indices(
         rt,
         alloc,
@@ -100,11 +122,7 @@ pub fn walk_by<R: Threads + Sync>(
             )
         },
     )?;
-    let mut walked = nothing(alloc, logs.len())?;
-    for span in spans {
-        walked = append(walked, span?)?;
-    }
-    Ok(walked)
+    Ok(spans)
 }
 
 // The number of events of all logs.

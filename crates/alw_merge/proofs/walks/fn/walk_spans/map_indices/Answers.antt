@@ -2,7 +2,7 @@
 use Rattle.std.proofs.Common.{ℕ, ◌*◌, sym, subst}
 use Rattle.alw_merge.specs.Spans.{IsAtMost}
 use Rattle.alw_merge.proofs.Spanned.{bound_next}
-use Rattle.alw_merge.proofs.walks.fn.walk_by.map_indices.Goals as goal
+use Rattle.alw_merge.proofs.walks.fn.walk_spans.map_indices.Goals as goal
 
 pub walk_span-requires : goal.walk_span-requires
 walk_span-requires c = record {
