@@ -1,5 +1,5 @@
 -- The event that a number picks: its row of events, that it may happen, and that a cell without one is spent.
-use Rattle.std.proofs.Common.{◌≡◌, ℕ, zero, suc, ◌+◌, ◌≤◌, ◌<◌, ◌==◌, ◌||◌, ◌%◌, ◌^◌, ◌-◌, nat_lt, nat_le, Bool, true, false, cond, not, Option, Some, None, Result, Ok, Err, List, [], ◌∷◌, length, filter, slice_get, get_or, IsTrue, refl, sym, subst, ap, ◌∙◌, inl, inr, arith}
+use Rattle.std.proofs.Common.{◌≡◌, ℕ, zero, suc, ◌+◌, ◌≤◌, ◌<◌, ◌==◌, ◌&&◌, ◌||◌, ◌%◌, ◌^◌, ◌-◌, nat_lt, nat_le, Bool, true, false, cond, not, Option, Some, None, Result, Ok, Err, List, [], ◌∷◌, length, filter, slice_get, get_or, IsTrue, refl, sym, subst, ap, ◌∙◌, inl, inr, arith}
 use Rattle.std.specs.Option.{option_map}
 use Rattle.std.specs.List.{list_any, range_with_len}
 use Rattle.std.proofs.lemmas.Bool.{true≢false, eq-eqb, lt-ltb, ltb-true, false_from_ne_true, le-leb}
@@ -8,7 +8,7 @@ use Rattle.std.proofs.lemmas.Option.{same_Some, slice_get-get_or, slice_get-map}
 use Rattle.alw_num.specs.declared.memory.NoMemory.{NoMemory}
 use Rattle.alw_num.specs.Maps.{passes}
 use Rattle.alw_num.specs.declared.node_sets.NodeSet.{NodeSet}
-use Rattle.alw_num.specs.NodeSets.{Nodes, no_nodes, has_node, nodes_of}
+use Rattle.alw_num.specs.NodeSets.{Nodes, no_nodes, has_node, nodes_of, count_nodes}
 use Rattle.alw_num.specs.Weights.{digit}
 use Rattle.alw_num.proofs.Sets.{has-none, count-none}
 use Rattle.alw_num.proofs.Weigh.{cases_lt_then}
@@ -112,6 +112,41 @@ picks_nth cell row number at count event is at_is count_is some none nth =
         → cond b (Some (asked_eviction cell number)) (slice_get (next_events cell) (number % length (next_events cell))) ≡ Some event
     go true none here = absurd (none (asked_eviction cell number) refl)
     go false none here = here
+
+-- an instruction alone may happen, where nothing has come, no packet waits and no eviction is tried: each number picks it
+pub picks_instr : (cell : Cell) (senders : NodeSet) (number : ℕ) → AreSenders cell.come senders → nodes_of senders ≡ no_nodes → is_nonempty cell.node.state.packets ≡ false
+    → cell.node.parameters.evict ≡ 0 → may_happen cell (instr_at cell.node.number) ≡ true → picked_event cell number ≡ Some (instr_at cell.node.number)
+picks_instr cell senders number are none quiet evict happens =
+    picks_nth cell row number cell.node.number 1 (instr_at cell.node.number) is_row refl one (omega arith) untried
+    (ap (slice_get (row_events cell.node.number row)) (divides number))
+  where
+    row : Row
+    row = record { in_time = true; instr = true; handle = false; senders = senders }
+
+    empty : (from : ℕ) → has_node (nodes_of senders) from ≡ false
+    empty from = ap (λ S. has_node S from) none ∙ has-none from
+
+    is_row : IsRow cell row
+    is_row = record {
+      in_time = refl;
+      instr = sym happens;
+      handle = sym (false_from_ne_true (may_happen cell (handle_at cell.node.number)) (λ handles. true≢false (sym (may_be cell (handle_at cell.node.number) handles) ∙ quiet)));
+      senders = λ from. empty from ∙ sym (false_from_ne_true (may_happen cell (delivery from cell.node.number)) (λ comes. true≢false (sym (has_come cell from comes) ∙ (sym (are from) ∙ empty from))));
+    }
+
+    one : 1 ≡ row_count row
+    one = sym (ap (λ n. 1 + (0 + n)) (ap count_nodes none ∙ count-none))
+
+    untried : (asked : Event) → cond (is_evicted cell number) (Some (asked_eviction cell number)) None ≡ Some asked → ⊥
+    untried asked is = go (nat_lt (number % 256) cell.node.parameters.evict) refl is
+      where
+        go : (b : Bool) → nat_lt (number % 256) cell.node.parameters.evict ≡ b
+            → cond (b && (not (all_halted cell.node.state.slots) && may_happen cell (asked_eviction cell number))) (Some (asked_eviction cell number)) None ≡ Some asked → ⊥
+        go true below is = let less = ltb-true (number % 256) cell.node.parameters.evict below in absurd (omega arith)
+        go false below is = absurd (cc)
+
+    divides : (n : ℕ) → n % 1 ≡ 0
+    divides n = omega arith
 
 -- a member of those that pass a test is among all, and passes
 kept_among : {X : Type 0} (test : X → Bool) (xs : List X) (k : ℕ) (x : X) → slice_get (filter test xs) k ≡ Some x → (j : ℕ) × ((slice_get xs j ≡ Some x) × (test x ≡ true))

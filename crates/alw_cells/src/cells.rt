@@ -119,11 +119,11 @@ impl NodeCell {
         }
     }
 
-    /// True where an instruction may happen, and false where it may not. It is false too where another event
-    /// may be taken in its place, which no clause says.
+    /// True only where each number picks an instruction, so that a step takes no other event. No clause says
+    /// when it is false.
     #[inline(always)]
     pub fn is_alone(&self) -> bool
-        ensures { IsTrue result → may_happen self.now (instr_at self.now.node.number) ≡ true }
+        ensures { IsTrue result → ((pick : ℕ) → picked_event self.now pick ≡ Some (instr_at self.now.node.number)) }
     {
         let node = self.node.number();
         self.senders.is_empty()

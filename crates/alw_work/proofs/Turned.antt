@@ -1,10 +1,10 @@
--- A turn is a step between messages that come and messages that are given out.
-use Rattle.std.proofs.Common.{◌≡◌, ◌||◌, ℕ, Bool, true, false, Result, Err, refl, sym, ap, ◌∙◌}
+-- A turn is a step between messages that come and messages that are given out. A run is steps in a row.
+use Rattle.std.proofs.Common.{◌≡◌, ◌||◌, ℕ, suc, ◌+◌, Bool, true, false, Result, Err, refl, sym, ap, subst, ◌∙◌, arith}
 use Rattle.alw_num.specs.declared.memory.NoMemory.{NoMemory}
 use Rattle.alw_cells.specs.Cells.{Cell}
 use Rattle.alw_work.specs.Seats.{Seat}
 use Rattle.alw_work.specs.Ties.{IsSameButCome, IsSameButGiven}
-use Rattle.alw_work.specs.Turns.{has_trapped, StepsOnce, IsSameButCell, Acts, Turns}
+use Rattle.alw_work.specs.Turns.{has_trapped, StepsOnce, IsSameButCell, Acts, Turns, IsAlone, ActsAlone}
 
 or_false : (a : Bool) → a ≡ (a || false)
 or_false true = refl
@@ -57,3 +57,11 @@ module _ (pick : ℕ) (before : Seat) where
     steps = step_of come.cell come.trapped before.trapped stepped.cell stepped.trapped after.trapped result (sym same.1) same_too.1 acts.1;
     gives = gives;
   }
+
+-- a step behind those before it
+pub acts_on : (steps : ℕ) (before between after : Seat) (result : Result Bool NoMemory) → ActsAlone steps before between → IsAlone between.cell → Acts 0 between after result
+    → ActsAlone (steps + 1) before after
+acts_on steps before between after result acts alone last = subst (λ (n : ℕ). ActsAlone n before after) (more steps) (between, (acts, alone, (result, last)))
+  where
+    more : (n : ℕ) → suc n ≡ n + 1
+    more n = omega arith

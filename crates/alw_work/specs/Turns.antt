@@ -1,10 +1,11 @@
 -- One turn of a worker at a node: messages come in, the cell takes one step, and messages are given out.
-use Rattle.std.specs.Prelude.{◌≡◌, ℕ, Bool, true, false, ◌||◌, Result, Ok, Err}
+use Rattle.std.specs.Prelude.{◌≡◌, ℕ, zero, suc, ◌≤◌, nat_lt, Bool, true, false, ◌||◌, Result, Ok, Err, Some, IfOk}
 use Rattle.alw_num.specs.declared.memory.NoMemory.{NoMemory}
 use Rattle.alw_cells.specs.declared.cells.Stepped.{Stepped}
 use Rattle.alw_cells.specs.declared.cells.Stepped.TheVariants.{Did, Idle}
 use Rattle.alw_cells.specs.Cells.{Cell}
-use Rattle.alw_cells.specs.Choice.{StepsCell}
+use Rattle.alw_msg.specs.declared.events.Event.TheVariants.{Instr}
+use Rattle.alw_cells.specs.Choice.{picked_event, StepsCell}
 use Rattle.alw_work.specs.Works.{is_trap}
 use Rattle.alw_work.specs.Seats.{Seat}
 use Rattle.alw_work.specs.Ties.{IsSameButCome, IsSameButGiven}
@@ -44,3 +45,19 @@ pub record Turns (pick : ℕ) (before after : Seat) (result : Result Bool NoMemo
   pub comes : IsSameButCome before.cell come
   pub steps : StepsOnce pick come before.trapped stepped after.trapped result
   pub gives : IsSameButGiven stepped after.cell
+
+-- each number picks an instruction of a cell
+abbrev pub IsAlone : Cell → Type 0
+IsAlone cell = (pick : ℕ) → picked_event cell pick ≡ Some (Instr (record { 0 = cell.node.number }))
+
+-- the cell behind a lock took so many steps in a row, each of an instruction that every number picks
+abbrev pub ActsAlone : ℕ → Seat → Seat → Type 0
+ActsAlone zero before after = after ≡ before
+ActsAlone (suc steps) before after = (between : Seat) × (ActsAlone steps before between × IsAlone between.cell × ((result : Result Bool NoMemory) × Acts 0 between after result))
+
+-- a run: at most so many such steps, and the answer says whether there was one
+pub record Runs (most : ℕ) (before after : Seat) (result : Result Bool NoMemory) : Type 0 where
+  pub steps : ℕ
+  pub few : steps ≤ most
+  pub acts : ActsAlone steps before after
+  pub told : IfOk result (λ has_acted. has_acted ≡ nat_lt 0 steps)

@@ -1,9 +1,9 @@
-ghost use Rattle.std.specs.Prelude.{◌≡◌, ◌<◌};
+ghost use Rattle.std.specs.Prelude.{◌≡◌, ◌<◌, IsTrue};
 ghost use Rattle.alw_image.specs.Images.{node_count};
 ghost use Rattle.alw_work.specs.Works as works;
 ghost use Rattle.alw_work.specs.Seats.{IsCellOf, StandsAt, TrapIsMarked, CellIsOfNode, Works};
 ghost use Rattle.alw_work.specs.Ties.{AreTiedOuts, AreTiedIns, IsSameButCome, IsSameButGiven};
-ghost use Rattle.alw_work.specs.Turns.{StepsOnce, IsSameButCell, Acts, Turns};
+ghost use Rattle.alw_work.specs.Turns.{StepsOnce, IsSameButCell, Acts, Turns, IsAlone, Runs};
 
 use crate::ends::{In, Out};
 use crate::moves::{fetch, offer};
@@ -113,19 +113,27 @@ impl<I: Naming> Locked<I> {
         Ok(has_acted)
     }
 
-    /// Takes instructions in a row, as long as each is the one event that the node may take and nothing is
-    /// sent: at most so many. What comes meanwhile is taken in by the next turn. Answers whether the node
-    /// did anything, which no clause says.
+    /// Takes instructions in a row, as long as each is the one event that the node may take, and nothing that
+    /// was sent waits to be given out: at most so many. What comes meanwhile is taken in by the next turn.
+    /// Answers whether there was any.
     #[inline(always)]
-    pub fn run(&mut self, most: u32) -> Result<bool, NoMemory> {
-        let mut has_acted = false;
-        for _ in 0..most {
-            if self.trapped || self.cell.first_out().is_some() || !self.cell.is_alone() {
-                break;
-            }
-            has_acted |= self.act(0)?;
+    pub fn run(&mut self, most: u32) -> Result<bool, NoMemory>
+        ensures { Runs most self.old self.new result }
+    {
+        let mut steps = 0;
+        while steps < most && self.may_run() {
+            self.act(0)?;
+            steps += 1;
         }
-        Ok(has_acted)
+        Ok(steps > 0)
+    }
+
+    // The node may take one event, an instruction, and nothing that was sent waits to be given out.
+    #[inline(always)]
+    fn may_run(&self) -> bool
+        ensures { IsTrue result → IsAlone self.now.cell }
+    {
+        !self.trapped && self.cell.first_out().is_none() && self.cell.is_alone()
     }
 
     // Takes in what has come. Mostly no link is marked.

@@ -1,5 +1,6 @@
 ghost use Rattle.std.specs.Prelude.{◌≡◌, ◌<◌, ◌^◌};
-ghost use Rattle.alw_work.specs.Turns.{Turns};
+ghost use Rattle.alw_work.specs.declared.workers.TheConstants.{MOST_RUN};
+ghost use Rattle.alw_work.specs.Turns.{Turns, Runs};
 
 use crate::gates::Gate;
 use crate::ready::{Counting, Ready};
@@ -127,7 +128,9 @@ fn visit<I: Naming, R: Wait, G: Gate>(
 
 // Instructions in a row at a node. Answers whether there was any. Want of memory stops all workers.
 #[inline(always)]
-fn run<I: Naming>(seat: &mut Locked<I>, signs: &Signs) -> Result<bool, NoMemory> {
+fn run<I: Naming>(seat: &mut Locked<I>, signs: &Signs) -> Result<bool, NoMemory>
+    ensures { Runs MOST_RUN seat.old seat.new result }
+{
     let ran = seat.run(MOST_RUN);
     if ran.is_err() {
         signs.stop();
