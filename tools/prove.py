@@ -2,11 +2,11 @@
 """Proves the crates of the program side by side: tools/prove.py SCRATCH.
 
 A crate begins once those below it stand, first the one with the longest chain of others above it, by the seconds that tools/took.csv has of each. It
-gets a job for each processor that no other waits for, at most four, if memory holds them. The toolchain lets one command at a time work in a checkout,
-so each works in a lane: a copy of the sources below SCRATCH. What it makes goes to the checkout, and to the other lanes by links. The program's own
-crate comes last, in the checkout: one call proves it and builds the program, by one job, since each job more reads the crates below anew. Standard
-error tells which crates stand, and how long each took. Ends with 1 where one isn't proved, or the program isn't built, and says what the toolchain
-said of it.
+gets a job for each processor that no other waits for, at most four, if memory holds them. That with the longest chain of all gets two of more than
+two processors, where two are idle. The toolchain lets one command at a time work in a checkout, so each works in a lane: a copy of the sources below
+SCRATCH. What it makes goes to the checkout, and to the other lanes by links. The program's own crate comes last, in the checkout: one call proves it
+and builds the program, by one job, since each job more reads the crates below anew. Standard error tells which crates stand, and how long each took.
+Ends with 1 where one isn't proved, or the program isn't built, and says what the toolchain said of it.
 """
 import csv
 import os
@@ -100,10 +100,10 @@ def chains(root, crates):
 
 
 def jobs_that_fit():
-    """How many processors there are, and how many jobs the memory that is free holds."""
+    """A job for each processor, if the memory that is free holds them."""
     processors = len(os.sched_getaffinity(0))
     free = re.search(r'^MemAvailable: *(\d+)', Path('/proc/meminfo').read_text(), re.M)
-    return processors, max(1, int(free[1]) * 1024 // JOB_BYTES) if free else processors
+    return max(1, min(processors, int(free[1]) * 1024 // JOB_BYTES)) if free else processors
 
 
 # ---- proving
@@ -114,9 +114,8 @@ class Proofs:
 
     def __init__(self, root, scratch):
         self.root, self.crates = root, crates_of_program(root)
-        processors, self.fit = jobs_that_fit()
-        self.most, longest = min(processors, self.fit), chains(root, self.crates)
-        self.left = sorted((name for name in self.crates if name != PROGRAM), key=lambda name: -longest[name])
+        self.most, self.longest = jobs_that_fit(), chains(root, self.crates)
+        self.left = sorted((name for name in self.crates if name != PROGRAM), key=lambda name: -self.longest[name])
         self.stand, self.running, self.checks = set(), {}, set()
         self.free = [self.lane(scratch / f'lane-{number}') for number in range(min(self.most, len(self.left)))]
         self.lanes = list(self.free)
@@ -154,14 +153,19 @@ class Proofs:
         """Begins what can begin."""
         ready = [name for name in self.left if self.stand.issuperset(self.crates[name])]
         for at, name in enumerate(ready):
-            idle = self.most - len(self.running)
+            idle = self.most - sum(jobs for _, _, jobs in self.running.values())
             if idle == 0:
                 return
-            held = sum(jobs for _, _, jobs in self.running.values())
-            jobs = max(1, min(MOST_JOBS, idle // (len(ready) - at), self.fit - held))
+            least = min(idle, 2 if self.most > 2 and self.is_longest(name) else 1)
+            jobs = max(least, min(MOST_JOBS, idle // (len(ready) - at)))
             lane = self.free.pop()
             self.left.remove(name)
             self.running[pool.submit(self.prove_in, lane, name, jobs)] = name, lane, jobs
+
+    def is_longest(self, name):
+        """No crate that is left or under way has a longer chain above it."""
+        others = [*self.left, *(other for other, _, _ in self.running.values())]
+        return all(self.longest[name] >= self.longest[other] for other in others)
 
     def end(self, done):
         """A crate stands: its library goes to all lanes. Answers whether it is proved."""
