@@ -24,8 +24,8 @@ use std::thread::Threads;
 /// is can come to or writes its source, or else makes a workload and reads nothing, and writes what comes of it to
 /// `out`. A refusal, a fault of the outside and want of memory have a line on `err`.
 ///
-/// Workers run on threads that `rt` gives, and each passes `gate` once a visit of up to 64 steps, before it locks
-/// the node. With them the call may wait; what it promises holds where it returns.
+/// Workers run on threads that `rt` gives, and each passes `gate` once a visit of a node, before it locks the node.
+/// With them the call may wait; what it promises holds where it returns.
 ///
 /// The status follows from the cause: 0 is a source that was assembled or written, a workload that was made, a run that
 /// halted, messages that arrived, a checkpoint that was written, a claim that is sound or an image all of whose
