@@ -2,11 +2,11 @@
 """Proves the crates of the program side by side: tools/prove.py SCRATCH.
 
 A crate begins once those below it stand, first the one with the longest chain of others above it, by the seconds that tools/took.csv has of each. It
-gets a job for each processor that no other waits for, at most four, if memory holds them. That with the longest chain of all gets two of more than
-two processors, where two are idle. The toolchain lets one command at a time work in a checkout, so each works in a lane: a copy of the sources below
-SCRATCH. What it makes goes to the checkout, and to the other lanes by links. The program's own crate comes last, in the checkout: one call proves it
-and builds the program, by one job, since each job more reads the crates below anew. Standard error tells which crates stand, and how long each took.
-Ends with 1 where one isn't proved, or the program isn't built, and says what the toolchain said of it.
+gets a job for each processor that no other waits for, at most four, if memory holds them. The one with the longest chain of all gets two where there
+are more than two processors, of which two are idle. The toolchain lets one command at a time work in a checkout, so each works in a lane: a copy of
+the sources below SCRATCH. What it makes goes to the checkout, and to the other lanes by links. The program's own crate comes last, in the checkout:
+one call proves it and builds the program, by one job, since each job more reads the crates below anew. Standard error tells which crates stand, and
+how long each took. Ends with 1 where one isn't proved, or the program isn't built, and says what the toolchain said of it.
 """
 import csv
 import os
