@@ -6,7 +6,7 @@ use Rattle.sparc_table.specs.Turns.{need_of}
 use Rattle.sparc_table.specs.declared.outcomes.Need.{Need}
 use Rattle.sparc_table.specs.declared.outcomes.Need.TheVariants as needs
 use Rattle.sparc_table.specs.declared.outcomes.Outcome.{Outcome}
-use Rattle.alw_effects.specs.declared.before.Before.{Before}
+use Rattle.alw_effects.specs.declared.before.SlotBefore.{SlotBefore}
 use Rattle.alw_effects.specs.Pieces.{stood_text}
 use Rattle.alw_effects.specs.Effects.{effect_text}
 use Rattle.alw_image.specs.declared.parts.Parts.{Parts}
@@ -25,7 +25,7 @@ bytes_in flat (needs.Copy line mode) = line_at flat line.0
 bytes_in flat _ = zero_line
 
 -- what is read of a context before its turn
-abbrev pub before_of : Parts → Flat → ℕ → Before
+abbrev pub before_of : Parts → Flat → ℕ → SlotBefore
 before_of image flat context =
     let need = need_in image flat context in
     record { regs = (context_at flat context).regs; need = need; body = bytes_in flat need }

@@ -28,10 +28,10 @@ use std::thread::Threads;
 /// With them the call may wait; what it promises holds where it returns.
 ///
 /// The status follows from the cause: 0 is a source that was assembled or written, a workload that was made, a run that
-/// halted, messages that arrived, a checkpoint that was written, a claim that is sound or an image all of whose
-/// orders of turns halt, 2 refused words, 3 a refused input, 4 a trapped run or an order of turns that traps, 5 a run
-/// at its limit or a search that isn't known to reach an end from each place, 6 a read fault, 7 a write fault, 8 want
-/// of memory and 9 a claim that isn't sound.
+/// halted, messages that arrived, a checkpoint that was written, a claim that is sound or an image that no order of
+/// turns brings to a trap or to a place from which no turns lead to an end, 2 refused words, 3 a refused input, 4 a
+/// trapped run or an order of turns that traps, 5 a run at its limit or a search that isn't known to reach an end from
+/// each place, 6 a read fault, 7 a write fault, 8 want of memory and 9 a claim that isn't sound.
 pub fn alewife<R: Threads + Wait + Sync, S: Source, K: Sink, E: Sink, G: Gate>(
     rt: &R,
     alloc: Global,

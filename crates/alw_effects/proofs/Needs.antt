@@ -14,7 +14,7 @@ use Rattle.sparc_table.specs.declared.instructions.Instr.TheVariants.{Call, Seth
 use Rattle.sparc_table.specs.declared.outcomes.Need.{Need}
 use Rattle.sparc_table.specs.declared.outcomes.Need.TheVariants as needs
 use Rattle.sparc_table.proofs.Effects.{turn_exists}
-use Rattle.alw_effects.specs.declared.before.Before.{Before}
+use Rattle.alw_effects.specs.declared.before.SlotBefore.{SlotBefore}
 use Rattle.alw_effects.specs.Before.{IsBeforeTurn, IsLineOf, IsAlignedIn}
 
 -- the line that a turn needs exists
@@ -56,5 +56,5 @@ module _ (regs : Regs) (lines : ℕ) where
   fetched_aligned code instr is = subst (λ (got : Result Instr ℕ). IsAlignedIn (need_at got regs lines) instr regs) (sym is) (aligned_by instr)
 
 -- the instruction that is fetched is aligned where it needs a copy
-pub is_aligned : (code : List ℕ) (before : Before) (instr : Instr) → IsBeforeTurn code before → fetched code before.regs.pc ≡ Ok instr → IsAlignedIn before.need instr before.regs
+pub is_aligned : (code : List ℕ) (before : SlotBefore) (instr : Instr) → IsBeforeTurn code before → fetched code before.regs.pc ≡ Ok instr → IsAlignedIn before.need instr before.regs
 is_aligned code before instr is found = subst (λ (n : Need). IsAlignedIn n instr before.regs) (sym is.need) (fetched_aligned before.regs is.lines code instr found)

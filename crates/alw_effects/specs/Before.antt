@@ -9,10 +9,10 @@ use Rattle.sparc_table.specs.declared.instructions.Instr.{Instr}
 use Rattle.sparc_table.specs.declared.instructions.Instr.TheVariants.{Memory}
 use Rattle.sparc_table.specs.declared.outcomes.Need.{Need}
 use Rattle.sparc_table.specs.declared.outcomes.Need.TheVariants as needs
-use Rattle.alw_effects.specs.declared.before.Before.{Before}
+use Rattle.alw_effects.specs.declared.before.SlotBefore.{SlotBefore}
 
 -- the need is that of the instruction at the PC, where shared data has some number of lines
-pub record IsBeforeTurn (code : List ℕ) (before : Before) : Type 0 where
+pub record IsBeforeTurn (code : List ℕ) (before : SlotBefore) : Type 0 where
   pub lines : ℕ
   pub need : before.need ≡ need_of code before.regs lines
 

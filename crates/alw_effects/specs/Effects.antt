@@ -14,7 +14,7 @@ use Rattle.sparc_table.specs.declared.outcomes.Need.TheVariants as needs
 use Rattle.sparc_table.specs.declared.outcomes.Outcome.{Outcome}
 use Rattle.sparc_table.specs.declared.outcomes.Outcome.TheVariants.{Done, Miss, Out, Halt, Trap}
 use Rattle.sparc_text.specs.Statements.{is_store}
-use Rattle.alw_effects.specs.declared.before.Before.{Before}
+use Rattle.alw_effects.specs.declared.before.SlotBefore.{SlotBefore}
 use Rattle.alw_effects.specs.Pieces.{sets_text, reads_text, writes_text, taken_text, prints_text, traps_text}
 
 -- ---- a turn that is done
@@ -80,5 +80,5 @@ outcome_text (Trap tt) done = traps_text tt
 outcome_text (Miss line mode) done = []
 
 -- the same of what was read before the turn, and the registers and the line's bytes after it
-abbrev pub effect_text : List ℕ → Before → Outcome → Regs → Line → List ℕ
+abbrev pub effect_text : List ℕ → SlotBefore → Outcome → Regs → Line → List ℕ
 effect_text code before outcome regs body = outcome_text outcome (fetched_text (fetched code before.regs.pc) before.need before.regs regs before.body body)

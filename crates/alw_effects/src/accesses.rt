@@ -7,7 +7,7 @@ ghost use Rattle.alw_effects.specs.Pieces.{reads_text, writes_text};
 ghost use Rattle.alw_effects.specs.Before.{IsAlignedIn};
 ghost use Rattle.alw_effects.specs.Effects.{access_text, moved_in};
 
-use crate::before::Before;
+use crate::before::SlotBefore;
 use crate::pieces::{put_reads, put_writes};
 use alw_num::{LINE_BYTES, Line, NoMemory, lane};
 use alw_text::Text;
@@ -19,7 +19,7 @@ use sparc_text::is_store;
 pub fn put_moved(
     text: &mut Text,
     instr: &Instr,
-    before: &Before,
+    before: &SlotBefore,
     body: &Line,
 ) -> Result<(), NoMemory>
     requires fits { Fits instr.now }

@@ -4,7 +4,7 @@ ghost use Rattle.alw_effects.specs.Before.{IsAlignedIn};
 ghost use Rattle.alw_effects.specs.Effects.{written_by, written_text, goes_at_once, control_text, done_text};
 
 use crate::accesses::put_moved;
-use crate::before::Before;
+use crate::before::SlotBefore;
 use crate::pieces::{put_sets, put_taken};
 use alw_num::{Line, NoMemory};
 use alw_text::Text;
@@ -15,7 +15,7 @@ use sparc_text::is_store;
 pub fn put_done(
     text: &mut Text,
     instr: &Instr,
-    before: &Before,
+    before: &SlotBefore,
     regs: &Regs,
     body: &Line,
 ) -> Result<(), NoMemory>

@@ -7,6 +7,6 @@ mod effects;
 mod outcomes;
 mod pieces;
 
-pub use before::Before;
+pub use before::SlotBefore;
 pub use outcomes::put_effect;
 pub use pieces::put_place;

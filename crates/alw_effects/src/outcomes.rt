@@ -3,7 +3,7 @@ ghost use Rattle.sparc_table.specs.Turns.{fetched};
 ghost use Rattle.alw_effects.specs.Before.{IsBeforeTurn};
 ghost use Rattle.alw_effects.specs.Effects.{effect_text, fetched_text};
 
-use crate::before::Before;
+use crate::before::SlotBefore;
 use crate::effects::put_done;
 use crate::pieces::{put_prints, put_traps};
 use alw_num::{Line, NoMemory};
@@ -16,7 +16,7 @@ use sparc_table::{Outcome, Regs};
 pub fn put_effect(
     text: &mut Text,
     code: &[u32],
-    before: &Before,
+    before: &SlotBefore,
     outcome: Outcome,
     regs: &Regs,
     body: &Line,
@@ -37,7 +37,7 @@ pub fn put_effect(
 fn put_fetched(
     text: &mut Text,
     code: &[u32],
-    before: &Before,
+    before: &SlotBefore,
     regs: &Regs,
     body: &Line,
 ) -> Result<(), NoMemory>

@@ -1,11 +1,10 @@
 ghost use Rattle.std.specs.Prelude.{◌≡◌, ◌++◌, IfOk, OnOk};
-ghost use Rattle.alw_model.specs.Machine.{machine_start, AreLegal};
-ghost use Rattle.alw_mesh.specs.Histories.{begun, state_of};
-ghost use Rattle.alw_log.specs.Logs.{head_text, lines_from, log_of, title};
+ghost use Rattle.alw_model.specs.Machine.{machine_start};
+ghost use Rattle.alw_log.specs.Logs.{head_text, lines_from, lines_of, log_of, title};
 
 use crate::contexts::put_contexts;
 use crate::entries::put_entry;
-use alw_mesh::{FitErr, Machine};
+use alw_mesh::{Machine, Watch};
 use alw_model::Ended;
 use alw_msg::Entry;
 use alw_num::NoMemory;
@@ -19,9 +18,9 @@ use std::alloc::Global;
 pub fn log(alloc: Global, machine: &Machine, ended: &Ended) -> Result<Text, NoMemory>
     ensures { IfOk result (λ text. text ≡ log_of machine.now.image machine.now.parameters machine.now.journal ended.now) }
 {
-    let mut text = Text::empty(alloc);
-    put_head(&mut text, machine)?;
-    put_events(alloc, &mut text, machine)?;
+    let mut head = Text::empty(alloc);
+    put_head(&mut head, machine)?;
+    let mut text = put_events(alloc, head, machine)?;
     put_contexts(&mut text, machine)?;
     put_ended_line(&mut text, ended)?;
     text.put(b"end\n")?;
@@ -55,32 +54,25 @@ fn put_title(text: &mut Text) -> Result<(), NoMemory>
 }
 
 // The events of a machine's journal, taken again from its start.
-fn put_events(alloc: Global, text: &mut Text, machine: &Machine) -> Result<(), NoMemory>
-    ensures { OnOk result (text.new ≡ text.old ++ lines_from machine.now.image machine.now.parameters (machine_start machine.now.image) machine.now.journal) }
+fn put_events(alloc: Global, text: Text, machine: &Machine) -> Result<Text, NoMemory>
+    ensures { IfOk result (λ all. all ≡ text ++ lines_from machine.now.image machine.now.parameters (machine_start machine.now.image) machine.now.journal) }
 {
-    let mut again = start_again(alloc, machine)?;
-    put_entries(text, &mut again, machine.journal().members())
+    let mut lines = Lines { text };
+    machine.again(alloc, &mut lines)?;
+    Ok(lines.text)
 }
 
-// A machine as this one was at its start.
-fn start_again(alloc: Global, machine: &Machine) -> Result<Machine, NoMemory>
-    ensures { IfOk result (λ again. again ≡ begun machine.now.image machine.now.parameters) }
-{
-    let _run = machine.journal();
-    match Machine::start(alloc, machine.image(), machine.params()) {
-        Ok(again) => Ok(again),
-        Err(FitErr::NoMemory) => Err(NoMemory),
-        Err(FitErr::DoesNotFit { .. }) => unreachable!(),
-    }
+// A text to which the line of each event is appended.
+#[derive(Drop)]
+struct Lines {
+    text: Text,
 }
 
-// Entries happen on a machine, one by one.
-fn put_entries(text: &mut Text, machine: &mut Machine, entries: &[Entry]) -> Result<(), NoMemory>
-    requires { AreLegal machine.old.image machine.old.parameters (state_of machine.old) entries.now }
-    ensures { OnOk result (text.new ≡ text.old ++ lines_from machine.old.image machine.old.parameters (state_of machine.old) entries.now) }
-{
-    for entry in entries {
-        put_entry(text, machine, *entry)?;
+impl Watch for Lines {
+    ghost told = { λ start h now. now.text ≡ start.text ++ lines_of h };
+
+    fn event(&mut self, machine: &mut Machine, entry: Entry) -> Result<(), NoMemory> {
+        put_entry(&mut self.text, machine, entry)?;
+        Ok(())
     }
-    Ok(())
 }

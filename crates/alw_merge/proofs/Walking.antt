@@ -27,7 +27,7 @@ use Rattle.law_lines.proofs.Steps.{enabled_is}
 use Rattle.law_order.specs.Aims.{IsAimed}
 use Rattle.law_order.proofs.Reached.{state_aimed}
 use Rattle.law_order.proofs.JournalLogs.{logged_of}
-use Rattle.alw_tally.specs.declared.happenings.Happened.{Happened}
+use Rattle.alw_tally.specs.declared.moments.Moment as tally
 use Rattle.alw_tally.specs.Told.{Told, told_of, told_with}
 use Rattle.alw_tally.specs.Tallies.{told_logged}
 use Rattle.alw_tally.proofs.Telling.{told_push}
@@ -40,7 +40,7 @@ use Rattle.alw_merge.specs.declared.streams.Read.{Read}
 use Rattle.alw_merge.specs.Streams.{EventIsReadOff, IsPlain, Reads}
 use Rattle.alw_merge.specs.declared.spans.Move.{Move}
 use Rattle.alw_merge.specs.declared.spans.Span.{Span}
-use Rattle.alw_merge.specs.Joins.{Course, no_course, course_at, courses_of, course_of, dids_at, happened_at, LogsAreOfJournal, unheld}
+use Rattle.alw_merge.specs.Joins.{Course, no_course, course_at, courses_of, course_of, dids_at, told_at, LogsAreOfJournal, unheld}
 use Rattle.alw_merge.specs.Spans.{place_of, end_of, is_behind, between, log_from, logs_from, dids_behind, taking_of, sending_of, moves_of, MayFollow, Follows, EventIsTold, IsSpan}
 use Rattle.alw_merge.proofs.Spanning.{Rises, merged_rises, from_merged, place_past, place_reached}
 use Rattle.alw_merge.proofs.Behind.{courses_from, dids_as_many}
@@ -51,8 +51,8 @@ use Rattle.alw_merge.proofs.Joining.{courses_long, courses_read}
 abbrev next_sent : Course → List (ℕ × Msg)
 next_sent course = sent_of (front course.left)
 
-abbrev next_of : ℕ → Course → Happened
-next_of n course = happened_at n course.dids (taken_of (front course.left))
+abbrev next_of : Entry → Course → tally.Moment
+next_of entry course = told_at entry course.dids (taken_of (front course.left))
 
 -- the next event has been read
 abbrev read_on : Course → Course
@@ -106,7 +106,7 @@ told_follows {image} {read} {rest} {rest'} {moves} {moves'} plain is = record {
 
 -- an event more is told
 told_more : (image : Parts) (told : Told) (moment : Moment) (rest : Course)
-    → told_logged image (unheld told) (next_of (number_of moment) (with_first moment rest)) moment.stepped.sends ≡ unheld (told_with image told moment)
+    → told_logged image (unheld told) (next_of moment.entry (with_first moment rest)) moment.stepped.sends ≡ unheld (told_with image told moment)
 told_more image told moment rest = simp add-zero
 
 -- a fact of each of some events is one of the first that is left
@@ -199,7 +199,7 @@ module _ (image : Parts) (parameters : Parameters) (allowed : IsImage image) (jo
 
       -- it is one event more of what is moved and told
       pub spans_on : {start : ℕ} {moves moves' : List Move} {told told' : Told} → start ≤ i → IsSpanned image (moments image parameters journal) start i moves told
-          → moves' ≡ moves ++ (taking_of event ++ sending_of n sends) → told' ≡ told_logged image told (happened_at n dids taken) sends
+          → moves' ≡ moves ++ (taking_of event ++ sending_of n sends) → told' ≡ told_logged image told (told_at entry dids taken) sends
           → IsSpanned image (moments image parameters journal) start (i + 1) moves' told'
       spans_on {start} {moves} {moves'} {told} {told'} behind_start spanned moves_are told_is =
           let run = moments image parameters journal in
@@ -208,7 +208,7 @@ module _ (image : Parts) (parameters : Parameters) (allowed : IsImage image) (jo
           record {
             moves_are = moves_are ∙ ((λ x. spanned.moves_are x ++ (taking_of event ++ sending_of n (sent x)))
                 ∙ (flat_map_more moves_of [] before moment ∙ ap (flat_map moves_of) (sym more)));
-            told_is = told_is ∙ ((λ x. told_logged image (spanned.told_is x) (happened_at n (did_is x) (taken_own x)) (sent x)) ∙ (told_more image (told_of image before) moment (course_of n rest)
+            told_is = told_is ∙ ((λ x. told_logged image (spanned.told_is x) (told_at entry (did_is x) (taken_own x)) (sent x)) ∙ (told_more image (told_of image before) moment (course_of n rest)
                 ∙ ap unheld (sym (told_push image before moment) ∙ ap (told_of image) (sym more))));
           }
 

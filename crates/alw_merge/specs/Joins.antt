@@ -13,7 +13,7 @@ use Rattle.alw_model.specs.Runs.{Moment, number_of, moments}
 use Rattle.alw_model.specs.Rows.{log_in}
 use Rattle.alw_model.specs.Threads.{Logged}
 use Rattle.alw_links.specs.Traffic.{Traffic}
-use Rattle.alw_tally.specs.declared.happenings.Happened.{Happened}
+use Rattle.alw_tally.specs.declared.moments.Moment as tally
 use Rattle.alw_tally.specs.Told.{Told, told_of}
 use Rattle.alw_node.specs.Nodes.{Whole}
 
@@ -50,9 +50,9 @@ next_did (did ∷ rest) = did
 abbrev pub dids_at : List (List Did) → ℕ → List Did
 dids_at rest n = slice_index_or rest n []
 
--- what a tally is told of the next event of a node, but for what it sent, where no turn counts as having ended a hold
-abbrev pub happened_at : ℕ → List Did → Option Msg → Happened
-happened_at n dids taken = record { node = record { 0 = n }; did = next_did dids; taken = taken; used = false; pc = 0 }
+-- what a tally is told of an entry, the next of its node, but for what it sent
+abbrev pub told_at : Entry → List Did → Option Msg → tally.Moment
+told_at entry dids taken = record { entry = entry; taken = taken; did = next_did dids; quiet = false }
 
 -- ---- the events of a journal
 

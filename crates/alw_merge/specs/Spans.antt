@@ -26,7 +26,7 @@ use Rattle.alw_merge.specs.declared.spans.Move.{Move}
 use Rattle.alw_merge.specs.declared.spans.Span.{Span}
 use Rattle.alw_merge.specs.declared.streams.Read.{Read}
 use Rattle.alw_merge.specs.declared.walks.Walked.{Walked}
-use Rattle.alw_merge.specs.Joins.{dids_at, happened_at, unheld, JournalIsWalked}
+use Rattle.alw_merge.specs.Joins.{dids_at, told_at, unheld, JournalIsWalked}
 
 -- ---- spans of a journal, whose stamps rise
 
@@ -106,13 +106,13 @@ pub record MayFollow (sends : List (ℕ × Msg)) (dids : List Did) : Type 0 wher
 pub record Follows (image : Parts) (read : Read) (sends : List (ℕ × Msg)) (rest rest' : List (List Did)) (moves moves' : List Move) (told told' : Told) : Type 0 where
   pub rest_is : rest' ≡ slice_set rest (node_of read.entry.event) (behind (dids_at rest (node_of read.entry.event)))
   pub moves_are : moves' ≡ moves ++ (taking_of read.entry.event ++ sending_of (node_of read.entry.event) sends)
-  pub told_is : told' ≡ told_logged image told (happened_at (node_of read.entry.event) (dids_at rest (node_of read.entry.event)) read.taken) sends
+  pub told_is : told' ≡ told_logged image told (told_at read.entry (dids_at rest (node_of read.entry.event)) read.taken) sends
 
 -- it has been read and is told, and moves nothing
 pub record EventIsTold (image : Parts) (read : Read) (sends : List (ℕ × Msg)) (rest rest' : List (List Did)) (moves moves' : List Move) (told told' : Told) : Type 0 where
   pub rest_is : rest' ≡ slice_set rest (node_of read.entry.event) (behind (dids_at rest (node_of read.entry.event)))
   pub moves_are : moves' ≡ moves
-  pub told_is : told' ≡ told_logged image told (happened_at (node_of read.entry.event) (dids_at rest (node_of read.entry.event)) read.taken) sends
+  pub told_is : told' ≡ told_logged image told (told_at read.entry (dids_at rest (node_of read.entry.event)) read.taken) sends
 
 -- ---- a span that was walked
 

@@ -7,10 +7,10 @@ ghost use Rattle.alw_mesh.specs.Histories.{stamps_of, joined_of};
 ghost use Rattle.alw_merge.specs.Joins.{holds_at};
 ghost use Rattle.alw_merge.specs.Spans.{IsOfWorked};
 
-use crate::walks::{Walked, lists_of, walk, walk_by};
+use crate::walks::{Walked, walk, walk_by};
 use alw_cells::Worked;
 use alw_image::{Image, Params};
-use alw_mesh::Machine;
+use alw_mesh::{JoinedParts, Machine};
 use alw_model::Counts;
 use alw_node::Nodes;
 use alw_num::NoMemory;
@@ -77,22 +77,19 @@ fn machine_of(
 {
     let _allowed = image.parts(); // for its clause
     let _read = params.limit(); // for its clause
-    let links = lists_of(alloc, &walked.links, nodes.len())?;
     let counts = Counts {
         used: walked.counts.replies - holds_of(&nodes),
         ..walked.counts
     };
-    Machine::joined(
-        alloc,
-        image,
-        params,
-        walked.journal,
+    let parts = JoinedParts {
+        journal: walked.journal,
         nodes,
-        links,
-        walked.turns,
-        walked.prints,
+        links: walked.links,
+        turns: walked.turns,
+        prints: walked.prints,
         counts,
-    )
+    };
+    Machine::joined(alloc, image, params, parts)
 }
 
 // The number of slots with a hold, at all nodes.

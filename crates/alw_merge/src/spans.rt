@@ -13,7 +13,7 @@ use alw_image::{Image, Params};
 use alw_model::Did;
 use alw_msg::{Event, Journal, Msg};
 use alw_num::{MOST_NODES, NoMemory, NodeNo};
-use alw_tally::{Happened, Tally};
+use alw_tally::{Moment, Tally};
 use std::alloc::Global;
 use std::marker::Model;
 
@@ -162,15 +162,14 @@ fn tell(
     }
     span.journal.push(read.entry)?;
     let node = read.entry.event.node();
-    let happened = Happened {
-        node,
-        did: rests[usize::from(node.0)].next(),
+    let moment = Moment {
+        entry: read.entry,
         taken: read.taken,
-        used: false,
-        pc: 0,
+        did: rests[usize::from(node.0)].next(),
+        quiet: false,
     };
     span.tally.reserve()?;
-    span.tally.add_logged(image, &happened, sends);
+    span.tally.add_logged(image, &moment, sends);
     Ok(())
 }
 

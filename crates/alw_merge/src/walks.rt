@@ -1,8 +1,7 @@
-ghost use Rattle.std.specs.Prelude.{◌≡◌, ◌≤◌, ◌<◌, ◌*◌, ◌+◌, ◌++◌, [], ◌∷◌, length, IfOk, OnOk};
+ghost use Rattle.std.specs.Prelude.{◌≡◌, ◌≤◌, ◌<◌, ◌*◌, ◌+◌, ◌++◌, length, IfOk, OnOk};
 ghost use Rattle.alw_num.specs.declared.node_sets.TheConstants.{MOST_NODES};
 ghost use Rattle.alw_model.specs.Threads.{merged};
 ghost use Rattle.alw_cells.specs.Logs.{logged};
-ghost use Rattle.alw_links.specs.Traffic.{link_in};
 ghost use Rattle.alw_tally.specs.Told.{sum_of};
 ghost use Rattle.alw_merge.specs.Joins.{courses_of, LogsAreOfJournal, JournalIsWalked};
 ghost use Rattle.alw_merge.specs.Spans as spans;
@@ -12,10 +11,9 @@ use crate::spans::{Move, Span, walk_span};
 use alw_cells::{DidLists, Logs};
 use alw_image::{Image, Params};
 use alw_links::Links;
-use alw_mesh::LinkLists;
 use alw_model::Counts;
-use alw_msg::{Journal, Msg, MsgList, Prints, Turns};
-use alw_num::{MOST_NODES, NoMemory, NodeNo, Sequence};
+use alw_msg::{Journal, Prints, Turns};
+use alw_num::{MOST_NODES, NoMemory, Sequence};
 use std::alloc::Global;
 use std::thread;
 use std::thread::Threads;
@@ -253,43 +251,4 @@ fn add(one: u64, other: u64) -> Result<u64, NoMemory>
     ensures { IfOk result (λ sum. sum ≡ one + other) }
 {
     one.checked_add(other).ok_or(NoMemory)
-}
-
-/// The messages on the links of so many nodes, those of (from, to) at the place from * nodes + to.
-pub fn lists_of(alloc: Global, links: &Links, nodes: u32) -> Result<LinkLists, NoMemory>
-    requires nodes { nodes ≡ links.now.nodes }
-    requires few { nodes ≤ MOST_NODES }
-    requires links { length links.now.links ≡ nodes * nodes }
-    ensures { IfOk result (λ lists. lists ≡ links.now.links) }
-{
-    let mut lists = LinkLists::empty(alloc);
-    for place in 0..nodes * nodes {
-        let from = NodeNo((place / nodes) as u16);
-        let to = NodeNo((place % nodes) as u16);
-        lists.push(list_of(alloc, links, from, to)?)?;
-    }
-    Ok(lists)
-}
-
-// The messages on one link.
-fn list_of(alloc: Global, links: &Links, from: NodeNo, to: NodeNo) -> Result<MsgList, NoMemory>
-    requires from { from.0 < links.now.nodes }
-    requires to { to.0 < links.now.nodes }
-    ensures { IfOk result (λ list. list ≡ link_in links.now from.0 to.0) }
-{
-    let mut list = MsgList::empty(alloc);
-    for msg in links.link(from, to) {
-        put(&mut list, *msg)?;
-    }
-    Ok(list)
-}
-
-// Appends a message. A list that can have no more has no memory for it.
-fn put(list: &mut MsgList, msg: Msg) -> Result<(), NoMemory>
-    ensures { OnOk result (list.new ≡ list.old ++ msg ∷ []) }
-{
-    if list.len() == u32::MAX {
-        return Err(NoMemory);
-    }
-    list.push(msg)
 }

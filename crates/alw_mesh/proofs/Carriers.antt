@@ -1,5 +1,5 @@
 -- The one carrier of a line: wherever it is found, it has the line's current value; and where none is found, the home has it.
-use Rattle.std.proofs.Common.{◌≡◌, ℕ, zero, suc, ◌+◌, ◌<◌, ◌≤◌, ◌==◌, nat_lt, nat_le, Bool, true, false, cond, ◌&&◌, ◌||◌, not, Option, Some, None, List, [], ◌∷◌, ◌++◌, map, filter, length, IsTrue, refl, sym, ap, subst, ◌∙◌, ◌⊎◌, inl, inr, ⊎_elim, arith}
+use Rattle.std.proofs.Common.{◌≡◌, ℕ, zero, suc, ◌+◌, ◌<◌, ◌≤◌, ◌==◌, nat_le, Bool, true, false, cond, Some, None, List, [], ◌∷◌, ◌++◌, length, IsTrue, refl, sym, ap, subst, ◌∙◌, ◌⊎◌, inl, inr, ⊎_elim, arith}
 use Rattle.std.specs.List.{range_with_len, flat_map, AllByRecursion}
 use Rattle.std.proofs.lemmas.Bool.{eqb-true, leb-true, eq-eqb, ne_eqb, lt-ltb}
 use Rattle.std.proofs.lemmas.List.Concat.{flat_map-append}
@@ -8,9 +8,8 @@ use Rattle.alw_num.specs.declared.states.State.{State}
 use Rattle.alw_num.specs.declared.states.State.TheVariants.{RO, RW, RT, WT}
 use Rattle.alw_num.proofs.Weigh.{sum_none, cases_lt_then}
 use Rattle.alw_num.specs.Maps.{passes}
-use Rattle.alw_num.specs.Weights.{digit, sum_below}
+use Rattle.alw_num.specs.Weights.{digit}
 use Rattle.alw_msg.specs.declared.messages.Msg.{Msg}
-use Rattle.alw_msg.specs.Contents.{content, request_in}
 use Rattle.alw_msg.specs.Lists.{front}
 use Rattle.alw_image.specs.declared.parts.Parts.{Parts}
 use Rattle.alw_image.specs.Images.{node_count}
@@ -20,7 +19,7 @@ use Rattle.alw_model.specs.LimitLess.{Directory}
 use Rattle.alw_model.specs.Messages.{home_node}
 use Rattle.alw_model.specs.Machine.{MachineState, node_at, link_at}
 use Rattle.alw_model.specs.Lines.{LineState, ups, sent_by, entry_of, packets_at, line_node, absent, line_of, up_carried, carried, carriers, value_by, line_value, current_value}
-use Rattle.alw_model.specs.LineInvariant.{LineInvariant, carries, all_carried, carrier_by, is_sole, carrier_fits}
+use Rattle.alw_model.specs.LineInvariant.{LineInvariant, carries, all_carried, carrier_by, is_sole}
 use Rattle.alw_model.proofs.Journals.{and_parts}
 use Rattle.law_line.proofs.Tests.{carriers_length}
 use Rattle.alw_mesh.proofs.Finding.{home_more}

@@ -1,12 +1,11 @@
 -- The first main event that is enabled, and the end that holds.
-use Rattle.std.proofs.Common.{◌≡◌, ℕ, zero, suc, ◌+◌, ◌-◌, ◌<◌, ◌≤◌, ◌&&◌, ◌||◌, Bool, true, false, cond, IsTrue, Option, Some, None, List, [], ◌∷◌, ◌++◌, map, flat_map, find, length, refl, sym, ap, subst, ◌∙◌, arith}
+use Rattle.std.proofs.Common.{◌≡◌, ℕ, zero, suc, ◌+◌, ◌-◌, ◌<◌, ◌≤◌, ◌&&◌, ◌||◌, Bool, true, false, cond, Option, Some, None, List, [], ◌∷◌, ◌++◌, map, flat_map, find, length, refl, sym, ap, subst, ◌∙◌, arith}
 use Rattle.std.specs.List.{range_with_len, list_any}
 use Rattle.std.proofs.lemmas.Bool.{false≢true}
 use Rattle.alw_msg.specs.declared.events.Entry.{Entry}
 use Rattle.alw_msg.specs.declared.events.Event.{Event}
 use Rattle.alw_msg.specs.Lists.{is_nonempty}
 use Rattle.alw_msg.specs.Sending.{Sending}
-use Rattle.alw_image.specs.Images.{IsImage}
 use Rattle.alw_model.specs.Machine.{MachineState, state, any_trapped, has_halted, is_settled, goes_on, end_of, is_enabled, main_events}
 use Rattle.alw_model.specs.Machine as machine
 use Rattle.alw_model.specs.declared.ends.Ended.TheVariants as ends

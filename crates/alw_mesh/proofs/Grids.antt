@@ -1,7 +1,6 @@
 -- The nodes and links that a machine keeps, after an event.
 use Rattle.std.proofs.Common.{◌≡◌, ℕ, ◌-◌, ◌<◌, ◌≤◌, Bool, true, false, ◌&&◌, IsTrue, Option, None, List, [], set, get_or, slice_index_or, length, refl, sym, ap, subst, ◌∙◌, arith}
 use Rattle.std.proofs.lemmas.List.{get_or-set_same, get_or_read, length-set, map-set}
-use Rattle.alw_num.specs.declared.addresses.NodeNo.{NodeNo}
 use Rattle.alw_num.proofs.Weigh.{at_nodes}
 use Rattle.alw_msg.specs.declared.messages.Msg.{Msg}
 use Rattle.alw_msg.specs.declared.events.Event.{Event}
@@ -176,11 +175,12 @@ module _ {image : Parts} {parameters : Parameters} {nodes : List Whole} {traffic
           let remains_is = changed ∙ ap (remains_after remains event) acts_so.did in
           subst (λ (p : List Whole × (Traffic × Remains)). IsGrid image parameters p.0 p.1.0 p.1.1) (sym (λ i. (acts_so.nodes_are i, (moved_so i, remains_is i)))) grid_next
 
-      pub happens : (number : NodeNo) (used quiet : Bool) (pc : ℕ) → (quiet ≡ true → IsQuietTurn event acted.did acted.changes_holds) → sent.room ≡ node_count image → number.0 ≡ at → used ≡ (is_turn acted.did && acted.changes_holds) → HasTrapPc stepped.node.slots pc acted.did
+      pub happens : (stamp : ℕ) (used quiet : Bool) (pc : ℕ) → (quiet ≡ true → IsQuietTurn event acted.did acted.changes_holds) → sent.room ≡ node_count image → used ≡ (is_turn acted.did && acted.changes_holds)
+          → HasTrapPc stepped.node.slots pc acted.did
           → Happens (record { image = image; parameters = parameters; machine = here; room = traffic.room })
-          (record { image = image; parameters = parameters; machine = machine_of nodes' traffic_after.links; room = traffic_after.room }) event sent'
-          (record { told = record { node = number; did = acted.did; taken = taken; used = used; pc = pc }; changes_holds = acted.changes_holds; quiet = quiet })
-      happens number used quiet pc turn room number_is used_of has =
+          (record { image = image; parameters = parameters; machine = machine_of nodes' traffic_after.links; room = traffic_after.room }) (record { stamp = stamp; event = event }) sent'
+          (record { moment = record { entry = record { stamp = stamp; event = event }; taken = taken; did = acted.did; quiet = quiet }; used = used; pc = pc; changes_holds = acted.changes_holds })
+      happens stamp used quiet pc turn room used_of has =
           let before = node_at here at in
           let left = left_step image parameters at before event (taken_by image here event) in
           let did_is : acted.did ≡ (stepped_by image parameters here event).did = acts_so.did ∙ ap (λ (s : Stepped). s.did) stepped_is in
@@ -191,28 +191,26 @@ module _ {image : Parts} {parameters : Parameters} {nodes : List Whole} {traffic
             machine = (λ i. machine_of (acts_so.nodes_are i) (moved_so i).links) ∙ machine_is;
             room = acts_so.room ∙ room;
             few = rw (sym room) acts_so.few;
-            told = λ stamp. record {
-              node = number_is;
-              did = did_is;
-              taken = taken_at ∙ head_is;
-              used = used_of ∙ ((λ i. is_turn (did_is i) && holds_are i) ∙ used_is before _ _ left);
-              pc = pc_is before _ _ pc left (subst (λ (p : List Slot × Did). HasTrapPc p.0 pc p.1) (λ i. ((stepped_is i).node.slots, did_is i)) has);
-              sends_are = acts_so.sends ∙ ap (λ (s : Stepped). s.sends) stepped_is;
-            };
+            entry_is = refl;
+            did = did_is;
+            taken = taken_at ∙ head_is;
+            used = used_of ∙ ((λ i. is_turn (did_is i) && holds_are i) ∙ used_is before _ _ left);
+            pc = pc_is before _ _ pc left (subst (λ (p : List Slot × Did). HasTrapPc p.0 pc p.1) (λ i. ((stepped_is i).node.slots, did_is i)) has);
+            sends = acts_so.sends ∙ ap (λ (s : Stepped). s.sends) stepped_is;
             quiet = turn;
             holds = holds_are;
           }
 
       -- and so it is told
-      pub happens_quietly : (number : NodeNo) (slot : ℕ) → acted.did ≡ Turn slot Done → IsQuietTurn event acted.did acted.changes_holds → sent.room ≡ node_count image → number.0 ≡ at
+      pub happens_quietly : (stamp slot : ℕ) → acted.did ≡ Turn slot Done → IsQuietTurn event acted.did acted.changes_holds → sent.room ≡ node_count image
           → Happens (record { image = image; parameters = parameters; machine = here; room = traffic.room })
-          (record { image = image; parameters = parameters; machine = machine_of nodes' traffic_after.links; room = traffic_after.room }) event sent'
-          (record { told = record { node = number; did = Turn slot Done; taken = None; used = false; pc = 0 }; changes_holds = false; quiet = true })
-      happens_quietly number slot did_is turn room number_is =
+          (record { image = image; parameters = parameters; machine = machine_of nodes' traffic_after.links; room = traffic_after.room }) (record { stamp = stamp; event = event }) sent'
+          (record { moment = record { entry = record { stamp = stamp; event = event }; taken = None; did = Turn slot Done; quiet = true }; used = false; pc = 0; changes_holds = false })
+      happens_quietly stamp slot did_is turn room =
           let none : taken ≡ None = taken_at ∙ takes_none event acted.did acted.changes_holds turn traffic in
-          let told_is : ◌≡◌ {A = Happening} (record { told = record { node = number; did = acted.did; taken = taken; used = false; pc = 0 }; changes_holds = acted.changes_holds; quiet = true })
-          (record { told = record { node = number; did = Turn slot Done; taken = None; used = false; pc = 0 }; changes_holds = false; quiet = true })
-          = λ i. record { told = record { node = number; did = did_is i; taken = none i; used = false; pc = 0 }; changes_holds = turn.stays i; quiet = true } in
+          let told_is : ◌≡◌ {A = Happening} (record { moment = record { entry = record { stamp = stamp; event = event }; taken = taken; did = acted.did; quiet = true }; used = false; pc = 0; changes_holds = acted.changes_holds })
+          (record { moment = record { entry = record { stamp = stamp; event = event }; taken = None; did = Turn slot Done; quiet = true }; used = false; pc = 0; changes_holds = false })
+          = λ i. record { moment = record { entry = record { stamp = stamp; event = event }; taken = none i; did = did_is i; quiet = true }; used = false; pc = 0; changes_holds = turn.stays i } in
           subst (λ (h : Happening). Happens (record { image = image; parameters = parameters; machine = here; room = traffic.room })
-          (record { image = image; parameters = parameters; machine = machine_of nodes' traffic_after.links; room = traffic_after.room }) event sent' h) told_is
-          (happens number false true 0 (λ _. turn) room number_is (uses_none event acted.did acted.changes_holds turn) (traps_not event acted.did acted.changes_holds turn stepped.node.slots))
+          (record { image = image; parameters = parameters; machine = machine_of nodes' traffic_after.links; room = traffic_after.room }) (record { stamp = stamp; event = event }) sent' h) told_is
+          (happens stamp false true 0 (λ _. turn) room (uses_none event acted.did acted.changes_holds turn) (traps_not event acted.did acted.changes_holds turn stepped.node.slots))

@@ -1,8 +1,7 @@
 -- A machine joined from a journal, its nodes, its links and what it tells; and the next entry of a legal journal.
-use Rattle.std.proofs.Common.{◌≡◌, ℕ, ◌+◌, ◌*◌, ◌<◌, ◌≤◌, ◌&&◌, Bool, IsTrue, Option, Some, List, [], ◌∷◌, ◌++◌, take, drop, get_or, slice_get, length, refl, sym, ap, subst, ◌∙◌, arith}
+use Rattle.std.proofs.Common.{◌≡◌, ℕ, ◌+◌, ◌<◌, ◌≤◌, IsTrue, Option, Some, List, [], ◌∷◌, ◌++◌, take, get_or, slice_get, length, sym, ap, subst, ◌∙◌, arith}
 use Rattle.std.proofs.lemmas.List.{take_more, drop_all}
 use Rattle.std.proofs.lemmas.Option.{get_or_from_slice_get, slice_get-get_or}
-use Rattle.alw_msg.specs.declared.messages.Msg.{Msg}
 use Rattle.alw_msg.specs.declared.events.Entry.{Entry}
 use Rattle.alw_msg.specs.declared.events.Event.TheVariants.{Instr}
 use Rattle.alw_msg.specs.Sending.{Sending}
@@ -11,8 +10,8 @@ use Rattle.alw_image.specs.Images.{IsImage, node_count}
 use Rattle.alw_image.specs.Parameters.{Parameters, AreParameters}
 use Rattle.alw_model.specs.declared.ends.TrapAt.{TrapAt}
 use Rattle.alw_model.specs.declared.steps.Counts.{Counts}
-use Rattle.alw_model.specs.Machine.{MachineState, machine_start, stamp_at, step, after, state, IsNext, AreLegal, IsLegal}
-use Rattle.alw_model.specs.Runs.{Moment, moments, turns_of, prints_of}
+use Rattle.alw_model.specs.Machine.{MachineState, machine_start, step, after, state, IsNext, AreLegal, IsLegal}
+use Rattle.alw_model.specs.Runs.{moments, turns_of, prints_of}
 use Rattle.alw_model.specs.Counts.{counts_of}
 use Rattle.alw_model.specs.Ends.{first_trap}
 use Rattle.alw_model.proofs.Journals.{and_is, legal_take}
@@ -29,21 +28,22 @@ use Rattle.alw_node.specs.Nodes.{Whole}
 use Rattle.alw_mesh.specs.Grids.{Grid}
 use Rattle.alw_mesh.specs.Histories.{History, IsRun, state_of, entry_of, grown, stamps_of, may_be_next, sent_last, last_sends, joined_of}
 use Rattle.alw_mesh.specs.Keeping.{machine_of, AreNodes, IsGrid, IsMachine}
-use Rattle.alw_mesh.specs.Joins.{LinksHaveMessages, IsGridOf, PartsAreJoined, states_of}
+use Rattle.alw_mesh.specs.Joins.{IsGridOf, PartsAreJoined, states_of}
 use Rattle.alw_mesh.proofs.FewSent.{told_within}
 use Rattle.alw_mesh.proofs.Journals.{journal_fits, moments_long}
 
 -- ---- nodes and links
 
-module _ (image : Parts) (parameters : Parameters) (nodes items : List Whole) (lists : List (List Msg)) (traffic : Traffic) (same : items ≡ nodes) (linked : LinksHaveMessages (node_count image) lists traffic) where
-  pub machine_joined : machine_of items traffic.links ≡ machine_of nodes lists
-  machine_joined = λ i. machine_of (same i) (linked.links_are i)
+module _ (image : Parts) (parameters : Parameters) (nodes items : List Whole) (traffic : Traffic) (same : items ≡ nodes) where
+  pub machine_joined : machine_of items traffic.links ≡ machine_of nodes traffic.links
+  machine_joined = ap (λ (all : List Whole). machine_of all traffic.links) same
 
-  pub grid_joined : (remains : Remains) → IsImage image → AreNodes image parameters nodes → IsAimed image (machine_of nodes lists) → remains ≡ remains_of (states_of items) → IsGrid image parameters items traffic remains
-  grid_joined remains is are aimed all = record {
+  pub grid_joined : (remains : Remains) → IsImage image → AreNodes image parameters nodes → traffic.nodes ≡ node_count image → IsAimed image (machine_of nodes traffic.links) → remains ≡ remains_of (states_of items)
+      → IsGrid image parameters items traffic remains
+  grid_joined remains is are counted aimed all = record {
     image_is = is;
     nodes_are = subst (AreNodes image parameters) (sym same) are;
-    links_are = linked.nodes_are;
+    links_are = counted;
     aimed = subst (IsAimed image) (sym machine_joined) aimed;
     remains_are = all;
   }

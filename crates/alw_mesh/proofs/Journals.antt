@@ -5,12 +5,14 @@ use Rattle.std.proofs.lemmas.List.{drop-append-le, length-append}
 use Rattle.alw_msg.specs.declared.messages.Msg.{Msg}
 use Rattle.alw_msg.specs.declared.events.Event.{Event}
 use Rattle.alw_msg.specs.declared.events.Entry.{Entry}
+use Rattle.alw_msg.specs.Events.{node_of}
 use Rattle.alw_msg.specs.Sending.{Sending}
 use Rattle.alw_image.specs.declared.parts.Parts.{Parts}
 use Rattle.alw_image.specs.Images.{IsImage, node_count}
 use Rattle.alw_image.specs.Parameters.{Parameters, AreParameters}
-use Rattle.alw_model.specs.Machine.{MachineState, machine_start, state, has_halted, stamp_at, is_enabled, is_within_limit, step, stepped_by, main_events, end_of, IsNext, IsLegal}
-use Rattle.alw_model.specs.Runs.{Moment, moment_of, moments_from, moments}
+use Rattle.alw_model.specs.Machine.{MachineState, machine_start, state, has_halted, stamp_at, taken_by, is_enabled, is_within_limit, step, stepped_by, main_events, end_of, IsNext, IsLegal}
+use Rattle.alw_model.specs.Runs.{moment_of, moments_from, moments}
+use Rattle.alw_model.specs.Runs as runs
 use Rattle.alw_model.proofs.Journals.{and_parts, state_push, legal_push, moments_push}
 use Rattle.law_lines.specs.Links.{GoBelow}
 use Rattle.law_order.specs.Aims.{IsAimed}
@@ -19,11 +21,11 @@ use Rattle.law_order.proofs.Reached.{state_aimed}
 use Rattle.law_machine.proofs.Bound.{sets_range}
 use Rattle.law_machine.proofs.RunFacts.{always_bounded, always_halted}
 use Rattle.law_machine.proofs.MachineFacts.{always_fit}
-use Rattle.alw_tally.specs.declared.happenings.Happened.{Happened}
+use Rattle.alw_tally.specs.declared.moments.Moment.{Moment}
 use Rattle.alw_tally.specs.Remaining.{remains_of, AreFew}
 use Rattle.alw_tally.specs.Told.{Told, told_of, told_with}
 use Rattle.alw_tally.specs.Tallies.{Tallied}
-use Rattle.alw_tally.specs.Happenings as tellings
+use Rattle.alw_tally.specs.Moments.{MomentIsTold}
 use Rattle.alw_tally.proofs.Telling.{told_entry}
 use Rattle.alw_ready.specs.declared.changes.Happened as changes
 use Rattle.alw_ready.specs.declared.rows.Row.{Row}
@@ -36,6 +38,7 @@ use Rattle.alw_mesh.specs.Grids.{Grid, grid_start, Happens}
 use Rattle.alw_mesh.specs.Histories.{History, state_of, entry_of, grown, stamps_of, may_be_next, IsRun, sent_last, last_sends}
 use Rattle.alw_mesh.specs.Keeping.{IsMachine}
 use Rattle.alw_mesh.specs.Ends.{next_events, EndStays, HasPassed}
+use Rattle.alw_mesh.specs.Moments.{IsMomentOf}
 use Rattle.alw_mesh.proofs.OneNode.{few_nodes}
 use Rattle.alw_mesh.proofs.Remaining.{remains_few}
 use Rattle.alw_mesh.proofs.Quiet.{quiet_rows, quiet_end}
@@ -58,7 +61,7 @@ unfolding moments
 moments_long parts parameters journal = moments_from_long parts parameters (machine_start parts) journal
 
 -- one event more sends what it sends
-sent_push : (run : List Moment) (moment : Moment) → sent_last (run ++ moment ∷ []) ≡ moment.stepped.sends
+sent_push : (run : List runs.Moment) (moment : runs.Moment) → sent_last (run ++ moment ∷ []) ≡ moment.stepped.sends
 sent_push [] moment = refl
 sent_push (first ∷ []) moment = refl
 sent_push (first ∷ next ∷ rest) moment = sent_push (next ∷ rest) moment
@@ -68,12 +71,12 @@ last_push h within event =
     let run = moments h.image h.parameters h.journal in
     let moment = moment_of h.image h.parameters (state_of h) (entry_of h event) in
     let some : h.joined ≤ length run = omega (arith, within, moments_long h.image h.parameters h.journal) in
-    ap (λ (all : List Moment). sent_last (drop h.joined all)) (moments_push h.image h.parameters h.journal (entry_of h event))
+    ap (λ (all : List runs.Moment). sent_last (drop h.joined all)) (moments_push h.image h.parameters h.journal (entry_of h event))
     ∙ (ap sent_last (drop-append-le h.joined run (moment ∷ []) some) ∙ sent_push (drop h.joined run) moment)
 
 -- what a tally is told more
-abbrev pub Adds : Parts → Tallied → Tallied → Happened → List (ℕ × Msg) → Type 0
-Adds image before after happened sends = (moment : Moment) → tellings.HappeningIsOf happened sends moment → after.told ≡ told_with image before.told moment
+abbrev pub Adds : Parts → Tallied → Tallied → Moment → Bool → ℕ → List (ℕ × Msg) → Type 0
+Adds image before after told used pc sends = (moment : runs.Moment) → MomentIsTold told used pc sends moment → after.told ≡ told_with image before.told moment
 
 -- what rows are made of others, over a machine after an event
 abbrev pub Renews : Grid → List Row → List Row → changes.Happened → List (ℕ × Msg) → Type 0
@@ -112,12 +115,12 @@ module _ {grid : Grid} {journal : List Entry} {joined : ℕ} {sent : Sending} {t
     next_is : IsNext grid.image grid.parameters (state_of here) (entry_of here event)
     next_is = record { enabled = may_here.0; within = may_here.1; stamp = refl }
 
-    module _ {room : ℕ} {after : Grid} {sent' : Sending} {happening : Happening} (happens : Happens (record grid { room = room }) after event sent' happening) where
+    module _ {room stamp : ℕ} {after : Grid} {sent' : Sending} {happening : Happening} (happens : Happens (record grid { room = room }) after (record { stamp = stamp; event = event }) sent' happening) where
       machine_next : after.machine ≡ step grid.image grid.parameters (state_of here) event
       machine_next = happens.machine ∙ ap (λ m. step grid.image grid.parameters m event) is.state_is
 
       sends_next : sent'.messages ≡ (stepped_by grid.image grid.parameters (state_of here) event).sends
-      sends_next = (happens.told 0).sends_are ∙ ap (λ m. (stepped_by grid.image grid.parameters m event).sends) is.state_is
+      sends_next = happens.sends ∙ ap (λ m. (stepped_by grid.image grid.parameters m event).sends) is.state_is
 
       pub sends_below_rows : GoBelow (length ready) sent'.messages
       sends_below_rows = rw (is.rows.counted, sends_next)
@@ -135,11 +138,10 @@ module _ {grid : Grid} {journal : List Entry} {joined : ℕ} {sent : Sending} {t
           go false running = (ap (λ b. not b && has_halted after.machine) (sym (ap has_halted is.state_is ∙ running)) ∙ (sym flips_is ∙ none)) ∙ sym running
 
       -- what the rows are told
-      told_is : (wide flips : Bool) → wide ≡ is_wide happening.told.did happening.told.taken happening.changes_holds → flips ≡ (not (has_halted grid.machine) && has_halted after.machine)
+      told_is : (wide flips : Bool) → wide ≡ is_wide happening.moment.did happening.moment.taken happening.changes_holds → flips ≡ (not (has_halted grid.machine) && has_halted after.machine)
           → EventIsTold grid.image grid.parameters (state_of here) after.machine (record { event = event; wide = wide; halted = flips }) sent'.messages
       told_is wide flips wide_is flips_is =
-          let of = happens.told 0 in
-          let wide_so : wide ≡ is_wide_event grid.image grid.parameters grid.machine event = wide_is ∙ (λ i. is_wide (of.did i) (of.taken i) (happens.holds i)) in
+          let wide_so : wide ≡ is_wide_event grid.image grid.parameters grid.machine event = wide_is ∙ (λ i. is_wide (happens.did i) (happens.taken i) (happens.holds i)) in
           record {
             enabled = may_here.0;
             sends_are = sends_next;
@@ -149,9 +151,9 @@ module _ {grid : Grid} {journal : List Entry} {joined : ℕ} {sent : Sending} {t
           }
 
       -- the journal after it
-      pub grown_is : {journal' : List Entry} (stamp : ℕ) → stamp ≡ stamp_at grid.image grid.machine event → journal' ≡ journal ++ record { stamp = stamp; event = event } ∷ []
+      pub grown_is : {journal' : List Entry} → stamp ≡ stamp_at grid.image grid.machine event → journal' ≡ journal ++ record { stamp = stamp; event = event } ∷ []
           → ◌≡◌ {A = History} (record { image = after.image; parameters = after.parameters; journal = journal'; joined = joined }) (grown here event)
-      grown_is stamp stamp_at_is pushed =
+      grown_is stamp_at_is pushed =
           let stamp_is = stamp_at_is ∙ ap (λ (m : MachineState). stamp_at grid.image m event) is.state_is in
           let journal_is = pushed ∙ (λ i. journal ++ record { stamp = stamp_is i; event = event } ∷ []) in
           λ i. record { image = happens.image i; parameters = happens.parameters i; journal = journal_is i; joined = joined }
@@ -165,15 +167,25 @@ module _ {grid : Grid} {journal : List Entry} {joined : ℕ} {sent : Sending} {t
         joined = omega (arith, is.run.joined, length-append journal (entry_of here event ∷ []));
       }
 
-      -- what passing it answers
-      pub pass_answers : {journal' : List Entry} (stamp : ℕ) → stamp ≡ stamp_at grid.image grid.machine event → journal' ≡ journal ++ record { stamp = stamp; event = event } ∷ []
+      -- the moment that is told of it
+      moment_told : MomentIsTold happening.moment happening.used happening.pc sent'.messages (moment_of grid.image grid.parameters grid.machine (record { stamp = stamp; event = event }))
+      moment_told = record { node = ap (λ (e : Entry). node_of e.event) happens.entry_is; did = happens.did; taken = happens.taken; used_is = happens.used; pc_is = happens.pc; sends_are = happens.sends }
+
+      -- what taking it answers
+      pub take_answers : {journal' : List Entry} → stamp ≡ stamp_at grid.image grid.machine event → journal' ≡ journal ++ record { stamp = stamp; event = event } ∷ []
           → (quiet : Bool) → (quiet ≡ true → EndStays here (grown here event))
           → HasPassed here event (record { image = after.image; parameters = after.parameters; journal = journal'; joined = joined }) quiet
-          × (happening.told.did ≡ (stepped_by grid.image grid.parameters (state_of here) event).did)
-      pass_answers stamp stamp_at_is pushed quiet stays =
-          let grown_so = grown_is stamp stamp_at_is pushed in (
+          × IsMomentOf here event (record { image = after.image; parameters = after.parameters; journal = journal'; joined = joined }) (record happening.moment { quiet = quiet })
+      take_answers stamp_at_is pushed quiet stays =
+          let grown_so = grown_is stamp_at_is pushed in
+          let stamp_is = stamp_at_is ∙ ap (λ (m : MachineState). stamp_at grid.image m event) is.state_is in (
             record { after_is = grown_so; run = subst IsRun (sym grown_so) run_grows; stays = λ so. subst (EndStays here) (sym grown_so) (stays so) },
-            (happens.told stamp).did ∙ ap (λ m. (stepped_by grid.image grid.parameters m event).did) is.state_is,
+            record {
+              entry = happens.entry_is ∙ (λ i. record { stamp = stamp_is i; event = event });
+              taken = happens.taken ∙ ap (λ m. taken_by grid.image m event) is.state_is;
+              did = happens.did ∙ ap (λ m. (stepped_by grid.image grid.parameters m event).did) is.state_is;
+              sends = ap last_sends grown_so ∙ last_push here is.run.joined event;
+            },
           )
 
       -- the heads of its links are fit
@@ -185,23 +197,24 @@ module _ {grid : Grid} {journal : List Entry} {joined : ℕ} {sent : Sending} {t
           subst (λ (p : Parts × MachineState). HeadsAreFit p.0 p.1) (λ i. (sym happens.image i, sym state_next i)) (always_fit grid.image is.run.image grid.parameters is.run.parameters entries legal)
 
       -- the machine after an event
-      pub machine_grows : {journal' : List Entry} {tally' : Tallied} {ready' : List Row} (stamp : ℕ) → stamp ≡ stamp_at grid.image grid.machine event
-          → journal' ≡ journal ++ record { stamp = stamp; event = event } ∷ [] → Adds after.image tally tally' happening.told sent'.messages
+      pub machine_grows : {journal' : List Entry} {tally' : Tallied} {ready' : List Row} → stamp ≡ stamp_at grid.image grid.machine event
+          → journal' ≡ journal ++ record { stamp = stamp; event = event } ∷ [] → Adds after.image tally tally' happening.moment happening.used happening.pc sent'.messages
           → RowsFit after.image after.parameters after.machine ready' → IsMachine after journal' joined sent' tally' ready'
-      machine_grows {journal' = journal'} {tally' = tally'} stamp stamp_at_is pushed adds rows =
+      machine_grows {journal' = journal'} {tally' = tally'} stamp_at_is pushed adds rows =
           let entry : Entry = record { stamp = stamp; event = event } in
           let stamp_is = stamp_at_is ∙ ap (λ (m : MachineState). stamp_at grid.image m event) is.state_is in
           let entry_is : entry ≡ entry_of here event = λ i. record { stamp = stamp_is i; event = event } in
           let journal_is : journal' ≡ journal ++ entry_of here event ∷ [] = pushed ∙ ap (λ e. journal ++ e ∷ []) entry_is in
-          let grown_so = grown_is stamp stamp_at_is pushed in
+          let grown_so = grown_is stamp_at_is pushed in
           let pushed_state = state_push grid.image grid.parameters journal (entry_of here event) in
-          let adds_so : Adds grid.image tally tally' happening.told sent'.messages = subst (λ p. Adds p tally tally' happening.told sent'.messages) happens.image adds in
+          let adds_so : Adds grid.image tally tally' happening.moment happening.used happening.pc sent'.messages
+          = subst (λ p. Adds p tally tally' happening.moment happening.used happening.pc sent'.messages) happens.image adds in
           record {
             run = subst IsRun (sym grown_so) run_grows;
             state_is = machine_next ∙ (sym pushed_state ∙ sym (ap state_of grown_so));
             room = happens.room ∙ ap node_count (sym happens.image);
             sends = sends_next ∙ (sym (last_push here is.run.joined event) ∙ sym (ap last_sends grown_so));
-            told = adds_so (moment_of grid.image grid.parameters grid.machine entry) (happens.told stamp)
+            told = adds_so (moment_of grid.image grid.parameters grid.machine entry) moment_told
                 ∙ ((λ i. told_with grid.image (is.told i) (moment_of grid.image grid.parameters (is.state_is i) (entry_is i)))
                 ∙ (sym (told_entry grid.image grid.parameters journal (entry_of here event)) ∙ sym (ap told_by grown_so)));
             rows = rows;
@@ -211,7 +224,7 @@ module _ {grid : Grid} {journal : List Entry} {joined : ℕ} {sent : Sending} {t
           told_by h = told_of h.image (moments h.image h.parameters h.journal)
 
       -- rows that were renewed fit it, over the image and the parameters as they were
-      pub rows_renewed : {ready' : List Row} (wide flips : Bool) → wide ≡ is_wide happening.told.did happening.told.taken happening.changes_holds
+      pub rows_renewed : {ready' : List Row} (wide flips : Bool) → wide ≡ is_wide happening.moment.did happening.moment.taken happening.changes_holds
           → flips ≡ (not (has_halted grid.machine) && has_halted after.machine) → Renews after ready ready' (record { event = event; wide = wide; halted = flips }) sent'.messages
           → RowsFit after.image after.parameters after.machine ready'
       rows_renewed wide flips wide_is flips_is renews =
@@ -226,16 +239,16 @@ module _ {grid : Grid} {journal : List Entry} {joined : ℕ} {sent : Sending} {t
           same = λ i. (sym happens.image i, sym happens.parameters i)
 
       -- behind a quiet turn before the limit they fit as they were, and the end stays
-      module _ (stamp limit : ℕ) (stamp_is : stamp ≡ stamp_at grid.image grid.machine event) (limit_is : limit ≡ after.parameters.limit) (early : stamp < limit)
-          (quiet : happening.quiet ≡ true) where
+      module _ (reached limit : ℕ) (reached_is : reached ≡ stamp_at grid.image grid.machine event) (limit_is : limit ≡ after.parameters.limit) (early : reached < limit)
+          (quiet : happening.moment.quiet ≡ true) where
         aimed : IsAimed grid.image grid.machine
         aimed = subst (IsAimed grid.image) (sym is.state_is) (state_aimed grid.image grid.parameters journal is.run.legal)
 
         rows_keep : RowsFit grid.image grid.parameters (step grid.image grid.parameters grid.machine event) ready
         rows_keep =
             let allowed = ap (λ (p : Parameters). p.limit) happens.parameters in
-            quiet_rows event happening.told.did happening.changes_holds (happens.quiet quiet) grid.image grid.parameters grid.machine ready aimed may (happens.told 0).did happens.holds
-            (omega (arith, stamp_is, limit_is, allowed)) is.run.parameters.limit is.rows
+            quiet_rows event happening.moment.did happening.changes_holds (happens.quiet quiet) grid.image grid.parameters grid.machine ready aimed may happens.did happens.holds
+            (omega (arith, reached_is, limit_is, allowed)) is.run.parameters.limit is.rows
 
         pub rows_stay : RowsFit after.image after.parameters after.machine ready
         rows_stay = subst (λ (p : Parts × (Parameters × MachineState)). RowsFit p.0 p.1.0 p.1.1 ready) (λ i. (sym happens.image i, (sym happens.parameters i, sym happens.machine i))) rows_keep
@@ -245,7 +258,7 @@ module _ {grid : Grid} {journal : List Entry} {joined : ℕ} {sent : Sending} {t
             let end = end_of grid.image grid.parameters in
             let next = state_push grid.image grid.parameters journal (entry_of here event) ∙ ap (λ m. step grid.image grid.parameters m event) (sym is.state_is) in
             ap end next
-            ∙ (quiet_end event happening.told.did happening.changes_holds (happens.quiet quiet) grid.image grid.parameters grid.machine ready aimed enabled (happens.told 0).did is.rows rows_keep ∙ ap end is.state_is)
+            ∙ (quiet_end event happening.moment.did happening.changes_holds (happens.quiet quiet) grid.image grid.parameters grid.machine ready aimed enabled happens.did is.rows rows_keep ∙ ap end is.state_is)
 
 -- the heads of the links are fit in a machine that hasn't begun, and in one that was joined
 pub heads_fit_at : (image : Parts) → IsImage image → (parameters : Parameters) → AreParameters parameters → (journal : List Entry) → IsLegal image parameters journal

@@ -12,6 +12,5 @@ pub mod Carriers
 pub mod Reading
 pub mod FewSent
 pub mod Remains
-pub mod Filling
 pub mod Trapped
 pub mod Joined

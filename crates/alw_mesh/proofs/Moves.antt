@@ -1,5 +1,5 @@
 -- Messages that are taken and sent: the links as they are kept do what the machine's definitions say.
-use Rattle.std.proofs.Common.{◌≡◌, ℕ, zero, suc, ◌<◌, ◌≤◌, nat_lt, IsTrue, Option, Some, None, List, [], ◌∷◌, ◌++◌, ◌+◌, ◌*◌, set, length, get_or, slice_index_or, refl, sym, ap, ◌∙◌, arith}
+use Rattle.std.proofs.Common.{◌≡◌, ℕ, zero, suc, ◌<◌, ◌≤◌, nat_lt, IsTrue, None, List, [], ◌∷◌, ◌++◌, ◌+◌, ◌*◌, set, length, get_or, slice_index_or, refl, sym, ap, ◌∙◌, arith}
 use Rattle.std.proofs.lemmas.List.{get_or_past}
 use Rattle.std.proofs.lemmas.Nat.{mul-le}
 use Rattle.std.proofs.lemmas.Bool.{ltb-true}

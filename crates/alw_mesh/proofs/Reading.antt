@@ -1,34 +1,30 @@
 -- What readers tell of a machine is what the flat machine has after the turns.
-use Rattle.std.proofs.Common.{◌≡◌, ℕ, zero, suc, ◌+◌, ◌*◌, ◌-◌, ◌/◌, ◌%◌, ◌^◌, ◌<◌, ◌≤◌, ◌==◌, ◌&&◌, nat_lt, IsTrue, List, [], ◌∷◌, map, length, refl, sym, ap, subst, ◌∙◌, arith}
-use Rattle.std.specs.List.{range_with_len, list_all, AllByRecursion}
+use Rattle.std.proofs.Common.{◌≡◌, ℕ, ◌+◌, ◌*◌, ◌/◌, ◌%◌, ◌^◌, ◌<◌, ◌≤◌, ◌==◌, nat_lt, IsTrue, List, [], ◌∷◌, length, refl, sym, ap, subst, ◌∙◌, arith}
+use Rattle.std.specs.List.{list_all, AllByRecursion}
 use Rattle.std.proofs.lemmas.Bool.{eqb-true, ltb-true}
 use Rattle.std.proofs.lemmas.List.FromFn.{get_or-map-range_with_len}
 use Rattle.std.proofs.lemmas.Nat.{mul-le}
 use Rattle.std.proofs.Math.Nat.{div-lt_iff_lt-mul}
-use Rattle.alw_num.specs.declared.addresses.Line.{Line}
 use Rattle.alw_num.specs.declared.states.State.TheVariants.{RO, RW}
-use Rattle.alw_num.specs.Limits.{shared_base}
 use Rattle.alw_num.specs.Maps.{passes}
 use Rattle.alw_num.specs.Weights.{digit, weigh}
 use Rattle.alw_num.proofs.Weigh.{digit_le}
 use Rattle.alw_image.specs.declared.parts.Parts.{Parts}
-use Rattle.alw_image.specs.Parameters.{Parameters}
 use Rattle.alw_msg.specs.declared.events.Entry.{Entry}
 use Rattle.alw_msg.specs.declared.messages.Msg.{Msg}
 use Rattle.alw_msg.specs.Contents.{content, is_to_memory}
 use Rattle.alw_msg.specs.Sending.{Sending}
-use Rattle.alw_image.specs.Images.{IsImage, node_count, line_count, context_count, zero_line}
+use Rattle.alw_image.specs.Images.{node_count, line_count, context_count, zero_line}
 use Rattle.alw_model.specs.Contexts.{slot_at}
 use Rattle.alw_model.specs.NodeStates.{NodeState}
 use Rattle.alw_model.specs.declared.steps.Counts.{Counts}
-use Rattle.alw_model.specs.Machine.{MachineState, machine_start, node_at, step, state}
-use Rattle.alw_model.specs.Flat.{Context, Flat, context_at, line_at}
+use Rattle.alw_model.specs.Machine.{MachineState, node_at}
+use Rattle.alw_model.specs.Flat.{Flat, context_at, line_at}
 use Rattle.alw_model.specs.Lines.{carriers, current_value, entry_of, packets_at, ups}
 use Rattle.alw_model.specs.Lines as lines
-use Rattle.alw_model.specs.LineInvariant.{LineInvariant}
-use Rattle.alw_model.specs.MachineInvariant.{packed_rightly, sizes_fit}
+use Rattle.alw_model.specs.MachineInvariant.{packed_rightly}
 use Rattle.alw_model.specs.Messages.{home_node}
-use Rattle.alw_model.specs.Runs.{Moment, moments_from, moments, flat_context, flat_view}
+use Rattle.alw_model.specs.Runs.{Moment, moments, flat_context, flat_view}
 use Rattle.alw_model.specs.Counts.{is_data, count_holds}
 use Rattle.alw_model.proofs.Journals.{and_parts}
 use Rattle.law_machine.proofs.FlatStarts.{flat_view_is}
@@ -41,7 +37,7 @@ use Rattle.alw_tally.specs.Tallies.{Tallied}
 use Rattle.alw_ready.specs.declared.rows.Row.{Row}
 use Rattle.alw_node.specs.Nodes.{Whole}
 use Rattle.alw_mesh.specs.Histories.{History, state_of, IsRun}
-use Rattle.alw_mesh.specs.Readings.{slot_of, counts_in, flat_in, line_of, IsSharedWord}
+use Rattle.alw_mesh.specs.Readings.{slot_of, counts_in, flat_in}
 use Rattle.alw_mesh.specs.Grids.{Grid, IsSlotOf}
 use Rattle.alw_mesh.specs.Keeping.{IsMachine}
 use Rattle.alw_mesh.proofs.OneNode.{home_exists}

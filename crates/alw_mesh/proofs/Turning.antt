@@ -1,5 +1,5 @@
 -- What a turn leaves of its node: one slot has run, with the registers that it had where the turn trapped; and its hold has ended.
-use Rattle.std.proofs.Common.{◌≡◌, ℕ, ◌+◌, ◌<◌, ◌==◌, Bool, true, false, not, ◌&&◌, Option, Some, None, is_some, List, [], ◌∷◌, length, set, get_or, refl, sym, ap, subst, ◌∙◌, arith}
+use Rattle.std.proofs.Common.{◌≡◌, ℕ, ◌+◌, ◌<◌, ◌==◌, Bool, true, false, not, ◌&&◌, Option, Some, None, is_some, List, [], ◌∷◌, length, refl, sym, ap, subst, ◌∙◌, arith}
 use Rattle.std.proofs.lemmas.Bool.{eq-eqb, ne_eqb, eqb-true}
 use Rattle.std.proofs.lemmas.List.{get_or-set_same, length-set}
 use Rattle.alw_num.specs.declared.states.Mode.{Mode}
@@ -27,10 +27,10 @@ use Rattle.alw_model.specs.Caches.{Copy, granted_copy}
 use Rattle.alw_model.specs.Contexts.{Slot, slot_at, no_slot, running, ran}
 use Rattle.alw_model.specs.NodeStates.{NodeState, home_at, stamp_of}
 use Rattle.alw_model.specs.ProcessorSteps.{status_after}
-use Rattle.alw_model.specs.NodeSteps.{Stepped, access, instr_by, instr, at_home, deliver_by, deliver, handle_by, handle_front, event_at, node_step}
+use Rattle.alw_model.specs.NodeSteps.{access, instr_by, instr, at_home, deliver_by, deliver, handle_by, handle_front, event_at, node_step}
 use Rattle.alw_model.specs.Counts.{is_turn, uses_hold}
 use Rattle.alw_ready.specs.Changes.{hold_count}
-use Rattle.alw_tally.specs.Happenings.{HasPc}
+use Rattle.alw_tally.specs.Moments.{HasPc}
 use Rattle.alw_tally.proofs.Sums.{weigh_set}
 use Rattle.law_machine.proofs.FlatSlots.{runs_ready}
 use Rattle.alw_mesh.specs.Keeping.{PcOf, HasTrapPc}

@@ -1,15 +1,13 @@
 -- The main events of a machine that may happen next, those of one node, the end that holds, and where it stays.
-use Rattle.std.specs.Prelude.{◌≡◌, ℕ, Bool, true, Option, None, MatchOption, Result, Ok, Err, List, ◌∷◌, map, filter}
+use Rattle.std.specs.Prelude.{◌≡◌, ℕ, Bool, true, Option, None, MatchOption, List, ◌∷◌, map, filter}
 use Rattle.std.specs.List.{range_with_len}
-use Rattle.alw_num.specs.declared.memory.NoMemory.{NoMemory}
 use Rattle.alw_msg.specs.declared.events.Event.{Event}
 use Rattle.alw_msg.specs.declared.events.Event.TheVariants.{Instr, Handle, Deliver}
 use Rattle.alw_image.specs.declared.parts.Parts.{Parts}
 use Rattle.alw_image.specs.Images.{node_count}
 use Rattle.alw_model.specs.declared.ends.Ended.{Ended}
-use Rattle.alw_model.specs.Machine.{main_events, stepped_by, end_of}
+use Rattle.alw_model.specs.Machine.{main_events, end_of}
 use Rattle.alw_model.specs.Ends.{IsEnd}
-use Rattle.alw_mesh.specs.declared.machines.Passed.{Passed}
 use Rattle.alw_mesh.specs.Histories.{History, may_be_next, state_of, grown, IsRun}
 
 -- the main events that are enabled and within the limit, in the schedule's order
@@ -34,8 +32,3 @@ pub record HasPassed (before : History) (event : Event) (after : History) (quiet
   pub after_is : after ≡ grown before event
   pub run : IsRun after
   pub stays : quiet ≡ true → EndStays before after
-
--- what passing an event that may be next leaves and answers: it has passed, and did what it does; or memory was refused, and all is as it was
-abbrev pub Passes : History → Event → History → Result Passed NoMemory → Type 0
-Passes before event after (Ok passed) = HasPassed before event after passed.quiet × (passed.did ≡ (stepped_by before.image before.parameters (state_of before) event).did)
-Passes before event after (Err refused) = after ≡ before

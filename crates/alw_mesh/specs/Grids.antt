@@ -2,6 +2,7 @@
 use Rattle.std.specs.Prelude.{◌≡◌, ℕ, ◌<◌, ◌≤◌, ◌/◌, ◌%◌, Bool, true, false, length}
 use Rattle.alw_num.specs.declared.addresses.NodeNo.{NodeNo}
 use Rattle.alw_msg.specs.declared.events.Event.{Event}
+use Rattle.alw_msg.specs.declared.events.Entry.{Entry}
 use Rattle.alw_msg.specs.declared.events.Event.TheVariants.{Instr}
 use Rattle.alw_msg.specs.Events.{node_of}
 use Rattle.alw_msg.specs.Sending.{Sending}
@@ -11,11 +12,11 @@ use Rattle.alw_image.specs.Parameters.{Parameters}
 use Rattle.sparc_table.specs.declared.outcomes.Outcome.TheVariants.{Done}
 use Rattle.alw_model.specs.declared.steps.Did.{Did}
 use Rattle.alw_model.specs.declared.steps.Did.TheVariants.{Turn}
-use Rattle.alw_model.specs.Machine.{MachineState, machine_start, node_at, stepped_by, step}
-use Rattle.alw_model.specs.Runs.{moment_of}
+use Rattle.alw_model.specs.Machine.{MachineState, machine_start, node_at, taken_by, stepped_by, step}
+use Rattle.alw_model.specs.Counts.{uses_hold}
 use Rattle.alw_ready.specs.Changes.{changes_holds}
 use Rattle.alw_mesh.specs.declared.stepping.Happening.{Happening}
-use Rattle.alw_tally.specs.Happenings as tellings
+use Rattle.alw_tally.specs.Moments.{HasPc}
 use Rattle.alw_node.specs.Nodes.{Whole}
 use Rattle.alw_node.specs.Shares.{share_of}
 
@@ -50,13 +51,18 @@ pub record IsQuietTurn (event : Event) (did : Did) (changes : Bool) : Type 0 whe
   pub did_is : did ≡ Turn slot Done
   pub stays : changes ≡ false
 
--- an event has happened: it has left the machine that it leaves, and what is told of it, with its sends, is the event of a run
-pub record Happens (before after : Grid) (event : Event) (sent : Sending) (happening : Happening) : Type 0 where
+-- the event of an entry has happened: it has left the machine that it leaves, and what is said of it, with its sends, is the event of a run
+pub record Happens (before after : Grid) (entry : Entry) (sent : Sending) (happening : Happening) : Type 0 where
   pub image : after.image ≡ before.image
   pub parameters : after.parameters ≡ before.parameters
-  pub machine : after.machine ≡ step before.image before.parameters before.machine event
+  pub machine : after.machine ≡ step before.image before.parameters before.machine entry.event
   pub room : sent.room ≡ node_count before.image
   pub few : length sent.messages ≤ node_count before.image
-  pub told : (stamp : ℕ) → tellings.HappeningIsOf happening.told sent.messages (moment_of before.image before.parameters before.machine (record { stamp = stamp; event = event }))
-  pub quiet : happening.quiet ≡ true → IsQuietTurn event happening.told.did happening.changes_holds
-  pub holds : happening.changes_holds ≡ changes_holds (node_at before.machine (node_of event)) (stepped_by before.image before.parameters before.machine event).node
+  pub entry_is : happening.moment.entry ≡ entry
+  pub did : happening.moment.did ≡ (stepped_by before.image before.parameters before.machine entry.event).did
+  pub taken : happening.moment.taken ≡ taken_by before.image before.machine entry.event
+  pub used : happening.used ≡ uses_hold (node_at before.machine (node_of entry.event)) (stepped_by before.image before.parameters before.machine entry.event).did
+  pub pc : HasPc (node_at before.machine (node_of entry.event)) happening.pc (stepped_by before.image before.parameters before.machine entry.event).did
+  pub sends : sent.messages ≡ (stepped_by before.image before.parameters before.machine entry.event).sends
+  pub quiet : happening.moment.quiet ≡ true → IsQuietTurn entry.event happening.moment.did happening.changes_holds
+  pub holds : happening.changes_holds ≡ changes_holds (node_at before.machine (node_of entry.event)) (stepped_by before.image before.parameters before.machine entry.event).node

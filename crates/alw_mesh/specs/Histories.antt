@@ -1,6 +1,5 @@
 -- What a machine is seen as: its image, its parameters and its journal, which say all else of it, and how many of the journal's first entries it was joined with.
-use Rattle.std.specs.Prelude.{◌≡◌, ℕ, ◌*◌, ◌<◌, ◌≤◌, Bool, true, false, Result, Ok, Err, List, [], ◌∷◌, ◌++◌, length, drop, IsTrue}
-use Rattle.alw_num.specs.declared.memory.NoMemory.{NoMemory}
+use Rattle.std.specs.Prelude.{◌≡◌, ℕ, ◌*◌, ◌<◌, ◌≤◌, Bool, false, Result, Ok, Err, List, [], ◌∷◌, ◌++◌, length, drop, IsTrue}
 use Rattle.alw_msg.specs.declared.messages.Msg.{Msg}
 use Rattle.alw_msg.specs.declared.events.Event.{Event}
 use Rattle.alw_msg.specs.declared.events.Entry.{Entry}
@@ -27,6 +26,10 @@ pub record History : Type 0 where
 -- a machine that hasn't begun
 abbrev pub begun : Parts → Parameters → History
 begun image parameters = record { image = image; parameters = parameters; journal = []; joined = 0 }
+
+-- a machine that took these entries from its start on
+abbrev pub whole : Parts → Parameters → List Entry → History
+whole image parameters journal = record { image = image; parameters = parameters; journal = journal; joined = 0 }
 
 -- a machine that was joined from a journal, and has taken no step
 abbrev pub joined_of : Parts → Parameters → List Entry → History
@@ -72,11 +75,6 @@ abbrev pub Starts : Parts → Parameters → Result History FitErr → Type 0
 Starts image parameters (Ok machine) = (machine ≡ begun image parameters) × (stamps_of image parameters ≤ most_steps)
 Starts image parameters (Err (fits.DoesNotFit number most)) = (most_steps < number) × (number ≡ stamps_of image parameters) × (most ≡ most_steps)
 Starts image parameters (Err fits.NoMemory) = stamps_of image parameters ≤ most_steps
-
--- what taking an event that may be next leaves and answers: it has happened, and did what it does; or memory was refused, and all is as it was
-abbrev pub Takes : History → Event → History → Result Did NoMemory → Type 0
-Takes before event after (Ok did) = (after ≡ grown before event) × (did ≡ (stepped_by before.image before.parameters (state_of before) event).did)
-Takes before event after (Err refused) = after ≡ before
 
 -- what a step leaves and answers: the event has happened, and did what it does; or it may not be next, or memory was refused, and all is as it was
 abbrev pub Steps : History → Event → History → Result Did StepErr → Type 0

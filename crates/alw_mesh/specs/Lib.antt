@@ -4,5 +4,6 @@ pub mod Keeping
 pub mod Readings
 pub mod Values
 pub mod Ends
+pub mod Moments
 pub mod Joins
 pub mod Limits

@@ -1,47 +1,14 @@
-ghost use Rattle.std.specs.Prelude.{◌≡◌, ◌<◌, ◌≤◌, ◌*◌, [], ◌∷◌, not, length, IfOk, OnOk};
+ghost use Rattle.std.specs.Prelude.{◌≡◌, ◌≤◌, [], ◌∷◌, not, length, IfOk};
 ghost use Rattle.alw_num.specs.Weights.{digit};
 ghost use Rattle.alw_msg.specs.Statuses.{is_halted, has_trapped};
 ghost use Rattle.alw_tally.specs.Remaining.{remains_of};
-ghost use Rattle.alw_mesh.specs.Joins.{LinksHaveMessages, links_put, states_of};
+ghost use Rattle.alw_mesh.specs.Joins.{states_of};
 
-use alw_links::Links;
-use alw_msg::{MsgList, Status};
+use alw_msg::Status;
 use alw_node::{Node, Nodes};
-use alw_num::{MOST_NODES, NoMemory, NodeNo, Sequence};
+use alw_num::{MOST_NODES, NoMemory};
 use alw_tally::Remains;
 use std::alloc::Global;
-
-/// The messages on all links, those of (from, to) at the place from * nodes + to, each link's head first.
-pub type LinkLists = Sequence<MsgList>;
-
-/// The links of so many nodes, with these messages.
-pub fn links_of(alloc: Global, nodes: u32, lists: &LinkLists) -> Result<Links, NoMemory>
-    requires nodes { nodes ≤ MOST_NODES }
-    requires lists { length lists.now ≡ nodes * nodes }
-    ensures { IfOk result (λ links. LinksHaveMessages nodes lists.now links) }
-{
-    let mut links = Links::start(alloc, nodes)?;
-    for place in 0..lists.len() {
-        let from = NodeNo((place / nodes) as u16);
-        let to = NodeNo((place % nodes) as u16);
-        put(&mut links, from, to, lists.at_ref(place))?;
-    }
-    Ok(links)
-}
-
-// Messages go to the end of a link, in order.
-fn put(links: &mut Links, from: NodeNo, to: NodeNo, list: &MsgList) -> Result<(), NoMemory>
-    requires from { from.0 < links.old.nodes }
-    requires to { to.0 < links.old.nodes }
-    ensures nodes { links.new.nodes ≡ links.old.nodes }
-    ensures links { OnOk result (links.new.links ≡ links_put links.old.nodes links.old.links from.0 to.0 list.now) }
-{
-    links.reserve(list.len())?;
-    for msg in list.members() {
-        links.send(from, to, *msg);
-    }
-    Ok(())
-}
 
 /// The nodes of a list, in their order.
 pub fn nodes_of(alloc: Global, nodes: Nodes) -> Result<Vec<Node>, NoMemory>

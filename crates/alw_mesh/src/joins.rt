@@ -1,52 +1,61 @@
 ghost use Rattle.std.specs.Prelude.{◌≡◌, ◌≤◌, IfOk};
 ghost use Rattle.alw_model.specs.Machine.{IsLegal, state};
-ghost use Rattle.alw_model.specs.Runs.{moments, turns_of, prints_of};
-ghost use Rattle.alw_model.specs.Counts.{counts_of};
+ghost use Rattle.alw_model.specs.Runs.{moments};
 ghost use Rattle.alw_model.specs.Ends as ends;
 ghost use Rattle.alw_mesh.specs.Histories.{begun, stamps_of, joined_of};
-ghost use Rattle.alw_mesh.specs.Keeping.{machine_of, AreNodes};
-ghost use Rattle.alw_mesh.specs.Joins.{PartsAreJoined};
+ghost use Rattle.alw_mesh.specs.Joins.{AreOfJournal, PartsAreJoined};
 
 use crate::errors::{FitErr, MOST_STEPS};
-use crate::joining::LinkLists;
 use crate::machines::{Machine, blank};
 use crate::meshes::Mesh;
+use crate::walks::tell_all;
+use crate::watches::Watch;
 use alw_image::{Image, Params};
+use alw_links::Links;
 use alw_model::{Counts, TrapAt};
-use alw_msg::{Journal, Prints, Turns};
+use alw_msg::{Entry, Journal, Prints, Turns};
 use alw_node::Nodes;
 use alw_num::NoMemory;
 use alw_tally::Tally;
 use std::alloc::Global;
 
+/// What a machine is joined from: the journal that it took, its nodes by number, its links with what is on
+/// the way, and the turns, prints and counts of the journal.
+#[derive(Drop)]
+pub struct JoinedParts {
+    pub journal: Journal,
+    pub nodes: Nodes,
+    pub links: Links,
+    pub turns: Turns,
+    pub prints: Prints,
+    pub counts: Counts,
+}
+
 impl Machine {
-    /// The machine whose journal this is: its nodes are by number, its links have what is on the way, and
-    /// turns, prints and counts are those of the journal. It has taken no step yet. Nothing is stepped
-    /// again, but where a context has trapped: then the entries up to the first trapping turn are, to find
-    /// it. What was moved in is given up where memory is refused.
+    /// The machine that has these parts. It has taken no step yet. Nothing is stepped again, but where a
+    /// context has trapped: then the entries are, to find the first trapping turn. What was moved in is given
+    /// up where memory is refused.
     pub fn joined(
         alloc: Global,
         image: &Image,
         params: &Params,
-        journal: Journal,
-        nodes: Nodes,
-        links: LinkLists,
-        turns: Turns,
-        prints: Prints,
-        counts: Counts,
+        parts: JoinedParts,
     ) -> Result<Machine, NoMemory>
         requires fits { stamps_of image.now params.now ≤ MOST_STEPS }
-        requires legal { IsLegal image.now params.now journal }
-        requires nodes { AreNodes image.now params.now nodes }
-        requires state { machine_of nodes links ≡ state image.now params.now journal }
-        requires turns { turns ≡ turns_of image.now params.now journal }
-        requires prints { prints ≡ prints_of image.now params.now journal }
-        requires counts { counts ≡ counts_of image.now (moments image.now params.now journal) }
-        ensures { IfOk result (λ machine. machine ≡ joined_of image.now params.now journal) }
+        requires parts { AreOfJournal image.now params.now parts }
+        ensures { IfOk result (λ machine. machine ≡ joined_of image.now params.now parts.journal) }
     {
         let _exists = image.nodes(); // for its clause
         let _allowed = params.limit(); // for its clause
-        let mesh = Mesh::joined(alloc, image, params, nodes, &links)?;
+        let JoinedParts {
+            journal,
+            nodes,
+            links,
+            turns,
+            prints,
+            counts,
+        } = parts;
+        let mesh = Mesh::joined(alloc, image, params, nodes, links)?;
         let trap = trap_of(alloc, image, params, &journal, &mesh)?;
         let tally = Tally::of(turns, prints, counts, trap);
         Machine::of(alloc, mesh, journal, tally)
@@ -111,28 +120,29 @@ fn first_trap(
     ensures { IfOk result (λ trap. trap ≡ ends.first_trap 0 (moments image.now params.now journal.now)) }
 {
     let mut machine = begin(alloc, image, params)?;
-    trap_along(&mut machine, journal)
+    let mut first = FirstTrap { trap: None };
+    tell_all(&mut machine, journal, &mut first)?;
+    Ok(first.trap)
 }
 
-// The first trapping turn of a machine that hasn't begun and takes the events of its journal, up to that
-// turn.
-fn trap_along(machine: &mut Machine, journal: &Journal) -> Result<Option<TrapAt>, NoMemory>
-    requires begun { machine.old ≡ begun machine.old.image machine.old.parameters }
-    requires legal { IsLegal machine.old.image machine.old.parameters journal.now }
-    ensures { IfOk result (λ trap. trap ≡ ends.first_trap 0 (moments machine.old.image machine.old.parameters journal.now)) }
-{
-    for entry in journal.members() {
+// The first trapping turn of a run.
+#[derive(Drop)]
+struct FirstTrap {
+    trap: Option<TrapAt>,
+}
+
+impl Watch for FirstTrap {
+    ghost told = { λ start h now. now.trap ≡ ends.first_trap 0 (moments h.image h.parameters h.journal) };
+
+    fn event(&mut self, machine: &mut Machine, entry: Entry) -> Result<(), NoMemory> {
         machine.take(entry.event)?;
-        let trap = machine.trap();
-        if trap.is_some() {
-            return Ok(trap);
-        }
+        self.trap = machine.trap();
+        Ok(())
     }
-    Ok(None)
 }
 
-// A machine at the start of an image that fits.
-fn begin(alloc: Global, image: &Image, params: &Params) -> Result<Machine, NoMemory>
+/// A machine at the start of an image that fits.
+pub(crate) fn begin(alloc: Global, image: &Image, params: &Params) -> Result<Machine, NoMemory>
     requires { stamps_of image.now params.now ≤ MOST_STEPS }
     ensures { IfOk result (λ machine. machine ≡ begun image.now params.now) }
 {

@@ -1,27 +1,19 @@
 ghost use Rattle.std.specs.Prelude.{◌≡◌, ◌≤◌, ◌&&◌, [], not, length, IfOk, IsTrue};
-ghost use Rattle.alw_mesh.specs.Histories.{Starts, Takes, Steps, may_be_next, entry_of, ArePartsOf};
-ghost use Rattle.alw_mesh.specs.Ends.{Passes};
+ghost use Rattle.alw_mesh.specs.Histories.{Starts, Steps, may_be_next, entry_of, ArePartsOf};
+ghost use Rattle.alw_mesh.specs.Moments.{Takes};
 
 use crate::errors::{FitErr, StepErr, fit};
 use crate::meshes::Mesh;
 use crate::parts::MachineParts;
+use crate::stepping::Happening;
 use alw_image::{Image, Params};
 use alw_model::Did;
 use alw_msg::{Entry, Event, Journal, Sends};
 use alw_num::{MOST_NODES, NoMemory};
 use alw_ready::{Happened as Changes, Ready, is_wide};
-use alw_tally::Tally;
+use alw_tally::{Moment, Tally};
 use std::alloc::Global;
 use std::marker::Model;
-
-/// What `Machine::pass` answers of an event.
-#[derive(Clone, Copy, PartialEq, Eq)]
-pub struct Passed {
-    /// What it did.
-    pub did: Did,
-    /// Whether it is known to have been a quiet turn within the limit. Where it is false nothing is known.
-    pub quiet: bool,
-}
 
 /// A machine: the nodes of an image with the links between them, and the journal of the events that
 /// happened. Contracts see the image, the parameters and the journal, which say all else, and how many
@@ -91,59 +83,53 @@ impl Machine {
         if !self.may(event) {
             return Err(StepErr::NotEnabled);
         }
-        Ok(self.take(event)?)
+        let moment = self.take(event)?;
+        Ok(moment.did)
     }
 
-    /// An event that may be next happens; or nothing does, where memory is refused.
+    /// An event that may be next happens; or nothing does, where memory is refused. It answers the moment of
+    /// the run that the event is, but for the node before it, and besides whether it is known to have been a
+    /// quiet turn, behind which the end that holds is the one before it, or none as before.
     #[inline(always)]
-    pub fn take(&mut self, event: Event) -> Result<Did, NoMemory>
+    pub fn take(&mut self, event: Event) -> Result<Moment, NoMemory>
         requires { IsTrue (may_be_next self.old event) }
         ensures { Takes self.old event self.new result }
-    {
-        let passed = self.pass(event)?;
-        Ok(passed.did)
-    }
-
-    /// An event that may be next happens, as by `take`. It answers besides whether it is known to have been
-    /// a quiet turn, behind which the end that holds is the one before it, or none as before.
-    #[inline(always)]
-    pub fn pass(&mut self, event: Event) -> Result<Passed, NoMemory>
-        requires { IsTrue (may_be_next self.old event) }
-        ensures { Passes self.old event self.new result }
     {
         let stamp = self.mesh.stamp(event);
         self.tally.reserve()?;
         self.mesh.reserve()?;
-        self.journal.push(Entry { stamp, event })?;
+        let entry = Entry { stamp, event };
+        self.journal.push(entry)?;
         let had_halted = self.mesh.has_halted();
-        let happening = self.mesh.happen(event, &mut self.sent);
-        let told = happening.told;
+        let happening = self.mesh.happen(entry, &mut self.sent);
+        let Happening {
+            moment,
+            used,
+            pc,
+            ..
+        } = happening;
         // A quiet turn has a compiled way of its own, to its end.
-        if happening.quiet {
-            self.tally.add(self.mesh.image(), &told, &self.sent);
+        if happening.moment.quiet {
+            self.tally
+                .add(self.mesh.image(), &moment, used, pc, &self.sent);
             if stamp < self.mesh.params().limit() {
-                return Ok(Passed {
-                    did: told.did,
-                    quiet: true,
-                });
+                return Ok(moment);
             }
             self.ready.renew_all(&self.mesh);
-            return Ok(Passed {
-                did: told.did,
+            return Ok(Moment {
                 quiet: false,
+                ..moment
             });
         }
-        self.tally.add(self.mesh.image(), &told, &self.sent);
+        self.tally
+            .add(self.mesh.image(), &moment, used, pc, &self.sent);
         let changes = Changes {
             event,
-            wide: is_wide(told.did, told.taken, happening.changes_holds),
+            wide: is_wide(moment.did, moment.taken, happening.changes_holds),
             halted: flips(had_halted, self.mesh.has_halted()),
         };
         self.ready.renew(&self.mesh, &changes, &self.sent);
-        Ok(Passed {
-            did: told.did,
-            quiet: false,
-        })
+        Ok(moment)
     }
 
     /// The image, the parameters and the journal, with its turns and its prints.

@@ -14,17 +14,17 @@ ghost use Rattle.alw_mesh.specs.Grids.{grid_start, IsNodeAt, IsSlotOf, Happens};
 ghost use Rattle.alw_mesh.specs.Keeping.{machine_of, AreNodes};
 ghost use Rattle.alw_mesh.specs.Joins.{IsGridOf};
 
-use crate::joining::{LinkLists, links_of, nodes_of, remains_at};
+use crate::joining::{nodes_of, remains_at};
 use crate::stepping::{
     Happening, act, drop_head, head, is_in_time, nodes_start, quiet_slot, quiet_turn, trap_pc,
     uses_hold,
 };
 use alw_image::{Image, Params};
 use alw_links::{Link, Links};
-use alw_msg::{Event, Msg, Sends};
+use alw_msg::{Entry, Event, Msg, Sends};
 use alw_node::{HomeView, Node, Nodes, Program};
 use alw_num::{LineNo, MOST_LINES, NoMemory, NodeNo, NodeSet, home_of};
-use alw_tally::{Happened, Remains};
+use alw_tally::{Moment, Remains};
 use std::alloc::Global;
 use std::marker::Model;
 use std::sync::Arc;
@@ -67,26 +67,27 @@ impl Mesh {
         })
     }
 
-    /// The nodes of a machine that has run, with what is on its links, and without room for a message.
+    /// The nodes of a machine that has run, with its links and what is on them.
     pub fn joined(
         alloc: Global,
         image: &Image,
         params: &Params,
         nodes: Nodes,
-        links: &LinkLists,
+        links: Links,
     ) -> Result<Mesh, NoMemory>
         requires nodes { AreNodes image.now params.now nodes }
-        requires aimed { IsAimed image.now (machine_of nodes links.now) }
-        ensures { IfOk result (λ mesh. IsGridOf image.now params.now (machine_of nodes links.now) mesh) }
+        requires counted { links.nodes ≡ node_count image.now }
+        requires aimed { IsAimed image.now (machine_of nodes links.links) }
+        ensures { IfOk result (λ mesh. IsGridOf image.now params.now (machine_of nodes links.links) mesh) }
     {
-        let count = image.nodes();
+        let _allowed = image.nodes(); // for its clause
         let nodes = nodes_of(alloc, nodes)?;
         let remains = remains_at(&nodes);
         Ok(Mesh {
             image: image.copy()?,
             params: *params,
-            links: links_of(alloc, u32::from(count), links)?,
             nodes,
+            links,
             remains,
         })
     }
@@ -230,37 +231,38 @@ impl Mesh {
         self.links.reserve(self.nodes.len() as u32)
     }
 
-    /// An event happens. What it sends is in `sent`, and on its way. Behind a quiet turn, which sends
-    /// nothing, all but its node stays.
+    /// The event of an entry happens. What it sends is in `sent`, and on its way. Behind a quiet turn, which
+    /// sends nothing, all but its node stays.
     #[inline(always)]
-    pub fn happen(&mut self, event: Event, sent: &mut Sends) -> Happening
-        requires enabled { IsTrue (is_enabled self.old.image self.old.parameters self.old.machine event) }
+    pub fn happen(&mut self, entry: Entry, sent: &mut Sends) -> Happening
+        requires enabled { IsTrue (is_enabled self.old.image self.old.parameters self.old.machine entry.event) }
         requires links { node_count self.old.image ≤ self.old.room }
         requires sends { sent.old.room ≡ node_count self.old.image }
         requires few { AreFew (remains_of self.old.machine.nodes) }
-        ensures { Happens self.old self.new event sent.new result }
+        ensures { Happens self.old self.new entry sent.new result }
     {
+        let event = entry.event;
         let number = event.node();
         let place = usize::from(number.0);
         let head = head(&self.links, event);
         let taken = head.copied();
         let acted = act(&mut self.nodes, place, event, head, sent);
         if let Some(slot) = quiet_slot(event, acted.did, acted.changes_holds) {
-            return quiet_turn(number, slot);
+            return quiet_turn(entry, slot);
         }
         drop_head(&mut self.links, event);
         self.links.send_all(number, sent);
         self.remains.follow(event, acted.did);
         Happening {
-            told: Happened {
-                node: number,
-                did: acted.did,
+            moment: Moment {
+                entry,
                 taken,
-                used: uses_hold(acted.did, acted.changes_holds),
-                pc: trap_pc(&self.nodes[place], acted.did),
+                did: acted.did,
+                quiet: false,
             },
+            used: uses_hold(acted.did, acted.changes_holds),
+            pc: trap_pc(&self.nodes[place], acted.did),
             changes_holds: acted.changes_holds,
-            quiet: false,
         }
     }
 

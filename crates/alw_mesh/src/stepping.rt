@@ -14,10 +14,10 @@ ghost use Rattle.alw_mesh.specs.Keeping.{taken_from, after_taking, NodesAreWithi
 use alw_image::{Image, Params};
 use alw_links::Links;
 use alw_model::Did;
-use alw_msg::{Event, Msg, Sends, Status};
+use alw_msg::{Entry, Event, Msg, Sends, Status};
 use alw_node::{Node, Program};
 use alw_num::{NoMemory, NodeNo};
-use alw_tally::Happened;
+use alw_tally::Moment;
 use sparc_table::Outcome;
 use std::alloc::Global;
 use std::sync::Arc;
@@ -141,13 +141,15 @@ fn changes_holds(node: &Node, did: Did, before: u32) -> bool
     !ends_none && node.holds() != before
 }
 
-/// What happened at an event, whether its node has another number of holds than before, and whether it
-/// is known to have been a quiet turn.
+/// What happened at an event: its moment, whether it was a turn that ended a hold, the PC of its slot where
+/// that trapped, and whether its node has another number of holds than before. Its moment is told as quiet
+/// whether the limit is near or not.
 #[derive(Clone, Copy, PartialEq, Eq)]
 pub struct Happening {
-    pub told: Happened,
+    pub moment: Moment,
+    pub used: bool,
+    pub pc: u32,
     pub changes_holds: bool,
-    pub quiet: bool,
 }
 
 /// The slot of a quiet turn, where an event was one: it was Done, and ended no hold. Behind it, before
@@ -168,23 +170,23 @@ pub fn quiet_slot(event: Event, did: Did, changes_holds: bool) -> Option<u8>
     }
 }
 
-/// What happened at a quiet turn of a slot of a node.
+/// What happened at an entry that was a quiet turn of a slot.
 #[inline(always)]
-pub fn quiet_turn(node: NodeNo, slot: u8) -> Happening
-    ensures { result ≡ record { told = record { node = node; did = Turn slot Done; taken = None; used = false; pc = 0 }; changes_holds = false; quiet = true } }
+pub fn quiet_turn(entry: Entry, slot: u8) -> Happening
+    ensures { result ≡ record { moment = record { entry = entry; taken = None; did = Turn slot Done; quiet = true }; used = false; pc = 0; changes_holds = false } }
 {
     Happening {
-        told: Happened {
-            node,
+        moment: Moment {
+            entry,
+            taken: None,
             did: Did::Turn {
                 slot,
                 outcome: Outcome::Done,
             },
-            taken: None,
-            used: false,
-            pc: 0,
+            quiet: true,
         },
+        used: false,
+        pc: 0,
         changes_holds: false,
-        quiet: true,
     }
 }

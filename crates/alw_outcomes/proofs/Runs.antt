@@ -74,7 +74,7 @@ run_or_cut parts place (context ∷ rest) ready = go (traps (outcome_at parts pl
 -- ---- a context that has trapped
 
 -- what the turn of a context leaves of it
-left_at : (parts : Parts) (place : Place) (context : ℕ) → IsReadyAt place context → (context_at (place_turn parts place context).flat context).status ≡ status_after (effect_at parts place context).regs (outcome_at parts place context)
+pub left_at : (parts : Parts) (place : Place) (context : ℕ) → IsReadyAt place context → (context_at (place_turn parts place context).flat context).status ≡ status_after (effect_at parts place context).regs (outcome_at parts place context)
 left_at parts place context ready =
     let effect = effect_at parts place context in
     let x : Context = record { regs = effect.regs; status = status_after effect.regs effect.outcome } in
@@ -97,7 +97,7 @@ trapped_stays parts flat (other ∷ rest) context trapped ready =
     let stays : context_at (flat_turn parts flat other).0 context ≡ context_at flat context = other_stays_at parts (record { flat = flat; printed = [] }) other context differs in
     trapped_stays parts (flat_turn parts flat other).0 rest context (ap (λ (c : Context). has_trapped c.status) stays ∙ trapped) (both _ _ ready).1 ∙ stays
 
-turns_after-append : (parts : Parts) (flat : Flat) (front rest : List ℕ) → turns_after parts flat (front ++ rest) ≡ turns_after parts (turns_after parts flat front) rest
+pub turns_after-append : (parts : Parts) (flat : Flat) (front rest : List ℕ) → turns_after parts flat (front ++ rest) ≡ turns_after parts (turns_after parts flat front) rest
 turns_after-append parts flat [] rest = refl
 turns_after-append parts flat (context ∷ front) rest = turns_after-append parts (flat_turn parts flat context).0 front rest
 
@@ -107,7 +107,7 @@ trap_keeps_by parts memory regs type needs.Nothing e = ((orderly_turn parts.code
 trap_keeps_by parts memory regs type (needs.Trap other) e = ((orderly_turn parts.code regs (line_count parts) zero_line).still (subst OutcomeIsStill (sym e) tt)).0
 trap_keeps_by parts memory regs type (needs.Copy line mode) e = ((orderly_turn parts.code regs (line_count parts) (slice_index_or memory line.0 zero_line)).still (subst OutcomeIsStill (sym e) tt)).0
 
-trap_keeps : (parts : Parts) (memory : List Line) (regs : Regs) (type : ℕ) → (effect_of parts memory regs).outcome ≡ Trap type → (effect_of parts memory regs).regs ≡ regs
+pub trap_keeps : (parts : Parts) (memory : List Line) (regs : Regs) (type : ℕ) → (effect_of parts memory regs).outcome ≡ Trap type → (effect_of parts memory regs).regs ≡ regs
 unfolding effect_of
 trap_keeps parts memory regs type e = trap_keeps_by parts memory regs type _ e
 
@@ -174,7 +174,22 @@ none_printed zero context = refl
 none_printed (suc n) zero = refl
 none_printed (suc n) (suc context) = none_printed n context
 
+-- from the start each context has printed the words that are its own
+pub words_are : (parts : Parts) (turns : List ℕ) (context : ℕ) → context < context_count parts
+    → slice_index_or (places_after parts (place_start parts) turns).printed context [] ≡ words_of context (turns_print parts (flat_start parts) turns)
+words_are parts turns context exists = printed_is parts (place_start parts) turns context (sizes_start parts) exists
+    ∙ ap (λ (l : List ℕ). l ++ words_of context (turns_print parts (flat_start parts) turns)) (none_printed (context_count parts) context)
+
 -- ---- the two ends
+
+-- turns that are ready are a run, or a context has trapped behind them, and that is what runs come to
+pub run_or_traps : (parts : Parts) (turns : List ℕ) → AreReady parts turns → IsRun parts (place_start parts) turns ⊎ TrapsAt parts (flat_after parts turns)
+unfolding flat_after are_ready
+run_or_traps parts turns ready = go (run_or_cut parts (place_start parts) turns ready)
+  where
+    go : IsRun parts (place_start parts) turns ⊎ IsCut parts (place_start parts) turns → IsRun parts (place_start parts) turns ⊎ TrapsAt parts (turns_after parts (flat_start parts) turns)
+    go (inl run) = inl run
+    go (inr cut) = inr (cut_traps parts turns cut)
 
 halted_or_trapped : (status : Status) → is_halted status ≡ true → has_trapped status ≡ true → ⊥
 halted_or_trapped Ready halted trapped = cc
@@ -189,16 +204,16 @@ none_trapped (first ∷ rest) (suc context) halted trapped = none_trapped rest c
 
 pub halts_with : (parts : Parts) (turns : List ℕ) → AreReady parts turns → flat_halted (flat_after parts turns) ≡ true → HaltsWith parts (flat_after parts turns).memory (flat_prints parts turns)
 unfolding flat_after flat_prints are_ready
-halts_with parts turns ready halted = go (run_or_cut parts (place_start parts) turns ready)
+halts_with parts turns ready halted = go (run_or_traps parts turns ready)
   where
-    go : IsRun parts (place_start parts) turns ⊎ IsCut parts (place_start parts) turns → HaltsWith parts (turns_after parts (flat_start parts) turns).memory (turns_print parts (flat_start parts) turns)
-    go (inr cut) = let traps = cut_traps parts turns cut in absurd (none_trapped _ traps.context halted (ap has_trapped traps.left))
+    go : IsRun parts (place_start parts) turns ⊎ TrapsAt parts (turns_after parts (flat_start parts) turns) → HaltsWith parts (turns_after parts (flat_start parts) turns).memory (turns_print parts (flat_start parts) turns)
+    go (inr traps) = absurd (none_trapped _ traps.context halted (ap has_trapped traps.left))
     go (inl run) =
         let flat = flat_is parts (place_start parts) turns in
         record {
           printed = (places_after parts (place_start parts) turns).printed;
           comes = record { turns = turns; run = run; ends = (ap flat_halted flat ∙ halted, refl, ap (λ (f : Flat). f.memory) flat) };
-          words = λ context exists. printed_is parts (place_start parts) turns context (sizes_start parts) exists ∙ ap (λ (l : List ℕ). l ++ words_of context (turns_print parts (flat_start parts) turns)) (none_printed (context_count parts) context);
+          words = words_are parts turns;
         }
 
 -- ---- a run traps nowhere
@@ -234,9 +249,9 @@ start_traps_none parts context = none (range_with_len 0 (context_count parts)) c
 -- where a context has trapped, that is what runs come to
 pub traps_at : (parts : Parts) (turns : List ℕ) (context : ℕ) → AreReady parts turns → has_trapped (context_at (flat_after parts turns) context).status ≡ true → TrapsAt parts (flat_after parts turns)
 unfolding flat_after are_ready
-traps_at parts turns context ready trapped = go (run_or_cut parts (place_start parts) turns ready)
+traps_at parts turns context ready trapped = go (run_or_traps parts turns ready)
   where
-    go : IsRun parts (place_start parts) turns ⊎ IsCut parts (place_start parts) turns → TrapsAt parts (turns_after parts (flat_start parts) turns)
-    go (inr cut) = cut_traps parts turns cut
+    go : IsRun parts (place_start parts) turns ⊎ TrapsAt parts (turns_after parts (flat_start parts) turns) → TrapsAt parts (turns_after parts (flat_start parts) turns)
+    go (inr traps) = traps
     go (inl run) = absurd (false≢true (sym (run_traps_none parts (place_start parts) turns context (start_traps_none parts context) run)
         ∙ ap (λ (f : Flat). has_trapped (context_at f context).status) (flat_is parts (place_start parts) turns) ∙ trapped))

@@ -12,7 +12,7 @@ use Rattle.alw_mesh.specs.Histories.{History, IsRun, begun, state_of, entry_of, 
 use Rattle.alw_replay.specs.Replays.{IsReplayed, may_follow, taken_on}
 
 -- the test says what is next
-passes : (image : Parts) (parameters : Parameters) (s : MachineState) (entry : Entry) → IsNext image parameters s entry → is_next image parameters s entry ≡ true
+pub passes : (image : Parts) (parameters : Parameters) (s : MachineState) (entry : Entry) → IsNext image parameters s entry → is_next image parameters s entry ≡ true
 passes image parameters s entry next = rw (next.enabled, next.within) (grind (arith, nat_tests, next.stamp))
 
 -- the next entry is that of its event

@@ -3,4 +3,4 @@
 
 mod replays;
 
-pub use replays::{Replayed, replay, take};
+pub use replays::{Replayed, replay, take, take_all};

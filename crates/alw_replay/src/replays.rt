@@ -1,8 +1,8 @@
 ghost use Rattle.std.specs.Prelude.{◌≡◌, OnOk, OnErr, IfOk};
-ghost use Rattle.alw_replay.specs.Replays.{Replays, Takes, taken_on};
+ghost use Rattle.alw_replay.specs.Replays.{Replays, Takes, may_follow, taken_on};
 
 use alw_image::{Image, Params};
-use alw_mesh::{FitErr, Machine, StepErr};
+use alw_mesh::{FitErr, Machine, Watch};
 use alw_msg::{Entry, Journal};
 use alw_num::NoMemory;
 use std::alloc::Global;
@@ -25,19 +25,26 @@ pub fn replay(
     ensures { Replays image.now params.now entries.now result }
 {
     let mut machine = Machine::start(alloc, image, params)?;
-    take_all(&mut machine, entries.members())?;
+    take_all(&mut machine, entries.members(), &mut Nobody)?;
     let kept = machine.journal().len();
     Ok(Replayed { machine, kept })
 }
 
-// Takes entries one by one, up to the first that isn't the next.
-fn take_all(machine: &mut Machine, entries: &[Entry]) -> Result<(), NoMemory>
-    ensures { OnOk result (machine.new ≡ taken_on machine.old entries.now) }
+/// The events of entries happen on a machine, up to the first entry that isn't the next, and are told.
+pub fn take_all<W: Watch>(
+    machine: &mut Machine,
+    entries: &[Entry],
+    watch: &mut W,
+) -> Result<(), NoMemory>
+    requires { W.told watch.old machine.old watch.old }
+    ensures taken { OnOk result (machine.new ≡ taken_on machine.old entries.now) }
+    ensures told { OnOk result (W.told watch.old machine.new watch.new) }
 {
     for entry in entries {
-        if !take(machine, *entry)? {
+        if !is_next(machine, *entry) {
             return Ok(());
         }
+        watch.event(machine, *entry)?;
     }
     Ok(())
 }
@@ -47,12 +54,29 @@ pub fn take(machine: &mut Machine, entry: Entry) -> Result<bool, NoMemory>
     ensures taken { IfOk result (λ taken. Takes machine.old entry machine.new taken) }
     ensures err { OnErr result (machine.new ≡ machine.old) }
 {
-    if !machine.may(entry.event) || machine.stamp(entry.event) != entry.stamp {
+    if !is_next(machine, entry) {
         return Ok(false);
     }
-    match machine.step(entry.event) {
-        Ok(_) => Ok(true),
-        Err(StepErr::NoMemory) => Err(NoMemory),
-        Err(StepErr::NotEnabled) => unreachable!(),
+    machine.take(entry.event)?;
+    Ok(true)
+}
+
+// An entry is the next one of a machine.
+fn is_next(machine: &Machine, entry: Entry) -> bool
+    ensures { result ≡ may_follow machine.now entry }
+{
+    machine.may(entry.event) && machine.stamp(entry.event) == entry.stamp
+}
+
+// A watcher that is told nothing.
+#[derive(Drop)]
+struct Nobody;
+
+impl Watch for Nobody {
+    ghost told = { λ _ _ _. Unit {0} };
+
+    fn event(&mut self, machine: &mut Machine, entry: Entry) -> Result<(), NoMemory> {
+        machine.take(entry.event)?;
+        Ok(())
     }
 }

@@ -1,14 +1,14 @@
 ghost use Rattle.std.specs.Prelude.{◌≡◌, ◌<◌, IfOk, OnOk};
 ghost use Rattle.law_lines.specs.Links.{GoBelow};
-ghost use Rattle.alw_replay.specs.Replays.{Replays, Takes, taken_on};
+ghost use Rattle.alw_replay.specs.Replays.{Replays};
 ghost use Rattle.mesh_route.specs.Meshes.{count_of};
 ghost use Rattle.alw_route.specs.Loading.{MessagesAreLoaded, replayed_in, after_sends, RouteIsUnderWay};
 
 use alw_image::{Image, Params};
-use alw_mesh::{FitErr, Machine};
+use alw_mesh::{FitErr, Machine, Watch};
 use alw_msg::{Entry, Journal, Sends};
 use alw_num::{NoMemory, NodeNo};
-use alw_replay::take;
+use alw_replay::take_all;
 use mesh_route::Hops;
 use std::alloc::Global;
 
@@ -34,42 +34,31 @@ pub fn carry(
     ensures loaded { IfOk result (λ carried. MessagesAreLoaded carried.machine carried.hops) }
 {
     let mut machine = Machine::start(alloc, image, params)?;
-    let mut hops = Hops::start(alloc, image.width(), image.height())?;
-    carry_all(&mut machine, &mut hops, entries.members())?;
+    let hops = Hops::start(alloc, image.width(), image.height())?;
+    let mut routers = Routers { hops };
+    take_all(&mut machine, entries.members(), &mut routers)?;
     let kept = machine.journal().len();
     Ok(Carried {
         machine,
         kept,
-        hops,
+        hops: routers.hops,
     })
 }
 
-// Takes entries one by one, up to the first that isn't the next, and gives the routers what each sends.
-fn carry_all(machine: &mut Machine, hops: &mut Hops, entries: &[Entry]) -> Result<(), NoMemory>
-    requires { RouteIsUnderWay machine.old hops.old }
-    ensures taken { OnOk result (machine.new ≡ taken_on machine.old entries.now) }
-    ensures under_way { OnOk result (RouteIsUnderWay machine.new hops.new) }
-{
-    for entry in entries {
-        if !carry_one(machine, hops, *entry)? {
-            return Ok(());
-        }
-    }
-    Ok(())
+// The routers of a mesh, to which what each event sends is given.
+#[derive(Drop)]
+struct Routers {
+    hops: Hops,
 }
 
-// Takes an entry where it is the next one, and gives the routers what it sends.
-fn carry_one(machine: &mut Machine, hops: &mut Hops, entry: Entry) -> Result<bool, NoMemory>
-    requires { RouteIsUnderWay machine.old hops.old }
-    ensures taken { IfOk result (λ taken. Takes machine.old entry machine.new taken) }
-    ensures under_way { OnOk result (RouteIsUnderWay machine.new hops.new) }
-{
-    let taken = take(machine, entry)?;
-    if !taken {
-        return Ok(false);
+impl Watch for Routers {
+    ghost told = { λ start h now. RouteIsUnderWay h now.hops };
+
+    fn event(&mut self, machine: &mut Machine, entry: Entry) -> Result<(), NoMemory> {
+        machine.take(entry.event)?;
+        inject_all(&mut self.hops, entry.event.node(), machine.last_sent())?;
+        Ok(())
     }
-    inject_all(hops, entry.event.node(), machine.last_sent())?;
-    Ok(true)
 }
 
 // Gives the router of a node what the node sends, in order.

@@ -1,5 +1,5 @@
 -- The run of a seed evicts in time: only at nodes with a context that hasn't halted. So it is bounded.
-use Rattle.std.proofs.Common.{◌≡◌, ℕ, zero, suc, ◌+◌, ◌*◌, ◌≤◌, Bool, true, false, cond, not, ◌&&◌, nat_lt, nat_le, ◌||◌, Some, List, [], ◌∷◌, ◌++◌, slice_get, slice_index_or, length, ◌%◌, refl, sym, ap, subst, ◌∙◌, IsTrue}
+use Rattle.std.proofs.Common.{◌≡◌, ℕ, zero, suc, ◌+◌, ◌*◌, ◌≤◌, Bool, true, false, cond, not, ◌&&◌, Some, List, [], ◌∷◌, ◌++◌, slice_get, slice_index_or, length, ◌%◌, refl, subst, IsTrue}
 use Rattle.std.specs.List.{list_all}
 use Rattle.alw_msg.specs.declared.events.Event.{Event}
 use Rattle.alw_msg.specs.declared.events.Entry.{Entry}
@@ -9,10 +9,9 @@ use Rattle.alw_image.specs.Images.{IsImage, node_count}
 use Rattle.alw_image.specs.Parameters.{Parameters, AreParameters}
 use Rattle.alw_model.specs.Contexts.{all_halted}
 use Rattle.alw_model.specs.NodeStates.{NodeState}
-use Rattle.alw_model.specs.Machine.{MachineState, machine_start, no_node, has_halted, is_enabled, is_within_limit, step, after, state, IsNext, IsLegal}
+use Rattle.alw_model.specs.Machine.{MachineState, machine_start, no_node, has_halted, step, after, state, IsNext, IsLegal}
 use Rattle.alw_model.proofs.Journals.{and_parts, legal_push}
 use Rattle.alw_mesh.specs.Histories.{History, begun, grown, entry_of, state_of, may_be_next}
-use Rattle.alw_mesh.specs.Readings.{node_in}
 use Rattle.alw_mesh.specs.Ends.{next_events}
 use Rattle.law_machine.specs.Endings.{AtEach, EvictsInTime}
 use Rattle.law_machine.proofs.RunFacts.{always_in_time}

@@ -2,7 +2,6 @@
 use Rattle.std.proofs.Common.{◌≡◌, ℕ, ◌+◌, ◌-◌, List, [], ◌∷◌, ◌++◌, length, sym, ap, subst, ◌∙◌, arith, length-append}
 use Rattle.alw_num.specs.Draws.{drawn, drawn_times}
 use Rattle.alw_msg.specs.declared.events.Event.{Event}
-use Rattle.alw_msg.specs.declared.events.Entry.{Entry}
 use Rattle.alw_mesh.specs.Histories.{History, grown, entry_of}
 use Rattle.alw_sched.specs.Schedules.{EventsAreDrawn, MachineIsSeeded}
 

@@ -1,8 +1,8 @@
 -- What a drawn number picks while no end holds.
-use Rattle.std.proofs.Common.{◌≡◌, ℕ, zero, suc, ◌+◌, ◌<◌, ◌≤◌, Bool, true, false, cond, not, ◌&&◌, nat_lt, Option, None, Some, List, [], ◌∷◌, filter, slice_get, length, refl, sym, ap, subst, ◌∙◌, ◌%◌, arith}
+use Rattle.std.proofs.Common.{◌≡◌, ℕ, zero, suc, ◌≤◌, Bool, true, false, cond, ◌&&◌, None, Some, List, [], ◌∷◌, filter, slice_get, length, refl, subst, ◌%◌, arith}
 use Rattle.std.specs.List.{list_any}
 use Rattle.alw_msg.specs.declared.events.Event.{Event}
-use Rattle.alw_model.specs.Machine.{MachineState, End, Trapped, Halted, Limit, any_trapped, has_halted, is_settled, goes_on, main_events}
+use Rattle.alw_model.specs.Machine.{MachineState, Trapped, Halted, Limit, any_trapped, has_halted, is_settled, goes_on, main_events}
 use Rattle.alw_mesh.specs.Histories.{History, state_of, may_be_next}
 use Rattle.alw_mesh.specs.Ends.{next_events}
 use Rattle.alw_sched.specs.Schedules.{end_in, picked, is_evicted, asked_eviction}

@@ -1,5 +1,5 @@
 -- The run of a seed: one event more, one run for a seed, and no end before its last entry.
-use Rattle.std.proofs.Common.{◌≡◌, ℕ, zero, suc, Bool, true, false, cond, Option, None, Some, List, [], ◌∷◌, ◌++◌, map, flat_map, filter, slice_get, length, ◌%◌, nat_lt, ◌&&◌, not, ap, sym, subst, refl, ◌∙◌, append_assoc, arith}
+use Rattle.std.proofs.Common.{◌≡◌, ℕ, zero, suc, Bool, true, false, cond, None, Some, List, [], ◌∷◌, ◌++◌, map, flat_map, filter, slice_get, length, ◌%◌, nat_lt, ◌&&◌, not, ap, sym, subst, refl, ◌∙◌, append_assoc, arith}
 use Rattle.std.specs.List.{AllByRecursion, range_with_len}
 use Rattle.std.proofs.lemmas.List.{append-nil}
 use Rattle.alw_msg.specs.declared.events.Event.{Event}

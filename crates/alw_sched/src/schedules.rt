@@ -34,9 +34,9 @@ fn take(machine: &mut Machine, event: Event) -> Result<bool, NoMemory>
     ensures err { OnErr result (machine.new ≡ machine.old) }
 {
     match event {
-        Event::Instr { node } => Ok(machine.pass(Event::Instr { node })?.quiet),
-        Event::Deliver { from, to } => Ok(machine.pass(Event::Deliver { from, to })?.quiet),
-        other => Ok(machine.pass(other)?.quiet),
+        Event::Instr { node } => Ok(machine.take(Event::Instr { node })?.quiet),
+        Event::Deliver { from, to } => Ok(machine.take(Event::Deliver { from, to })?.quiet),
+        other => Ok(machine.take(other)?.quiet),
     }
 }
 

@@ -9,18 +9,19 @@ use Rattle.alw_msg.specs.declared.messages.Kind.TheVariants as kinds
 use Rattle.alw_msg.specs.declared.messages.Msg.{Msg}
 use Rattle.alw_msg.specs.Kinds.{kind_number}
 use Rattle.alw_msg.specs.Contents.{content}
+use Rattle.alw_msg.specs.Events.{node_of}
 use Rattle.alw_image.specs.declared.parts.Parts.{Parts}
 use Rattle.alw_model.specs.declared.ends.TrapAt.{TrapAt}
 use Rattle.alw_model.specs.declared.steps.Counts.{Counts}
 use Rattle.alw_model.specs.declared.steps.Did.{Did}
 use Rattle.alw_model.specs.declared.steps.Did.TheVariants.{Turn, Missed, Took, Packet, Handled, Evicted}
 use Rattle.alw_model.specs.Counts.{is_turn, is_miss, is_eviction, is_handling, is_spill, is_data, hops_between}
-use Rattle.alw_tally.specs.declared.happenings.Happened.{Happened}
+use Rattle.alw_tally.specs.declared.moments.Moment.{Moment}
 
--- the trapping turn that an event was, if it was one, given the event's place in the journal
-abbrev pub trap_by : ℕ → Happened → Did → Option TrapAt
-trap_by entry happened (Turn slot (Trap tt)) = Some (record { entry = entry; node = happened.node.0; slot = slot; pc = happened.pc; tt = tt })
-trap_by entry happened _ = None
+-- the trapping turn that an event of a node was, if it was one, given the event's place in the journal and the PC of the slot that ran
+abbrev pub trap_by : ℕ → ℕ → ℕ → Did → Option TrapAt
+trap_by entry number pc (Turn slot (Trap tt)) = Some (record { entry = entry; node = number; slot = slot; pc = pc; tt = tt })
+trap_by entry number pc _ = None
 
 -- a message, if there is one, brings a line to a cache
 abbrev pub brings_line : Option Msg → Bool
@@ -110,25 +111,25 @@ abbrev pub with_send : Parts → ℕ → ℕ → Kind → Counts → Counts
 with_send parts from to kind c = with_kind (with_hops (hops_between parts from to) c) kind
 
 -- counts with an event more, but for what it sent
-abbrev pub with_event : Happened → Counts → Counts
-with_event happened c = record c {
+abbrev pub with_event : Moment → Bool → Counts → Counts
+with_event moment used c = record c {
   entries = c.entries + 1;
-  turns = c.turns + digit (is_turn happened.did);
-  misses = c.misses + digit (is_miss happened.did);
-  evicts = c.evicts + digit (is_eviction happened.did);
-  handlers = c.handlers + digit (is_handling happened.did);
-  spills = c.spills + digit (is_spill happened.did);
-  replies = c.replies + digit (brings_line happened.taken);
-  used = c.used + digit happened.used;
+  turns = c.turns + digit (is_turn moment.did);
+  misses = c.misses + digit (is_miss moment.did);
+  evicts = c.evicts + digit (is_eviction moment.did);
+  handlers = c.handlers + digit (is_handling moment.did);
+  spills = c.spills + digit (is_spill moment.did);
+  replies = c.replies + digit (brings_line moment.taken);
+  used = c.used + digit used;
 }
 
 -- the counts of an event, by what it did and what it sent
-abbrev pub counts_by : Happened → Sent → Counts
-counts_by happened sent = record {
+abbrev pub counts_by : Moment → Bool → Sent → Counts
+counts_by moment used sent = record {
   entries = 1;
-  turns = digit (is_turn happened.did);
-  misses = digit (is_miss happened.did);
-  evicts = digit (is_eviction happened.did);
+  turns = digit (is_turn moment.did);
+  misses = digit (is_miss moment.did);
+  evicts = digit (is_eviction moment.did);
   rreq = sent.rreq;
   wreq = sent.wreq;
   repm = sent.repm;
@@ -139,15 +140,15 @@ counts_by happened sent = record {
   inv = sent.inv;
   busy = sent.busy;
   hops = sent.hops;
-  handlers = digit (is_handling happened.did);
-  spills = digit (is_spill happened.did);
-  replies = digit (brings_line happened.taken);
-  used = digit happened.used;
+  handlers = digit (is_handling moment.did);
+  spills = digit (is_spill moment.did);
+  replies = digit (brings_line moment.taken);
+  used = digit used;
 }
 
 -- the counts of one event
-abbrev pub counts_of_event : Parts → Happened → List (ℕ × Msg) → Counts
-counts_of_event parts happened sends = counts_by happened (sent_of parts happened.node.0 sends)
+abbrev pub counts_of_event : Parts → Moment → Bool → List (ℕ × Msg) → Counts
+counts_of_event parts moment used sends = counts_by moment used (sent_of parts (node_of moment.entry.event) sends)
 
 -- no number is above another
 abbrev pub AreFew : ℕ → Sent → Type 0

@@ -1,5 +1,5 @@
 pub mod Told
-pub mod Happenings
+pub mod Moments
 pub mod Counted
 pub mod Tallies
 pub mod Remaining

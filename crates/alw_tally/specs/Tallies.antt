@@ -1,9 +1,10 @@
 -- A tally: what it tells, and room for events to come.
-use Rattle.std.specs.Prelude.{ℕ, ◌+◌, ◌*◌, ◌<◌, ◌≤◌, ◌^◌, List, ◌++◌, length}
+use Rattle.std.specs.Prelude.{ℕ, ◌+◌, ◌*◌, ◌<◌, ◌≤◌, ◌^◌, false, List, ◌++◌, length}
 use Rattle.alw_msg.specs.declared.messages.Msg.{Msg}
+use Rattle.alw_msg.specs.Events.{node_of}
 use Rattle.alw_image.specs.declared.parts.Parts.{Parts}
 use Rattle.alw_model.specs.Runs.{turn_in}
-use Rattle.alw_tally.specs.declared.happenings.Happened.{Happened}
+use Rattle.alw_tally.specs.declared.moments.Moment.{Moment}
 use Rattle.alw_tally.specs.Told.{Told, contexts_of, words_printed, sum_of}
 use Rattle.alw_tally.specs.Counted.{counts_of_event, CountsAreAtMost}
 
@@ -23,10 +24,10 @@ pub record EventIsWithin (told : Told) : Type 0 where
 abbrev pub HasRoom : ℕ → ℕ → ℕ → ℕ → Type 0
 HasRoom entries turns prints room = (entries + room < 2 ^ 32) × (room ≤ turns) × (room ≤ prints)
 
--- what is told with one event more, by what it did, took and sent; where it trapped isn't
-abbrev pub told_logged : Parts → Told → Happened → List (ℕ × Msg) → Told
-told_logged parts told happened sends = record told {
-  turns = told.turns ++ contexts_of (turn_in parts happened.node.0 happened.did);
-  prints = told.prints ++ words_printed (turn_in parts happened.node.0 happened.did);
-  counts = sum_of told.counts (counts_of_event parts happened sends);
+-- what is told with one event more, by what it did, took and sent; where it trapped isn't, and it doesn't count as having ended a hold
+abbrev pub told_logged : Parts → Told → Moment → List (ℕ × Msg) → Told
+told_logged parts told moment sends = record told {
+  turns = told.turns ++ contexts_of (turn_in parts (node_of moment.entry.event) moment.did);
+  prints = told.prints ++ words_printed (turn_in parts (node_of moment.entry.event) moment.did);
+  counts = sum_of told.counts (counts_of_event parts moment false sends);
 }

@@ -1,11 +1,11 @@
-ghost use Rattle.std.specs.Prelude.{◌≡◌, ◌≤◌, ◌<◌, ◌-◌, ◌+◌, ◌^◌, length};
+ghost use Rattle.std.specs.Prelude.{◌≡◌, ◌≤◌, ◌<◌, ◌-◌, ◌+◌, ◌^◌, false, length};
 ghost use Rattle.alw_num.specs.Weights.{digit};
 ghost use Rattle.alw_model.specs.declared.steps.Did.TheVariants.{Handled};
 ghost use Rattle.alw_model.specs.Counts.{hops_between, is_spill};
 ghost use Rattle.alw_tally.specs.Counted.{brings_line, sent_of, with_sent, with_send, with_did, with_event, with_kind, counts_of_event, AreFew, CountsAreAtMost};
 ghost use Rattle.alw_tally.specs.Told.{sum_of};
 
-use crate::happenings::Happened;
+use crate::moments::Moment;
 use alw_image::Image;
 use alw_model::{Counts, Did};
 use alw_msg::{Kind, Msg, Sends};
@@ -13,40 +13,40 @@ use alw_num::{MOST_NODES, NodeNo, State};
 
 /// One event more is counted. Of each number it is at most 2^25.
 #[inline(always)]
-pub fn count_event(counts: &mut Counts, image: &Image, happened: &Happened, sends: &Sends)
+pub fn count_event(counts: &mut Counts, image: &Image, moment: &Moment, used: bool, sends: &Sends)
     requires sends { length sends.now.messages ≤ MOST_NODES }
     requires few { CountsAreAtMost (2 ^ 62) counts.old }
-    ensures counts { counts.new ≡ sum_of counts.old (counts_of_event image.now happened.now sends.now.messages) }
-    ensures few { CountsAreAtMost (2 ^ 25) (counts_of_event image.now happened.now sends.now.messages) }
+    ensures counts { counts.new ≡ sum_of counts.old (counts_of_event image.now moment.now used sends.now.messages) }
+    ensures few { CountsAreAtMost (2 ^ 25) (counts_of_event image.now moment.now used sends.now.messages) }
 {
-    count_act(counts, happened);
-    count_sends(counts, image, happened.node, sends);
+    count_act(counts, moment, used);
+    count_sends(counts, image, moment.entry.event.node(), sends);
 }
 
-/// One event more is counted, whose messages are read off a log.
+/// One event more is counted, whose messages are read off a log. It doesn't count as having ended a hold.
 #[inline(always)]
-pub fn count_logged(counts: &mut Counts, image: &Image, happened: &Happened, sends: &[(u16, Msg)])
+pub fn count_logged(counts: &mut Counts, image: &Image, moment: &Moment, sends: &[(u16, Msg)])
     requires sends { length sends.now ≤ MOST_NODES }
     requires few { CountsAreAtMost (2 ^ 62) counts.old }
-    ensures counts { counts.new ≡ sum_of counts.old (counts_of_event image.now happened.now sends.now) }
-    ensures few { CountsAreAtMost (2 ^ 25) (counts_of_event image.now happened.now sends.now) }
+    ensures counts { counts.new ≡ sum_of counts.old (counts_of_event image.now moment.now false sends.now) }
+    ensures few { CountsAreAtMost (2 ^ 25) (counts_of_event image.now moment.now false sends.now) }
 {
-    count_act(counts, happened);
-    count_messages(counts, image, happened.node, sends);
+    count_act(counts, moment, false);
+    count_messages(counts, image, moment.entry.event.node(), sends);
 }
 
 // An event is counted, but for what it sent.
 #[inline(always)]
-fn count_act(counts: &mut Counts, happened: &Happened)
+fn count_act(counts: &mut Counts, moment: &Moment, used: bool)
     requires { CountsAreAtMost (2 ^ 62) counts.old }
-    ensures { counts.new ≡ with_event happened.now counts.old }
+    ensures { counts.new ≡ with_event moment.now used counts.old }
 {
     counts.entries += 1;
-    count_did(counts, happened.did);
-    if brings_line(&happened.taken) {
+    count_did(counts, moment.did);
+    if brings_line(&moment.taken) {
         counts.replies += 1;
     }
-    if happened.used {
+    if used {
         counts.used += 1;
     }
 }

@@ -2,12 +2,12 @@
 #![tactic(auto)]
 
 mod counting;
-mod happenings;
 mod laws;
+mod moments;
 mod remains;
 mod tallies;
 
-pub use happenings::Happened;
 pub use laws::{remains_by_event, told_event_by_event};
+pub use moments::Moment;
 pub use remains::Remains;
 pub use tallies::Tally;

@@ -1,12 +1,12 @@
 ghost use Rattle.std.specs.Prelude.{◌≡◌, ◌+◌, ◌<◌, ◌≤◌, ◌^◌, ◌++◌, [], length, option_to_list, OnOk};
 ghost use Rattle.alw_image.specs.declared.parts.Parts.{Parts};
-ghost use Rattle.alw_model.specs.Runs.{Moment};
+ghost use Rattle.alw_model.specs.Runs as runs;
 ghost use Rattle.alw_tally.specs.Told.{contexts_of, words_printed, told_of, told_with};
 ghost use Rattle.alw_tally.specs.Tallies.{EventIsWithin, told_logged};
-ghost use Rattle.alw_tally.specs.Happenings.{HappeningIsOf};
+ghost use Rattle.alw_tally.specs.Moments.{MomentIsTold};
 
 use crate::counting::{count_event, count_logged};
-use crate::happenings::{Happened, note_trap, turn_of};
+use crate::moments::{Moment, note_trap, turn_of};
 use alw_image::Image;
 use alw_model::{Counts, TrapAt};
 use alw_msg::{Msg, Prints, Sends, Turns};
@@ -103,32 +103,33 @@ impl Tally {
         Ok(())
     }
 
-    /// One event more of a run of this image, with what the event sent.
+    /// One event more of a run of this image, with what the event sent: whether it was a turn that ended a
+    /// hold, and the PC of the slot that ran, before its turn, which is looked at only where that turn trapped.
     #[inline(always)]
-    pub fn add(&mut self, image: &Image, happened: &Happened, sends: &Sends)
+    pub fn add(&mut self, image: &Image, moment: &Moment, used: bool, pc: u32, sends: &Sends)
         requires room { 1 ≤ self.old.room }
         requires few { length sends.now.messages ≤ MOST_NODES }
-        ensures told { (moment : Moment) → HappeningIsOf happened.now sends.now.messages moment → self.new.told ≡ told_with image.now self.old.told moment }
+        ensures told { (of : runs.Moment) → MomentIsTold moment.now used pc sends.now.messages of → self.new.told ≡ told_with image.now self.old.told of }
         ensures room { self.old.room ≤ self.new.room + 1 }
     {
         self.room -= 1;
-        note_trap(&mut self.trap, self.counts.entries as u32, happened);
-        count_event(&mut self.counts, image, happened, sends);
-        add_turn(&mut self.turns, &mut self.prints, turn_of(image, happened));
+        note_trap(&mut self.trap, self.counts.entries as u32, moment, pc);
+        count_event(&mut self.counts, image, moment, used, sends);
+        add_turn(&mut self.turns, &mut self.prints, turn_of(image, moment));
     }
 
     /// One event more whose messages are read off a log: its turn, its print and its counts. Where it
-    /// trapped isn't told of it.
+    /// trapped, and whether it ended a hold, isn't told of it.
     #[inline(always)]
-    pub fn add_logged(&mut self, image: &Image, happened: &Happened, sends: &[(u16, Msg)])
+    pub fn add_logged(&mut self, image: &Image, moment: &Moment, sends: &[(u16, Msg)])
         requires room { 1 ≤ self.old.room }
         requires few { length sends.now ≤ MOST_NODES }
-        ensures told { self.new.told ≡ told_logged image.now self.old.told happened.now sends.now }
+        ensures told { self.new.told ≡ told_logged image.now self.old.told moment.now sends.now }
         ensures room { self.old.room ≤ self.new.room + 1 }
     {
         self.room -= 1;
-        count_logged(&mut self.counts, image, happened, sends);
-        add_turn(&mut self.turns, &mut self.prints, turn_of(image, happened));
+        count_logged(&mut self.counts, image, moment, sends);
+        add_turn(&mut self.turns, &mut self.prints, turn_of(image, moment));
     }
 
     /// The contexts that took turns, in order.

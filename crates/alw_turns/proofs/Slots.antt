@@ -1,19 +1,18 @@
--- The slot that runs exists, and is read by the number of its context.
-use Rattle.std.proofs.Common.{◌≡◌, ℕ, ◌+◌, ◌*◌, ◌<◌, ◌==◌, nat_lt, IsTrue, Some, refl, subst}
+-- The slot that runs exists, and stays one.
+use Rattle.std.proofs.Common.{◌≡◌, ℕ, ◌<◌, ◌==◌, nat_lt, IsTrue, Some, refl, subst}
 use Rattle.std.proofs.lemmas.Bool.{ltb-true}
-use Rattle.std.proofs.lemmas.Nat.{div-mul-add, mod-mul-add}
 use Rattle.alw_num.specs.declared.addresses.NodeNo.{NodeNo}
 use Rattle.alw_msg.specs.declared.events.Event.{Event}
 use Rattle.alw_msg.specs.declared.events.Event.TheVariants.{Instr}
 use Rattle.alw_image.specs.Images.{node_count}
-use Rattle.alw_model.specs.Contexts.{slot_at, running}
+use Rattle.alw_model.specs.Contexts.{running}
 use Rattle.alw_model.specs.Machine.{is_enabled}
 use Rattle.alw_model.proofs.Journals.{and_parts}
 use Rattle.alw_proc.proofs.Keeping.{runs_within}
 use Rattle.law_machine.proofs.MachineRuns.{always_kept}
 use Rattle.alw_mesh.specs.Histories.{History, IsRun, state_of, may_be_next, grown}
-use Rattle.alw_mesh.specs.Readings.{node_in, slot_of}
-use Rattle.alw_turns.specs.declared.sights.Seen.{Seen}
+use Rattle.alw_mesh.specs.Readings.{node_in}
+use Rattle.alw_turns.specs.declared.sights.TurnBefore.{TurnBefore}
 use Rattle.alw_turns.specs.Sights.{seen_of, IsSeenOf}
 
 -- the node of an instruction that may be next exists
@@ -29,11 +28,7 @@ slot_exists h run n here slot runs =
     let kept = (always_kept h.image run.image h.parameters run.parameters h.journal run.legal).has.contexts n here in
     subst (λ (k : ℕ). slot < k) kept.size (runs_within (node_in h n).slots (node_in h n).current slot runs)
 
--- a slot by the number of its context
-pub slot_is : (h : History) (n slot : ℕ) → slot < h.image.contexts → slot_of h (n * h.image.contexts + slot) ≡ slot_at (node_in h n).slots slot
-slot_is h n slot within = λ i. slot_at (node_in h (div-mul-add n h.image.contexts slot within i)).slots (mod-mul-add n h.image.contexts slot within i)
-
 -- what was read before an event is of a slot of the machine after it
-pub stays_seen : (h after : History) (event : Event) (node : NodeNo) (slot : ℕ) (seen : Seen) → after ≡ grown h event → node.0 < node_count h.image → slot < h.image.contexts
+pub stays_seen : (h after : History) (event : Event) (node : NodeNo) (slot : ℕ) (seen : TurnBefore) → after ≡ grown h event → node.0 < node_count h.image → slot < h.image.contexts
     → seen ≡ seen_of h.image h.parameters node.0 (node_in h node.0) slot → IsSeenOf after seen
 stays_seen h after event node slot seen is here within read = rw (is, read) (record { node = here; slot = within; need = refl })

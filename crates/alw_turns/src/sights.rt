@@ -1,81 +1,51 @@
-ghost use Rattle.std.specs.Prelude.{◌≡◌, ◌<◌, ◌+◌, ◌*◌, IsTrue};
+ghost use Rattle.std.specs.Prelude.{◌≡◌, ◌<◌};
 ghost use Rattle.std.specs.Option.{option_map};
 ghost use Rattle.alw_ctx.specs.Residents.{number_of};
-ghost use Rattle.alw_image.specs.Images.{node_count, line_count, context_count};
+ghost use Rattle.alw_image.specs.Images.{node_count, line_count};
 ghost use Rattle.alw_model.specs.Caches.{set_of};
-ghost use Rattle.alw_model.specs.Contexts.{slot_at};
 ghost use Rattle.alw_mesh.specs.Readings.{node_in};
 ghost use Rattle.alw_effects.specs.Before.{IsLineOf};
 ghost use Rattle.alw_turns.specs.Sights.{seen_of};
 ghost use Rattle.alw_turns.specs.Turns.{is_waited, bytes_in_set, bytes_needed};
 
-use alw_effects::Before;
+use alw_effects::SlotBefore;
 use alw_mesh::Machine;
 use alw_num::{Line, LineNo, NodeNo};
 use sparc_exec::need;
-use sparc_table::{Need, Regs};
+use sparc_table::Need;
 
 /// What is read of a slot of a node before its turn: the line that it has a hold on, whether a transaction is open on
 /// the line that it needs, and what its turn is told from. The bytes of that line are those of the copy in its set.
 #[derive(Clone, Copy)]
-pub struct Seen {
+pub struct TurnBefore {
     pub node: NodeNo,
     pub slot: u8,
     pub hold: Option<u32>,
     pub waits: bool,
-    pub before: Before,
+    pub before: SlotBefore,
 }
 
 /// What is read of a slot now.
-pub fn look(machine: &Machine, node: NodeNo, slot: u8) -> Seen
+pub fn look(machine: &Machine, node: NodeNo, slot: u8) -> TurnBefore
     requires node { node.0 < node_count machine.now.image }
     requires slot { slot < machine.now.image.contexts }
     ensures { result ≡ seen_of machine.now.image machine.now.parameters node.0 (node_in machine.now node.0) slot }
 {
-    let regs = regs_of(machine, node, slot);
+    let seat = machine.slot(node, slot);
+    let regs = seat.regs();
     let image = machine.image();
     let need = need(image.code().words(), &regs, image.lines());
-    Seen {
+    TurnBefore {
         node,
         slot,
-        hold: hold_of(machine, node, slot),
+        hold: number_of(seat.hold()),
         waits: is_waited(machine, node, need),
-        before: Before {
+        before: SlotBefore {
             regs,
             need,
             body: bytes_needed(machine, node, need),
         },
     }
-}
-
-// The number of a slot's context.
-fn context_of(machine: &Machine, node: NodeNo, slot: u8) -> u32
-    requires node { node.0 < node_count machine.now.image }
-    requires slot { slot < machine.now.image.contexts }
-    ensures number { result ≡ node.0 * machine.now.image.contexts + slot }
-    ensures exists { result < context_count machine.now.image }
-{
-    let contexts = u32::from(machine.image().contexts());
-    let first = u32::from(node.0) * contexts;
-    first + u32::from(slot)
-}
-
-/// The registers of a slot.
-pub fn regs_of(machine: &Machine, node: NodeNo, slot: u8) -> Regs
-    requires node { node.0 < node_count machine.now.image }
-    requires slot { slot < machine.now.image.contexts }
-    ensures { result ≡ (slot_at (node_in machine.now node.0).slots slot).regs }
-{
-    machine.regs(context_of(machine, node, slot))
-}
-
-// The line that a slot has a hold on.
-fn hold_of(machine: &Machine, node: NodeNo, slot: u8) -> Option<u32>
-    requires node { node.0 < node_count machine.now.image }
-    requires slot { slot < machine.now.image.contexts }
-    ensures { result ≡ (slot_at (node_in machine.now node.0).slots slot).hold }
-{
-    number_of(machine.held(context_of(machine, node, slot)))
 }
 
 fn number_of(line: Option<LineNo>) -> Option<u32>

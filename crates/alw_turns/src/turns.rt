@@ -9,7 +9,7 @@ ghost use Rattle.alw_turns.specs.Sights.{IsSeenOf, done_by};
 ghost use Rattle.alw_turns.specs.Turns.{missed_text, did_text, slot_did, instr_text};
 
 use crate::pieces::{put_ends, put_misses, put_slot};
-use crate::sights::{Seen, bytes_needed, look, regs_of};
+use crate::sights::{TurnBefore, bytes_needed, look};
 use alw_effects::put_effect;
 use alw_mesh::Machine;
 use alw_model::Did;
@@ -53,14 +53,14 @@ fn put_slot_turn(
         slot,
         &seen.before.regs,
     )?;
-    let did = machine.take(Event::Instr { node })?;
-    put_did(text, machine, &seen, did)?;
+    let moment = machine.take(Event::Instr { node })?;
+    put_did(text, machine, &seen, moment.did)?;
     put_ends(text, seen.hold)?;
     Ok(())
 }
 
 // What a slot did: its turn or its miss.
-fn put_did(text: &mut Text, machine: &Machine, seen: &Seen, did: Did) -> Result<(), NoMemory>
+fn put_did(text: &mut Text, machine: &Machine, seen: &TurnBefore, did: Did) -> Result<(), NoMemory>
     requires { IsSeenOf machine.now seen.now }
     ensures { OnOk result (text.new ≡ text.old ++ did_text did (done_by machine.now.image machine.now.parameters seen.now (node_in machine.now seen.now.node.0)) (missed_text seen.now.before.need seen.now.waits)) }
 {
@@ -75,14 +75,14 @@ fn put_did(text: &mut Text, machine: &Machine, seen: &Seen, did: Did) -> Result<
 fn put_outcome(
     text: &mut Text,
     machine: &Machine,
-    seen: &Seen,
+    seen: &TurnBefore,
     outcome: Outcome,
 ) -> Result<(), NoMemory>
     requires { IsSeenOf machine.now seen.now }
     ensures { OnOk result (text.new ≡ text.old ++ outcome_text outcome (done_by machine.now.image machine.now.parameters seen.now (node_in machine.now seen.now.node.0))) }
 {
     let code = machine.image().code().words();
-    let regs = regs_of(machine, seen.node, seen.slot);
+    let regs = machine.slot(seen.node, seen.slot).regs();
     let body = bytes_needed(machine, seen.node, seen.before.need);
     put_effect(text, code, &seen.before, outcome, &regs, &body)
 }

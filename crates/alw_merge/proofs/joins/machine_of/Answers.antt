@@ -1,19 +1,20 @@
 -- What workers leave is what the merge of their logs leaves and tells.
-use Rattle.alw_merge.proofs.Left.{legal_of, nodes_of, state_of, holds_of_walked, counts_of_walked}
+use Rattle.alw_merge.proofs.Left.{legal_of, nodes_of, counted_of, state_of, turns_of_walked, prints_of_walked, holds_of_walked, counts_of_walked}
 use Rattle.alw_merge.proofs.joins.machine_of.Goals as goal
 
 pub overflow_sub-counts : goal.overflow_sub-counts
 overflow_sub-counts c =
     holds_of_walked c.requires.worked c.parts-allowed.ensures.allowed c.limit-read.ensures.allowed c.holds_of.result c.holds_of.ensures
 
-pub joined-requires-clause-legal : goal.joined-requires-clause-legal
-joined-requires-clause-legal c = legal_of c.requires.worked
-
-pub joined-requires-clause-nodes : goal.joined-requires-clause-nodes
-joined-requires-clause-nodes c = nodes_of c.requires.worked
-
-pub joined-requires-clause-state : goal.joined-requires-clause-state
-joined-requires-clause-state c = state_of c.requires.worked c.in_ok-links.links c.in_ok-links.ensures
-
-pub joined-requires-clause-counts : goal.joined-requires-clause-counts
-joined-requires-clause-counts c = counts_of_walked c.requires.worked c.parts-allowed.ensures.allowed c.limit-read.ensures.allowed c.holds_of.result c.holds_of.ensures
+pub joined-requires-clause-parts : goal.joined-requires-clause-parts
+joined-requires-clause-parts c =
+    let worked = c.requires.worked in
+    record {
+      legal = legal_of worked;
+      nodes_are = nodes_of worked;
+      counted = counted_of worked;
+      state_is = state_of worked;
+      turns_are = turns_of_walked worked;
+      prints_are = prints_of_walked worked;
+      counts_are = counts_of_walked worked c.parts-allowed.ensures.allowed c.limit-read.ensures.allowed c.holds_of.result c.holds_of.ensures;
+    }

@@ -1,5 +1,5 @@
 -- One node more from the end.
-use Rattle.std.proofs.Common.{◌≡◌, ◌+◌, ◌++◌, [], ◌∷◌, List, length, reverse, sym, ap, ◌∙◌, append-nil, append_assoc, length-append, arith}
+use Rattle.std.proofs.Common.{◌++◌, [], ◌∷◌, List, length, reverse, sym, ap, ◌∙◌, append-nil, append_assoc, length-append, arith}
 use Rattle.std.proofs.lemmas.List.{reverse-append}
 use Rattle.alw_node.specs.Nodes.{Whole}
 use Rattle.alw_mesh.proofs.joining.nodes_of.Goals as goal

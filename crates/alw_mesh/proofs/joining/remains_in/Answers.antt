@@ -1,6 +1,5 @@
 -- One slot more.
-use Rattle.std.proofs.Common.{◌≡◌, ◌≤◌, ◌<◌, ◌+◌, [], ◌∷◌, length, refl, sym, ap, ◌∙◌, arith}
-use Rattle.alw_num.specs.Weights.{digit}
+use Rattle.std.proofs.Common.{◌≤◌, ◌<◌, length, refl, ◌∙◌, arith}
 use Rattle.alw_mesh.proofs.Remains.{live_more, trapped_more, live_all, trapped_all, one_remains}
 use Rattle.alw_mesh.proofs.joining.remains_in.Goals as goal
 

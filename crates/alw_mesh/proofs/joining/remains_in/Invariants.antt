@@ -1,4 +1,4 @@
-use Rattle.std.proofs.Common.{◌≡◌, ◌≤◌, take}
+use Rattle.std.proofs.Common.{◌≡◌, ◌≤◌}
 use Rattle.alw_tally.specs.Remaining.{live_in, trapped_in}
 use Rattle.alw_mesh.proofs.Remains.{so_far}
 use Rattle.alw_mesh.proofs.joining.remains_in.Given as goal

@@ -1,5 +1,5 @@
 -- The first packet that brings something.
-use Rattle.std.proofs.Common.{◌≡◌, ◌<◌, [], ◌∷◌, ◌++◌, take, length, option_to_list, refl, sym, ap, ◌∙◌, arith}
+use Rattle.std.proofs.Common.{◌<◌, [], ◌∷◌, ◌++◌, take, length, option_to_list, refl, sym, ap, ◌∙◌, arith}
 use Rattle.std.proofs.lemmas.List.{take_more}
 use Rattle.std.proofs.lemmas.Option.{get_or_from_slice_get}
 use Rattle.alw_mesh.specs.Values.{brought_home, all_brought_home}

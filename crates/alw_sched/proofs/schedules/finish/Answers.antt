@@ -1,5 +1,5 @@
 -- One event more is drawn, and can be taken.
-use Rattle.std.proofs.Common.{rules, ◌≡◌, ◌<◌, ◌-◌, None, List, [], ◌∷◌, ◌++◌, length, Some, sym, ap, ◌∙◌, arith, length-append}
+use Rattle.std.proofs.Common.{rules, ◌≡◌, None, [], ◌∷◌, ◌++◌, length, sym, ap, ◌∙◌, arith, length-append}
 use Rattle.alw_num.specs.Draws.{drawn_number}
 use Rattle.alw_mesh.specs.Histories.{History, entry_of}
 use Rattle.alw_mesh.proofs.Journals.{journal_fits}

@@ -1,5 +1,5 @@
 -- The events so far are drawn from the seed, and behind a quiet turn no end holds; no machine's journal has 2^32 entries.
-use Rattle.std.proofs.Common.{◌≡◌, ℕ, true, None, ◌-◌, List, length}
+use Rattle.std.proofs.Common.{◌≡◌, true, None, ◌-◌, List, length}
 use Rattle.alw_msg.specs.declared.events.Event.{Event}
 use Rattle.alw_sched.specs.Schedules.{end_in, EventsAreDrawn}
 use Rattle.alw_sched.proofs.schedules.finish.Given as goal

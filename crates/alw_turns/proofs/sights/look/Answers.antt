@@ -10,4 +10,4 @@ pub is_waited-requires-clause-line : goal.is_waited-requires-clause-line
 is_waited-requires-clause-line c =
     let lines : c.lines.result ≡ line_count c.args.machine.now.image = c.lines.ensures.count ∙ ap line_count c.image-image.ensures in
     subst (λ (k : ℕ). IsLineOf k c.need-need.result) lines
-    (subst (λ (n : Need). IsLineOf c.lines.result n) (sym c.need-need.ensures) (line_exists c.words.result.now c.regs_of-regs.result c.lines.result))
+    (subst (λ (n : Need). IsLineOf c.lines.result n) (sym c.need-need.ensures) (line_exists c.words.result.now c.regs-regs.result c.lines.result))

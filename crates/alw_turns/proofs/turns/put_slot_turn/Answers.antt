@@ -13,4 +13,4 @@ put_did-requires c =
     let h = c.args.machine.now in
     let here = node_exists h c.args.node c.requires.may in
     let within = slot_exists h c.journal-run.ensures.run c.args.node.0 here c.args.slot c.requires.runs in
-    stays_seen h c.take.new.self (Instr c.args.node) c.args.node c.args.slot c.look-seen.result c.in_ok-did.ensures.0 here within c.look-seen.ensures
+    stays_seen h c.take.new.self (Instr c.args.node) c.args.node c.args.slot c.look-seen.result c.in_ok-moment.ensures.0.after_is here within c.look-seen.ensures

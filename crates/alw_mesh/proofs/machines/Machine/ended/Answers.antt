@@ -1,5 +1,5 @@
 -- Where no context has trapped, not all have halted and an event may be next, no end holds.
-use Rattle.std.proofs.Common.{◌≡◌, false, ◌&&◌, sym, ap, ◌∙◌}
+use Rattle.std.proofs.Common.{◌&&◌, sym, ap, ◌∙◌}
 use Rattle.alw_model.specs.Machine.{is_settled}
 use Rattle.alw_mesh.proofs.Endings.{not_ended}
 use Rattle.alw_mesh.proofs.machines.Machine.ended.Goals as goal

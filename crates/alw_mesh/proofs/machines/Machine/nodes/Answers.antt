@@ -1,5 +1,5 @@
 -- A machine has a node.
-use Rattle.std.proofs.Common.{◌≡◌, ◌≤◌, sym, arith}
+use Rattle.std.proofs.Common.{arith}
 use Rattle.std.proofs.lemmas.Nat.{mul-le}
 use Rattle.alw_mesh.proofs.machines.Machine.nodes.Goals as goal
 

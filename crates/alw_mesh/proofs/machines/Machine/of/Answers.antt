@@ -1,5 +1,5 @@
 -- What a joined machine keeps is of its journal.
-use Rattle.std.proofs.Common.{◌≤◌, ap, ◌∙◌, arith}
+use Rattle.std.proofs.Common.{◌∙◌, arith}
 use Rattle.alw_mesh.proofs.OneNode.{few_nodes}
 use Rattle.alw_mesh.proofs.Journals.{heads_fit_at}
 use Rattle.alw_mesh.proofs.Joined.{machine_joins}

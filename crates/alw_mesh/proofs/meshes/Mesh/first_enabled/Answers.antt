@@ -1,5 +1,5 @@
 -- The first event of the first node that has one.
-use Rattle.std.proofs.Common.{◌≡◌, ◌<◌, sym, ◌∙◌, arith}
+use Rattle.std.proofs.Common.{◌<◌, sym, ◌∙◌, arith}
 use Rattle.alw_image.specs.Images.{node_count}
 use Rattle.alw_model.specs.Machine.{is_enabled}
 use Rattle.alw_mesh.specs.Ends.{node_events}

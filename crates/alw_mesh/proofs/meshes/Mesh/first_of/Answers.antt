@@ -1,5 +1,5 @@
 -- The first delivery that is enabled, where neither an instruction nor the handler is.
-use Rattle.std.proofs.Common.{◌≡◌, ℕ, ◌<◌, sym, ◌∙◌, arith}
+use Rattle.std.proofs.Common.{ℕ, ◌<◌, sym, ◌∙◌, arith}
 use Rattle.alw_msg.specs.declared.events.Event.TheVariants.{Deliver}
 use Rattle.alw_image.specs.Images.{node_count}
 use Rattle.alw_model.specs.Machine.{is_enabled}

@@ -1,5 +1,5 @@
 -- Of a node that doesn't exist no message comes.
-use Rattle.std.proofs.Common.{◌≡◌, sym, ◌∙◌}
+use Rattle.std.proofs.Common.{sym, ◌∙◌}
 use Rattle.std.proofs.lemmas.Bool.{ltb-false}
 use Rattle.alw_image.specs.Images.{node_count}
 use Rattle.alw_mesh.specs.Keeping.{machine_of}

@@ -1,5 +1,5 @@
 -- The nodes and links at the start of the image.
-use Rattle.std.proofs.Common.{◌≡◌, sym, ap, ◌∙◌}
+use Rattle.std.proofs.Common.{ap}
 use Rattle.alw_model.specs.Machine.{MachineState}
 use Rattle.alw_mesh.proofs.Starts.{start_is, grid_starts}
 use Rattle.alw_mesh.proofs.meshes.Mesh.start.Goals as goal
