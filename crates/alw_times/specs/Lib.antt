@@ -1,0 +1,4 @@
+pub mod Happening
+pub mod Laws
+pub mod Times
+pub mod Within
