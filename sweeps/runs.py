@@ -1,4 +1,5 @@
 """The runs of a sweep: the numbers of its options, each run's summary as a row, and the file that rows are kept in."""
+import collections
 import csv
 import errno
 import fcntl
@@ -7,21 +8,27 @@ import itertools
 import math
 import os
 import re
+from concurrent.futures import ThreadPoolExecutor
 from dataclasses import dataclass
 from pathlib import Path
 
+import progress
 from alewife import RAN, SUMMARY_NAMES, ProgramError, called, digest_of, summary_of
 
-MOST = 1_000_000
+MOST, MOST_TOLD = 1_000_000, 10
 OPTIONS = ('seed', 'workers', 'pointers', 'sets', 'limit', 'evict')
 KEY = ('image', *OPTIONS)
 OF_IMAGE = ('name', 'image', 'width', 'height', 'contexts', 'lines')
 COUNTS = SUMMARY_NAMES[SUMMARY_NAMES.index('ended'):]
-COLUMNS = (*OF_IMAGE, *OPTIONS, *COUNTS)
+COLUMNS = (*OF_IMAGE, *OPTIONS, *COUNTS, 'program')
 
 
 class SweepError(Exception):
     """Why there is no sweep, in a line."""
+
+
+class RunError(SweepError):
+    """Why a run has no row, in a line."""
 
 
 # ---- what is run
@@ -75,6 +82,22 @@ def runs_of(lists, part, parts):
         yield {name: str(value) for name, value in zip(order, chosen)}
 
 
+@dataclass(frozen=True)
+class Program:
+    """A program, and the first 16 digits of its SHA-256, by which rows say which one made them."""
+    path: str
+    digest: str
+
+
+def read_program(binary):
+    """The program of a file."""
+    try:
+        path = os.path.abspath(binary)
+    except ProgramError as error:
+        raise SweepError(str(error)) from error
+    return Program(path, digest_of(read(path)))
+
+
 def asked(binary, words, data):
     """What the program writes. Refuses a status that no run has."""
     try:
@@ -82,7 +105,7 @@ def asked(binary, words, data):
     except ProgramError as error:
         raise SweepError(str(error)) from error
     if ran.status not in RAN:
-        raise SweepError(f'refused: {" ".join(words)}: status {ran.status}, {ran.line()}')
+        raise RunError(f'refused: {" ".join(words)}: status {ran.status}, {ran.line()}')
     return ran.out
 
 
@@ -90,7 +113,7 @@ def summary_by_workers(binary, words, image):
     """The summary of a run by workers, whose claim is audited: its trace says which run it was, for another call is another run."""
     trace = asked(binary, [*words, '--write', 'trace'], image.data)
     if asked(binary, ['audit'], asked(binary, ['replay', '--write', 'claim'], trace)) != b'sound\n':
-        raise SweepError(f'{" ".join(words)}: the claim of the run is not sound')
+        raise RunError(f'{" ".join(words)}: the claim of the run is not sound')
     return asked(binary, ['replay', '--write', 'summary'], trace)
 
 
@@ -100,17 +123,39 @@ def words_of(options):
     return ['run', *(word for name in OPTIONS if name != without for word in (f'--{name}', options[name]))]
 
 
-def row_of(binary, image, options):
+def row_of(program, image, options):
     """Runs an image: its row, by the program's summary."""
     words = words_of(options)
     if options['workers'] == '0':
-        text = asked(binary, [*words, '--write', 'summary'], image.data)
+        text = asked(program.path, [*words, '--write', 'summary'], image.data)
     else:
-        text = summary_by_workers(binary, words, image)
+        text = summary_by_workers(program.path, words, image)
     summary = summary_of(text.decode(errors='replace'))
     if not summary:
-        raise SweepError(f'{" ".join(words)}: what the program wrote is no summary')
-    return {'name': image.name, 'image': image.digest, **options, **summary}
+        raise RunError(f'{" ".join(words)}: what the program wrote is no summary')
+    return {'name': image.name, 'image': image.digest, **options, **summary, 'program': program.digest}
+
+
+def row_or_fault(program, image, options):
+    """The row of a run, or why it has none."""
+    try:
+        return row_of(program, image, options)
+    except RunError as fault:
+        return fault
+
+
+def rows_of(program, image, chosen, jobs):
+    """The row of each run, or why it has none, in order. So many run at once, and as many wait for their turn to be written."""
+    waiting = collections.deque()
+    with ThreadPoolExecutor(jobs) as pool:
+        try:
+            for options in chosen:
+                waiting.append(pool.submit(row_or_fault, program, image, options))
+                if len(waiting) == 2 * jobs:
+                    yield waiting.popleft().result()
+            yield from (each.result() for each in waiting)
+        finally:
+            pool.shutdown(cancel_futures=True)
 
 
 # ---- rows in files
@@ -218,8 +263,16 @@ def refuse_device(path):
         raise SweepError(f"can't write {path}: it is there and is no file")
 
 
-def sweep(path, binary, image, runs):
-    """Runs what isn't in the file yet: how many runs that were, and how many there are."""
+def refuse_faults(faults, count, partial):
+    """Refuses a table without some of its rows, and says of the first of them why they are missing."""
+    if faults:
+        told = [str(fault) for fault in faults[:MOST_TOLD]] + ([f'and {len(faults) - MOST_TOLD} more'] if len(faults) > MOST_TOLD else [])
+        kept = f'the others are in {partial}' if len(faults) < count else 'there is no row'
+        raise SweepError('\nsweep: '.join([*told, f'{len(faults)} of {count} runs failed, and {kept}: the same words try again']))
+
+
+def sweep(path, binary, image, runs, jobs=1):
+    """Runs what isn't in the file yet, so many at once: how many runs that were, and how many there are. A run that fails doesn't end the others."""
     refuse_device(path)
     wanted = {(image.digest, *(run[name] for name in OPTIONS)): run for run in runs}
     if Path(path).exists():
@@ -227,10 +280,14 @@ def sweep(path, binary, image, runs):
             raise SweepError(f'{path} is there with fewer runs: name another file, and gather both')
         return 0, len(wanted)
     with Sheet(path) as sheet:
-        done = keys_in(sheet.partial, sheet.text, image, wanted)
-        for key in (key for key in wanted if key not in done):
-            row = row_of(binary, image, wanted[key])
-            sheet.add(row[name] for name in COLUMNS)
+        done, faults = keys_in(sheet.partial, sheet.text, image, wanted), []
+        left = [options for key, options in wanted.items() if key not in done]
+        for row in progress.counted(rows_of(read_program(binary), image, left, jobs), 'rows', len(left)):
+            if isinstance(row, RunError):
+                faults.append(row)
+            else:
+                sheet.add(row[name] for name in COLUMNS)
+        refuse_faults(faults, len(wanted), sheet.partial)
         sheet.finish()
     return len(wanted) - len(done), len(wanted)
 
@@ -238,17 +295,22 @@ def sweep(path, binary, image, runs):
 # ---- parts
 
 
-def write_whole(path, text):
-    """Writes a file whole, or not at all."""
+def write_whole(path, made):
+    """Writes a file whole, or not at all: a text, or bytes."""
     refuse_device(path)
     real = os.path.realpath(path)
     scratch = Path(f'{real}.{os.getpid()}')
     try:
-        scratch.write_text(text)
+        scratch.write_bytes(made.encode() if isinstance(made, str) else made)
         os.replace(scratch, real)
     except OSError as fault:
         scratch.unlink(missing_ok=True)
         raise SweepError(f"can't write {path}: {fault.strerror}") from fault
+
+
+def counts_of(row):
+    """What two rows of a run have to agree on, whichever program made them."""
+    return {name: value for name, value in row.items() if name != 'program'}
 
 
 def gather(parts):
@@ -261,7 +323,7 @@ def gather(parts):
             raise SweepError(f'{path} and {parts[0]} have different headers')
         for number, row in rows:
             place, other = found.setdefault(key_of(row), (f'{path}: line {number}', row))
-            if other != row:
+            if counts_of(other) != counts_of(row):
                 raise SweepError(f'{path}: line {number} and {place} differ on one run')
     order = ('name', *(name for name in KEY if name != 'seed'), 'seed')
     rows = [row for _, row in found.values()]

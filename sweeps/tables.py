@@ -1,4 +1,5 @@
 """What a gathered sweep says: medians, quartiles and ends of a count for each value of a column, as a table."""
+import math
 import statistics
 from dataclasses import dataclass
 
@@ -43,6 +44,18 @@ def place_of(value):
     return (1, int(value), '') if value.isdecimal() else (0, 0, value)
 
 
+def ranked(order):
+    """Where a value stands: those of an order as there, the others behind them."""
+    return lambda value: (order.index(value) if value in order else len(order), place_of(value))
+
+
+def in_order(groups, order):
+    """The groups, those of the named values first."""
+    if missing := [name for name in order if not any(name in key for key in groups)]:
+        raise runs.SweepError(f'there is no {missing[0]} to put in order')
+    return dict(sorted(groups.items(), key=lambda group: [ranked(order)(value) for value in group[0]]))
+
+
 def groups_of(rows, columns):
     """The rows by their values of some columns, in order."""
     groups = {}
@@ -75,24 +88,48 @@ def grouped(rows, by, series=None):
     return groups
 
 
-def spreads(groups, column):
-    """The spread of a count for each value."""
+@dataclass(frozen=True)
+class Per:
+    """What counts are divided by: columns and numbers, multiplied, as nodes*4."""
+    text: str
+
+    def head(self, column):
+        """What a count is called that is divided so."""
+        return f'{column} / ({self.text})' if '*' in self.text else f'{column} / {self.text}'
+
+    def of(self, row):
+        """The divisor of a row."""
+        product = math.prod(int(part) if part.isdecimal() else count_of(row, part) for part in self.text.split('*'))
+        if not product:
+            raise runs.SweepError(f'{self.text} is 0 in a row: nothing can be told for each')
+        return product
+
+
+def count_of(row, column):
+    """A count of a row."""
     try:
-        return [spread_of([int(row[column]) for row in group]) for group in groups.values()]
+        return int(row[column])
     except (KeyError, ValueError) as fault:
         raise runs.SweepError(f'{column} is no column of counts') from fault
 
 
+def spreads(groups, column, per=None):
+    """The spread of a count for each value, or of the count over what it is told for."""
+    return [spread_of([count_of(row, column) / per.of(row) if per else count_of(row, column) for row in group]) for group in groups.values()]
+
+
 def told(number):
-    """A number, rounded to a whole one where it is large, with a comma for each thousand."""
+    """A number, rounded to a whole one where it is large, to a tenth where it isn't, and to three digits below 1, with a comma for each thousand."""
+    if number < 1 and number != round(number, 1):
+        return f'{number:.3g}'
     return f'{number:,.0f}' if number >= 100 or number == int(number) else f'{number:,.1f}'
 
 
-def table(groups, by, series, columns):
+def table(groups, by, series, columns, per=None):
     """A table in Markdown: of each value its runs, those that halted, and of each column the median and quartiles."""
-    heads = [series, by] if series else [by]
-    lines = [[*heads, 'runs', 'halted', *columns], ['---:'] * (len(heads) + 2 + len(columns))]
-    cells = [spreads(groups, column) for column in columns]
+    heads, named = [series, by] if series else [by], [per.head(column) if per else column for column in columns]
+    lines = [[*heads, 'runs', 'halted', *named], ['---:'] * (len(heads) + 2 + len(columns))]
+    cells = [spreads(groups, column, per) for column in columns]
     for at, (values, group) in enumerate(groups.items()):
         halted = sum(row['ended'] == 'halted' for row in group)
         each = [column[at] for column in cells]

@@ -1,18 +1,21 @@
 """What the scripts share: calls of the program, images, the lines of its texts, and findings."""
 import argparse
+import functools
 import hashlib
 import os
 import re
 import struct
 import subprocess
+import sys
 import tempfile
 import time
 from collections import namedtuple
 from dataclasses import dataclass, field
 from pathlib import Path
 
+import progress
+
 ROOT = Path(__file__).resolve().parent.parent
-BUILT = ROOT / 'crates' / 'alw_cli' / 'out' / 'alw_cli'
 RAN = (0, 4, 5)
 
 
@@ -21,6 +24,29 @@ class ProgramError(Exception):
 
 
 # ---- the program
+
+
+class Standing(os.PathLike):
+    """The program that stands, for which the launcher is asked at its first use: the proved one, else one that nothing is proved of, which the
+    launcher says on standard error."""
+
+    @functools.cached_property
+    def path(self):
+        """Its path. Where none stands the launcher's line says what builds one."""
+        ran = subprocess.run([ROOT / 'alewife', '--which'], stdout=subprocess.PIPE, stderr=subprocess.PIPE, text=True)
+        if ran.returncode != 0:
+            raise ProgramError(ran.stderr.strip().removeprefix('alewife: '))
+        print(ran.stderr, end='', file=sys.stderr, flush=True)
+        return ran.stdout.removesuffix('\n')
+
+    def __fspath__(self):
+        return self.path
+
+    def __str__(self):
+        return self.path
+
+
+BUILT = Standing()
 
 
 @dataclass(frozen=True)
@@ -42,11 +68,18 @@ def no_program(binary, why):
 
 def called(binary, words, data=b''):
     """Calls the program on bytes."""
+    pipes = dict.fromkeys(('stdin', 'stdout', 'stderr'), subprocess.PIPE)
     try:
-        ran = subprocess.run([str(binary), *map(str, words)], input=data, stdout=subprocess.PIPE, stderr=subprocess.PIPE)
+        process = subprocess.Popen([str(binary), *map(str, words)], **pipes)
     except OSError as fault:
         raise no_program(binary, fault.strerror) from fault
-    return Answer(ran.returncode, ran.stdout, ran.stderr)
+    with process, progress.of_call(process, words[0] if words else ''):
+        try:
+            out, err = process.communicate(data)
+        except BaseException:
+            process.kill()
+            raise
+    return Answer(process.returncode, out, err)
 
 
 @dataclass(frozen=True)

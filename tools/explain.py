@@ -1,4 +1,5 @@
 """What the launcher says below a refusal of the program: explain.py STATUS LINE PLACE WORDS..
+Before there is a program, whether it would refuse the words, which ends with 2: explain.py words '' '' WORDS..
 
 STATUS is 2 for refused words, 3 for a refused input and 8 for want of memory, LINE is what the program wrote to standard error, PLACE is where
 standard input stood before it read, as far as that is known, and WORDS are the program's words. Writes the lines that say more, or none. Standard
@@ -18,6 +19,7 @@ STATEMENTS = {*TABLE['mnemonics'], *(f'.{name}' for name in TABLE['directives'])
 MOST_READ = 16 << 20
 MOST_SHOWN = 100
 MOST_LINE = 1000
+MOST_WORDS = 65536
 
 
 def shown(word):
@@ -88,6 +90,36 @@ def of_value(word, option, rule):
     return f'{shown(word)}: {option["name"]} is {option["values"]}'
 
 
+def is_value(word, option):
+    """Whether a word is a value of an option."""
+    if option['names']:
+        return word in option['names']
+    return word.isascii() and word.isdecimal() and word == str(int(word)) and option['first'] <= int(word) <= option['last']
+
+
+def place_against(rule, chosen, words):
+    """The place of the number that is against a command's rule, or None. Chosen is where the value of each choice stands."""
+    value = {choice: int(words[at]) for choice, at in chosen.items()}
+    is_above = rule and any(value.get(rule[name], 0) > rule['above'] for name in ('one', 'other'))
+    return chosen[rule['third']] if is_above and value.get(rule['third'], 0) > rule['most'] else None
+
+
+def refused_place(words):
+    """The place of the first word that the program would refuse, or None."""
+    if not words or words[0] not in COMMANDS:
+        return 0
+    command, chosen = COMMANDS[words[0]], {}
+    options = {option['name']: option for option in command['options']}
+    for at in range(1, len(words), 2):
+        option = options.get(words[at])
+        if option is None or option['choice'] in chosen:
+            return at
+        if at + 1 == len(words) or not is_value(words[at + 1], option):
+            return at + 1
+        chosen[option['choice']] = at + 1
+    return place_against(command['bounds'], chosen, words) if command['bounds'] else None
+
+
 # ---- refused inputs
 
 
@@ -96,6 +128,7 @@ AT_THE_START = ('image byte 0: magic', 'image byte 0: short', 'text line 1: synt
 LISTING = re.compile(rb'[0-9a-f]{8} [0-9a-f]{8} [0-9]+$', re.M)
 LABEL = re.compile(r'\s*(?:[A-Za-z_]\w*\s*:)?\s*')
 STATEMENT = re.compile(r'\.?[A-Za-z_]\w*')
+C_SOURCE = re.compile(rb'^\s*#\s*include\b|^(?:static |const |inline )*(?:void|int|unsigned|uint32_t)\s+\w+\s*\(', re.M)
 
 
 def first_statement(text):
@@ -117,7 +150,9 @@ def kind_of(data, command):
     if LISTING.match(data):
         return 'listing'
     is_text = command == 'asm' and b'\0' not in data
-    return 'source' if is_text or first_statement(data[:1 << 16].decode(errors='replace')) in STATEMENTS else None
+    if is_text or first_statement(data[:1 << 16].decode(errors='replace')) in STATEMENTS:
+        return 'source'
+    return 'C source' if C_SOURCE.search(data) else None
 
 
 def taken(command):
@@ -225,9 +260,17 @@ def of_redefined(code, lines):
     return f'{name} is defined on line {number}' if name else None
 
 
-def of_range(code):
-    """The one number of a line without names."""
+def words_in(lines):
+    """How many words the code of some lines has: `set` is two."""
+    found = (STATEMENT.match(code, LABEL.match(code).end()) for code in lines)
+    return sum(2 if word[0] == 'set' else 1 for word in found if word and word[0][0] != '.')
+
+
+def of_range(code, before):
+    """The one number of a line without names, or that code stands before the line for which there is no more room."""
     word = STATEMENT.match(code, LABEL.match(code).end())
+    if word and word[0][0] != '.' and words_in(before) >= MOST_WORDS:
+        return f'a source has at most {MOST_WORDS:,} words of code'
     numbers = NUMBER.findall(code[word.end():]) if word else []
     return f'{numbers[0]} is out of range here' if len(numbers) == 1 and not names_behind(code) else None
 
@@ -242,7 +285,7 @@ def of_source(number, fault, data):
     code = lines[number - 1]
     yield of_line(number, data)
     yield {'syntax': lambda: of_syntax(data.split(b'\n')[number - 1], code), 'unknown name': lambda: of_unknown_name(code, lines),
-           'redefined': lambda: of_redefined(code, lines), 'range': lambda: of_range(code)}.get(fault, lambda: None)()
+           'redefined': lambda: of_redefined(code, lines), 'range': lambda: of_range(code, lines[:number - 1])}.get(fault, lambda: None)()
 
 
 def of_input(reason, words, data):
@@ -303,7 +346,14 @@ def explanations(status, line, place, words):
 
 
 def main(status, line, place, *words):
-    """Writes the lines."""
+    """Writes the lines. Of words that the program would refuse it writes the program's line too, and ends with its status."""
+    if status == 'words':
+        at = refused_place(words)
+        if at is None:
+            return
+        print(f'alewife: word {at} refused')
+        main('2', f'alewife: word {at} refused', place, *words)
+        sys.exit(2)
     for text in filter(None, explanations(status, line, place, list(words))):
         print(f'alewife: {text}')
 

@@ -12,7 +12,7 @@ HEAD = (f'ALEWIFE LOG 1\nmesh ({NUMBER}) ({NUMBER}) contexts ({NUMBER}) lines ({
         f'params pointers ({NUMBER}) sets ({NUMBER}) limit ({NUMBER})\nevents ({NUMBER})\n')
 HEAD_LINES = 4
 
-TURN = (f'(?P<node>{NUMBER}) slot (?P<slot>[0-3]) pc (?P<pc>{WORD}) (?P<statement>{STATEMENT})'
+DONE = (f'pc (?P<pc>{WORD}) (?P<statement>{STATEMENT})'
         f'(?: sets (?P<register>{REGISTER}) (?P<set>{WORD}))?'
         f'(?: reads (?P<read_at>{WORD}) (?P<read_bytes>[124]) (?P<read>{WORD}))?'
         f'(?: writes (?P<written_at>{WORD}) (?P<written_bytes>[124]) (?P<written>{WORD}))?'
@@ -20,6 +20,8 @@ TURN = (f'(?P<node>{NUMBER}) slot (?P<slot>[0-3]) pc (?P<pc>{WORD}) (?P<statemen
         f'(?: prints (?P<prints>{WORD})| (?P<halts>halts)| traps (?P<traps>0x[0-9a-f]{{2}})'
         f'| misses (?P<misses>{NUMBER}) (?P<mode>{MODE}) (?P<how>opens|waits))?'
         f'(?: ends-hold (?P<ends>{NUMBER}))?')
+TURN = f'(?P<node>{NUMBER}) slot (?P<slot>[0-3]) {DONE}'
+CLAIMED = re.compile(f'({NUMBER}) context (?P<context>{NUMBER}) {DONE}')
 DELIVERY = (f'(?P<sender>{NUMBER}) (?P<node>{NUMBER}) (?P<kind>{KIND}) (?P<line>{NUMBER})'
             f'(?: (?P<traps>traps)|{CHANGE}|(?P<wakes>(?: wakes [0-3])*)(?: holds (?P<holds>[0-3]))?'
             f'(?: replaces (?P<replaced>{NUMBER}) (?P<replaced_mode>{MODE}))? copy (?P<copy>none|{MODE}) (?P<copy_after>none|{MODE}))')
@@ -93,6 +95,14 @@ def event_of(line):
     words = match['sends'].split()
     sends = tuple((kind, int(about), int(to)) for kind, about, to in zip(words[1::4], words[2::4], words[3::4]))
     return Event(int(match[1]), letter[1], match.groupdict(), sends)
+
+
+def claimed_of(line):
+    """The turn of a line of a claim's log, as an event whose stamp is the turn's number."""
+    match = CLAIMED.fullmatch(line)
+    if not match:
+        raise LogError(f'no turn has this line: {line}')
+    return Event(int(match[1]), 'I', match.groupdict(), ())
 
 
 def context_of(line):

@@ -2,6 +2,7 @@
 import re
 from dataclasses import dataclass, replace
 
+import progress
 from alewife import ProgramError, called, image_of, image_rows
 
 HEAD = re.compile(r'ALEWIFE OUTCOMES 1\nmesh \d+ \d+ contexts \d+ lines \d+\n(?:places (\d+)\n)?search (complete|stopped)\noutcomes (\d+)\n')
@@ -10,8 +11,9 @@ TRAP = re.compile(r'trap (\d+) context (\d+) pc 0x([0-9a-f]{8}) tt 0x([0-9a-f]{2
 STUCK = re.compile(r'stuck (no|yes|unknown)(?: runs (\d+))?')
 VERDICT = re.compile(r'differs (turn|print-count|print-context|print|memory)(?: (\w+))? claimed 0x([0-9a-f]{8}) real 0x([0-9a-f]{8})\n')
 STATUSES = (0, 4, 5)
-OF_PRINTS = ('print-count', 'print-context', 'print')
 MOST_ASKED = 20000
+# The places that the program keeps where no word says how many, and those that a stage of a search keeps.
+MOST, STAGES = '1000000', (10_000, 100_000, 1_000_000)
 
 
 class TextError(Exception):
@@ -110,8 +112,28 @@ def found_in(text):
     return Found(head[1] and int(head[1]), head[2] == 'complete', outcomes, traps, stuck, lost)
 
 
+def stages(words):
+    """The numbers of places that a search keeps at most before the one that the words say, each ten times the one before."""
+    most = words[words.index('--most') + 1] if '--most' in words else MOST
+    return [stage for stage in STAGES if most.isdecimal() and stage < int(most)]
+
+
 def searched(binary, image, *words):
-    """What the program finds of an image's bytes, with the words of the call."""
+    """What the program finds of an image's bytes, with the words of the call. Where a terminal looks on it searches in stages, till one is complete:
+    what each found is shown during the next."""
+    said = 'searching'
+    for stage in stages(words) if progress.is_seen() else ():
+        with progress.shown_as(lambda seconds, said=said: f'{said} up to {stage:,} places, {seconds:.0f} s'):
+            found = searched_once(binary, image, '--most', str(stage))
+        if found.is_complete:
+            return found
+        said = f'{len(found.outcomes)} outcomes, {len(found.traps)} traps so far;'
+    with progress.shown_as(lambda seconds: f'{said} up to the last place, {seconds:.0f} s'):
+        return searched_once(binary, image, *words)
+
+
+def searched_once(binary, image, *words):
+    """What one search finds."""
     ran = called(binary, ['outcomes', *words], image)
     if ran.status not in STATUSES:
         raise ProgramError(f'{binary}: outcomes: status {ran.status}, {ran.line()}')
@@ -170,28 +192,18 @@ def mended(prints, memory, name, at, real):
     return prints, {address: word for address, word in sorted({**memory, at: real}.items()) if word}
 
 
-def behind(binary, image, runs, wanted):
-    """What turns print and leave in memory, as audit says, one place a call, for as long as what differs is a place of a wanted kind; and the claim of it."""
+def completed(binary, image, runs):
+    """The claim of turns alone, with what they print and leave in memory as audit says it, one place a call."""
     prints, memory = [], {}
     for _ in range(MOST_ASKED):
         text = claim(image, runs, prints, tuple(memory.items()))
         differs = verdict_of(binary, text)
         if differs and differs[0] == 'turn':
             raise TextError(f'turn {differs[1]} of these is one of a context that can take none')
-        if differs is None or differs[0] not in wanted:
-            return prints, text
+        if differs is None:
+            return text
         prints, memory = mended(prints, memory, *differs)
     raise TextError(f'audit says after {MOST_ASKED} calls that something differs still')
-
-
-def completed(binary, image, runs):
-    """The claim of turns alone."""
-    return behind(binary, image, runs, (*OF_PRINTS, 'memory'))[1]
-
-
-def printed_behind(binary, image, runs):
-    """What turns print, as (context, word) in their order."""
-    return behind(binary, image, runs, OF_PRINTS)[0]
 
 
 # ---- whether turns lead to what is told of them

@@ -82,8 +82,9 @@ PHRASES = {
     'dis': {},
 }
 OWN = {
-    '--unproved': ('WORDS..', 'the same by a build that nothing is proved of'),
+    '--unproved': ('[WORDS..]', 'the same, and --which and --install too, by a program that nothing is proved of; without words builds it'),
     '--build': ('', 'proves and builds the program anew, and says so'),
+    '--which': ('', 'says which program runs: the proved one, else one that nothing is proved of'),
     '--install': ('PREFIX', 'puts program, manual and completions below a folder'),
     '--help': ('', 'says the words in short; so do -h, help and no words, and COMMAND --help those of one command'),
     '--version': ('', 'says the version, and the commit of the checkout'),
@@ -255,7 +256,7 @@ def table_page(commands):
     data = {'mnemonics': mnemonics, 'directives': directives, 'kinds': kinds, 'commands': {}}
     for name, command in commands.items():
         options = [{**asdict(option), 'values': option.values()} for option in command.options]
-        data['commands'][name] = {'reads': command.reads, 'options': options, 'rule': command.rule_told() if command.rule else ''}
+        data['commands'][name] = {'reads': command.reads, 'options': options, 'rule': command.rule_told() if command.rule else '', 'bounds': command.rule}
     return '{\n' + ',\n'.join(f'"{name}": ' + json.dumps(value) for name, value in data.items()) + '\n}\n'
 
 

@@ -1,6 +1,7 @@
 """A run that comes again: its log, its places, and the state at each. A place is a number of events, which have happened in the order of stamps."""
 import bisect
 import re
+import threading
 from collections import defaultdict
 from dataclasses import dataclass, field
 from functools import lru_cache
@@ -14,6 +15,7 @@ from statements import context_of
 LINE_BYTES = 16
 SHARED = 0x40000000
 KEPT_STATES = 64
+NOTED, TOLD_EVERY = 4096, 0.5
 TO_MEMORY, TO_CACHE = ('REPM', 'UPDATE'), ('WDATA',)
 NO_WORDS = ('0x00000000',) * 4
 TURN = re.compile(r'\d+ I (\d+) slot (\d) pc (0x[0-9a-f]{8}) ')
@@ -126,28 +128,24 @@ class Index:
             self.traps.append(place)
 
 
-class Again:
-    """A run, its places from 0 to `end`, and its states, which are saved where they are asked for and kept for a while."""
+@dataclass
+class Log:
+    """What the log of a run says: its head, the lines of its events in the order of stamps, from which places of the trace they are, their stamps, which
+    context each turn is of, what happens where, and how the run ended."""
+    head: logs.Head
+    order: list
+    lines: list
+    stamps: list
+    owners: dict
+    index: Index
+    ended: str
 
-    def __init__(self, binary, trace):
-        self.program = Program(binary, trace)
-        self.head, lines, self.standing, self.ended = read_log(self.program)
-        self.order = sorted(range(len(lines)), key=lambda at: stamp_of(lines[at]))
-        self.lines = [lines[at] for at in self.order]
-        self.stamps = [stamp_of(line) for line in self.lines]
-        self.end = len(self.lines)
-        self.image = image_of(run_of(trace.decode().split('\n')[1:-2]).image)
-        self.bodies = {line: tuple(f'0x{body[at:at + 4].hex()}' for at in range(0, LINE_BYTES, 4)) for line, body in self.image.data.items()}
-        self.front = trace[:trace.index(b'\nentries ') + 1].decode()
-        self.state = lru_cache(KEPT_STATES)(self.saved)
-        self.index, self.owners = Index(), {}
-        self.story, self.reasons = misses.Story(self.head), []
-        self.fill()
-
-    def fill(self):
+    def fill(self, standing, note):
         """Fills the index: a turn leads to the PC of the next instruction of its context, or to that at which the context stands at the end."""
         last = {}
         for place, line in enumerate(self.lines):
+            if place % NOTED == 0:
+                note(place, len(self.lines))
             match = TURN.match(line)
             if not match:
                 continue
@@ -161,9 +159,72 @@ class Again:
             if ' halts' in line or ' traps ' in line:
                 del last[context]
         for context, place in last.items():
-            self.index.to_pc[self.standing[context]].append(place)
+            self.index.to_pc[standing[context]].append(place)
         for places in self.index.to_pc.values():
             places.sort()
+
+
+def log_of(program, note):
+    """The log of a run. How many of how many events are read is noted on the way."""
+    head, lines, standing, ended = read_log(program)
+    order = sorted(range(len(lines)), key=lambda at: stamp_of(lines[at]))
+    log = Log(head, order, [lines[at] for at in order], [], {}, Index(), ended)
+    log.stamps = [stamp_of(line) for line in log.lines]
+    log.fill(standing, note)
+    return log
+
+
+def of_log(name):
+    """What a run has of its log, for which it waits."""
+    return property(lambda run: getattr(run.log(), name))
+
+
+class Interrupted(Exception):
+    """That nobody waits for the log any more."""
+
+
+class Again:
+    """A run, its places from 0 to `end`, and its states, which are saved where they are asked for and kept for a while. The log is read by a thread of its
+    own: what is of the log waits for that, and while it waits, it tells how far the thread is."""
+    head, lines, stamps, owners, index, ended = map(of_log, ('head', 'lines', 'stamps', 'owners', 'index', 'ended'))
+    end = property(lambda run: len(run.lines))
+
+    def __init__(self, binary, trace, tell=lambda done, count: None):
+        self.program, self.tell, self.is_interrupted = Program(binary, trace), tell, lambda: False
+        if b'\nentries ' not in trace:
+            self.program.save()
+        self.front = trace[:trace.find(b'\nentries ') + 1].decode()
+        self.state = lru_cache(KEPT_STATES)(self.saved)
+        self.state(0)
+        self.image = image_of(run_of([*self.front.split('\n')[1:-1], 'entries 0']).image)
+        self.bodies = {line: tuple(f'0x{body[at:at + 4].hex()}' for at in range(0, LINE_BYTES, 4)) for line, body in self.image.data.items()}
+        self.story, self.reasons = None, []
+        self.known, self.fault, self.noted = None, None, (0, trace.count(b'\n', len(self.front)) - 2)
+        self.reading = threading.Thread(target=self.read, daemon=True)
+        self.reading.start()
+
+    def note(self, done, count):
+        """Notes how many events are read, and how many there are."""
+        self.noted = done, count
+
+    def read(self):
+        """Reads the log, or keeps why there is none."""
+        try:
+            self.known = log_of(self.program, self.note)
+        except Exception as fault:
+            self.fault = fault
+
+    def log(self):
+        """The log, for which it waits."""
+        while self.reading.is_alive():
+            self.reading.join(TOLD_EVERY)
+            is_interrupted = self.reading.is_alive() and self.is_interrupted()
+            self.tell(*(self.noted if self.reading.is_alive() and not is_interrupted else (None, None)))
+            if is_interrupted:
+                raise Interrupted
+        if self.fault:
+            raise self.fault
+        return self.known
 
     def event(self, place):
         """The event that is next at a place."""
@@ -178,19 +239,22 @@ class Again:
         return bisect.bisect_right(self.stamps, stamp)
 
     def told_place(self, place):
-        """A place in words: a stamp, and where only some of its events have happened, how many."""
+        """A place in words: a stamp, and where only some of its events have happened, how many. At the start nobody waits for the log."""
+        if place == 0:
+            return 'stamp 0'
         stamp = self.stamp(place)
         first, behind = bisect.bisect_left(self.stamps, stamp), self.place_of(stamp)
         return f'stamp {stamp}' + (f', {place - first} of its {behind - first} events' if place < behind else '')
 
     def saved(self, place):
         """The state at a place."""
-        entries = [entry_of(self.lines[at]) for _, at in sorted(zip(self.order[:place], range(place)))]
+        entries = [entry_of(self.lines[at]) for _, at in sorted(zip(self.log().order[:place], range(place)))] if place else []
         text = '\n'.join([f'{self.front}entries {place}', *entries, 'end', ''])
         return state_of(Program(self.program.binary, text.encode()).save()[1])
 
     def reason(self, place):
         """Why the miss at a place missed, which the events up to there say: they are taken once."""
+        self.story = self.story or misses.Story(self.head)
         for at in range(len(self.reasons), place + 1):
             self.reasons.append(self.story.take(self.event(at)))
         return self.reasons[place]

@@ -1,6 +1,8 @@
 # Commands for GDB on a run (view/alewife-gdb). `help user-defined` lists them.
 set print thread-events off
 set filename-display basename
+# How long an answer may take, in seconds: a run of many events is read first.
+set remotetimeout 3600
 
 define stamp
   if $argc == 0

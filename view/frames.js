@@ -126,7 +126,7 @@ function countLines(index, key, more) {
 function indexStep(index, at, { key, sign, gone, added }) {
   if (gone === undefined) countLines(index, key, 1);
   if (added === undefined) countLines(index, key, -1);
-  if (key[0] === 'l') index.links.add(key);
+  if (key[0] === 'l' && sign === '+') index.first ??= at;
   for (const text of [gone, added]) {
     const line = aboutLine(text);
     if (line !== null && at > 0) addPlace(index.changes, line, at);
@@ -135,9 +135,9 @@ function indexStep(index, at, { key, sign, gone, added }) {
   if (sign === '+' && key[0] === 'l' && at > 0) addLoad(index.loads, added);
 }
 
-/** What is known of all frames: some states, where each line changes, the most lines of each kind that a node has, the links, and the counts. */
+/** What is known of all frames: some states, where each line changes, the most lines of each kind that a node has, where a message is first, and counts. */
 function indexed() {
-  const index = { kept: [], changes: new Map(), lines: new Set(), most: {}, numbers: new Map(), links: new Set(), loads: new Map(), counts: new Map() };
+  const index = { kept: [], changes: new Map(), lines: new Set(), most: {}, numbers: new Map(), first: null, loads: new Map(), counts: new Map() };
   const lines = new Map();
   RUN.frames.forEach(([stamp, events, steps], at) => {
     for (const step of steps) indexStep(index, at, doStep(lines, step));

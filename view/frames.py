@@ -10,6 +10,7 @@ import machine
 from alewife import RAN, WORD, ProgramError, called, checkpoint_of, image_of
 
 COMPARED = 8
+OF_CLAIM = '. A claim has turns on one memory and no events: audit --write log tells them'
 LINE_AT = {'pending': 1, 'cache': 2, 'home': 1, 'packet': 2}
 WORDS = machine.WORDS
 
@@ -75,7 +76,7 @@ def read_input(path, wanted):
         raise ViewError(f"can't read {path}: {fault.strerror}") from fault
     kind = explain.kind_of(data, '')
     if kind != wanted:
-        raise ViewError(explain.of_kind(kind, explain.wanted(wanted)))
+        raise ViewError(explain.of_kind(kind, explain.wanted(wanted)) + OF_CLAIM * (kind == 'claim'))
     return data
 
 

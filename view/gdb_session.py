@@ -1,9 +1,11 @@
 """A session with GDB: a run's place, its contexts as threads, their registers, memory, and the answers to packets. Nothing of the run is changed."""
 import re
+import sys
 from dataclasses import dataclass, field
 from xml.sax.saxutils import quoteattr
 
 import gdb_told
+from again import Interrupted
 from gdb_stops import Going, Stops
 from gdb_wire import INTERRUPT, escaped
 
@@ -15,6 +17,7 @@ CONTROL = ('y', 'psr', 'wim', 'tbr', 'pc', 'npc', 'fsr', 'csr')
 FLOATING, PC, NPC, SP, FP = 32, 68, 69, 14, 30
 NO_WORD = 'x' * 8
 REFUSED, READ_ONLY = b'E01', b'E.the run is past, and only read'
+CONTINUES = b'vCont;c;C;s;S'
 MOST_READ = 0x1000
 
 
@@ -41,6 +44,13 @@ def registers_of(context):
     codes = int(context.codes, 2) << 20
     words = [*context.registers, *[None] * 32, context.y, codes, 0, 0, context.pc, context.npc, None, None]
     return [NO_WORD if word is None else f'{word:08x}' for word in words]
+
+
+def part_of(text, span):
+    """A part of a text, of which the span has the beginning and the length."""
+    begin, count = (int(number, 16) for number in span.split(','))
+    data = text[begin:begin + min(count, MOST_READ)]
+    return (b'm' if begin + len(data) < len(text) else b'l') + escaped(data)
 
 
 @dataclass
@@ -131,6 +141,13 @@ class Session:
             found.append(byte)
         return bytes(found).hex().encode() if found or not count else REFUSED
 
+    def refuse(self, body):
+        """M and X: memory isn't written. GDB shows no text of a refusal, and so it is said on standard error, which GDB shows too; not where GDB asks
+        with no bytes whether X is there."""
+        if not body.partition(b':')[0].endswith(b',0'):
+            print(f'alewife-gdb: {READ_ONLY.decode().removeprefix("E.")}: nothing of it can be written', file=sys.stderr, flush=True)
+        return REFUSED
+
     # ---- going on
 
     def mark(self, body):
@@ -168,7 +185,7 @@ class Session:
         start = self.begin(contexts)
         going = Going(forwards, contexts, frozenset(steps), dict(self.ahead))
         stop = self.stops.find(start, going)
-        self.said += gdb_told.told_way(self.run, start, stop, going)
+        self.said += gdb_told.told_way(self, start, stop, going)
         self.move(stop.place, contexts if forwards else None)
         self.chosen = self.shown = self.chosen if stop.context is None else stop.context
         return self.answer(stop.signal, stop.reason)
@@ -214,10 +231,8 @@ class Session:
         texts = {'features': target_description, 'threads': self.threads, 'exec-file': lambda: self.file.name}
         if kind not in texts or kind == 'features' and annex != 'target.xml':
             return b'E00'
-        begin, count = (int(text, 16) for text in span.split(','))
-        self.text = self.text if begin else texts[kind]().encode()
-        data = self.text[begin:begin + min(count, MOST_READ)]
-        return (b'm' if begin + len(data) < len(self.text) else b'l') + escaped(data)
+        self.text = self.text if int(span.partition(',')[0], 16) else texts[kind]().encode()
+        return part_of(self.text, span)
 
     def monitor(self, body):
         """qRcmd: a command of our own, whose answer is shown."""
@@ -237,6 +252,13 @@ class Session:
         """qThreadExtraInfo: a thread in words."""
         number = self.thread_of(body.partition(b',')[2].decode())
         return f'{gdb_told.told_thread(self, number)}, {self.run.told_place(self.place)}'.encode().hex().encode()
+
+    def interruptible(self, body):
+        """The answer to a packet, or to the user who doesn't wait for the log any more."""
+        try:
+            return self.of(body)
+        except Interrupted:
+            return self.answer(2)
 
     def of(self, body):
         """The answer to a packet; nothing to one that isn't known, and a refusal to one whose words are of another form."""
@@ -267,28 +289,49 @@ ANSWERS = (
     (rb'g$', lambda session, _: ''.join(registers_of(session.context())).encode()),
     (rb'p[0-9a-f]', Session.register),
     (rb'[GP]', lambda session, _: READ_ONLY),
-    (rb'[MX]', lambda session, _: REFUSED),
+    (rb'[MX]', Session.refuse),
     (rb'm[0-9a-f]', Session.memory),
     (rb'[Zz][0-9]', Session.mark),
-    (rb'vCont\?', lambda session, _: b'vCont;c;C;s;S'),
+    (rb'vCont\?', lambda session, _: CONTINUES),
     (rb'vCont;', Session.resume),
     (rb'b[cs]$|[cCsS]', Session.resume_plainly),
     (rb'[Dk]|vKill', Session.leave),
 )
 
 
-def serve(session, wire):
-    """Answers packets until the session is over. What is said on the way to a stop comes before the stop."""
-    while not session.is_over:
+# What GDB asks for first, and what has an answer without the run.
+EARLY = (
+    (rb'qSupported', lambda _: OFFERED),
+    (rb'vMustReplyEmpty|qTStatus', lambda _: b''),
+    (rb'vCont\?', lambda _: CONTINUES),
+    (rb'H[gc](?:0|-1)$', lambda _: b'OK'),
+    (rb'qXfer:features:read:target\.xml:[0-9a-f]+,[0-9a-f]+$', lambda body: part_of(target_description().encode(), body.decode().rpartition(':')[2])),
+)
+
+
+def early(body):
+    """The answer to a packet for which no run is needed, or None."""
+    return next((answer(body) for form, answer in EARLY if re.match(form, body)), None)
+
+
+def serve(opened, wire):
+    """Answers packets until the session is over, which `opened` gives as soon as it is there. What is said on the way to a stop comes before the stop."""
+    session = None
+    while session is None or not session.is_over:
         body = wire.receive()
         if body is None:
-            return
+            break
         if body == b'QStartNoAckMode':
             wire.send(b'OK')
             wire.acknowledges = False
             continue
-        answer = session.of(body)
-        for line in session.said:
-            wire.send(b'O' + (line + '\n').encode().hex().encode())
-        session.said.clear()
+        answer = early(body) if session is None else None
+        if answer is None:
+            session = session or opened()
+            session.run.is_interrupted = wire.is_interrupted
+            answer = session.interruptible(body)
+            for line in session.said:
+                wire.send(b'O' + (line + '\n').encode().hex().encode())
+            session.said.clear()
         wire.send(answer)
+    return session or opened()

@@ -1,6 +1,8 @@
 """What the debugger says: threads, the way to a stop, and the answers of `monitor`."""
+import traps
 from again import LINE_BYTES, SHARED
 from frames import ViewError
+from statements import cross, reached_by
 
 WAYS = {'ready': 'ready', 'wait': 'waits for line', 'hold': 'has just got line', 'trapped': 'trapped with tt', 'halted': 'halted'}
 HELP = '''monitor stamp [N]        where the run is; or goes to a stamp, of which GDB learns by `maintenance flush register-cache`
@@ -20,25 +22,46 @@ def told_thread(session, number):
 # ---- the way to a stop
 
 
-def told_event(run, place):
+def told_event(session, place):
     """A print or a trap in words."""
-    event, context = run.event(place), run.owners[place]
+    event, context = session.run.event(place), session.run.owners[place]
     deed = f'prints {event.said["prints"]}' if event.said['prints'] else f'traps with tt {event.said["traps"]} in {event.said["statement"]}'
-    return f'context {context} {deed} at stamp {event.stamp}'
+    return f'context {context} {deed} at stamp {event.stamp}{told_why_trapped(session, event, place) if event.said["traps"] else ""}'
 
 
-def told_way(run, start, stop, going):
+def told_why_trapped(session, event, place):
+    """The assertion that traps, or the address of a load or a store that does."""
+    pc = event.number('pc')
+    if pc in session.code.assertions:
+        return f': {session.code.assertions[pc][0]}{session.code.asserted(pc)}'
+    if session.code.word(pc) is None:
+        return ''
+    registers = session.run.state(place).context(session.run.owners[place]).registers
+    return traps.told_access(event.number('traps'), event.said['statement'], reached_by(session.code.word(pc), registers))
+
+
+def told_way(session, start, stop, going):
     """The lines of the way from a place to a stop: the prints and traps on it, or backwards the one at which it stops, and the ends."""
+    run = session.run
     seen = sorted({*run.index.prints, *run.index.traps})
     if going.forwards:
-        lines = [told_event(run, place) for place in seen if start <= place < stop.place and going.moves(run.owners[place], place)]
+        lines = [told_event(session, place) for place in seen if start <= place < stop.place and going.moves(run.owners[place], place)]
     else:
-        lines = [told_event(run, stop.event)] if stop.event in seen and stop.place > stop.event else []
+        lines = [told_event(session, stop.event)] if stop.event in seen and stop.place > stop.event else []
     if stop.reason == 'replaylog:end;':
         lines.append(f'{f"the run has ended: {run.ended}" if run.ended else "the trace stops here"}, at stamp {run.stamp(run.end)}')
+        lines += told_standing(session) if run.ended == 'limit' else []
     if stop.reason == 'replaylog:begin;':
         lines.append('the run begins here')
     return lines
+
+
+def told_standing(session):
+    """Where contexts stand that haven't halted at the end, of a program of which places are known."""
+    contexts = map(session.run.state(session.run.end).context, range(session.count()))
+    going = {context.number: context.pc for context in contexts if context.status != 'halted'}
+    shown = session.code.shown(sorted(set(going.values())))
+    return cross.told_standing({number: shown.get(pc, ('', f'0x{pc:08x}'))[1] for number, pc in going.items()}) if shown else ()
 
 
 # ---- the answers of monitor

@@ -1,5 +1,6 @@
 """Trials of the debugger, for view/check: a small client speaks its protocol, and GDB itself is run on scripts where it is there."""
 import re
+import shlex
 import subprocess
 from collections import Counter
 from pathlib import Path
@@ -7,7 +8,8 @@ from pathlib import Path
 import cross
 import logs
 from alewife import digest_of, image_of, no_debugger, run_of
-from gdb_wire import Wire
+from gdb_session import PC
+from gdb_wire import INTERRUPT, Wire
 from trials import LeftOut, expect
 
 HERE = Path(__file__).resolve().parent
@@ -32,6 +34,11 @@ again:  ld      [%g1+%g2],%g4
         ta      1
         ta      0
 '''
+TRAPPING = (
+    ('st %g0,[%g1+4]', 0x1230, 'traps with tt 0x09 in st %g0,[%g1+4] at stamp 3: store at 0x00001234, outside shared data'),
+    ('lduh [%g1+%g2],%g3', 0x40000001, 'traps with tt 0x07 in lduh [%g1+%g2],%g3 at stamp 3: load at 0x40000001, which is no multiple of 2'),
+    ('swap [%g1],%g3', 0x40000002, 'traps with tt 0x07 in swap [%g1],%g3 at stamp 3: swap at 0x40000002, which is no multiple of 4'),
+    ('ldstub [%g1-1],%g3', 0x40000000, 'traps with tt 0x09 in ldstub [%g1-1],%g3 at stamp 3: ldstub at 0x3fffffff, outside shared data'))
 TRACES = ('two_writers', 'lock', 'workload', 'walks')
 
 
@@ -273,11 +280,25 @@ def others_of(client, count, context):
     return found
 
 
+def traps_on_data_have_addresses(trial):
+    """Of a load or a store that traps the debugger and alewife-log say the address, and why the machine refuses it"""
+    for statement, base, told in TRAPPING:
+        image = trial.program(['asm'], f'        set     0x{base:08x},%g1\n        {statement}\n        ta 0\n'.encode())
+        trial.keep('data.trace', trial.program(['run', '--write', 'trace'], image, (4,)))
+        client = Client(trial, 'data')
+        expect(client.stop('vCont;c')[0] == 0 and client.said == [f'context 0 {told}'], f'{statement}: {client.said}')
+        client.close()
+        ran = subprocess.run([HERE / 'alewife-log', 'data.trace', '--program', trial.binary], cwd=trial.folder, capture_output=True, text=True)
+        line = next(row for row in ran.stdout.splitlines() if 'TRAPS' in row)
+        expect(line.endswith(f'; TRAPS with tt {told[14:18]}: {told.partition(": ")[2]}'), line)
+
+
 def runs_are_only_read(trial):
     """Registers and memory can't be written, what isn't known has no answer, and a damaged packet is asked for again"""
     client = Client(trial, 'lock')
     for packet in ('M40000000,4:00000001', 'X40000000,1:a'):
         expect(client.ask(packet) == b'E01', packet)
+        expect(client.process.stderr.readline() == b'alewife-gdb: the run is past, and only read: nothing of it can be written\n', packet)
     for packet in ('G' + '0' * 576, 'P44=00000000'):
         expect(client.ask(packet).startswith(b'E.the run is past'), packet)
     expect(client.ask('m0,x') == client.ask('vCont;c:x') == client.ask('qRcmd,x') == b'E01', 'packets of another form')
@@ -295,6 +316,26 @@ def runs_are_only_read(trial):
         trial.keep('none', b'ALEWIFE TRACE 1\nimage 2\n')
         ran = subprocess.run([words[0], *refused, *words[2:]], cwd=trial.folder, input='', capture_output=True, text=True)
         expect(ran.returncode and re.fullmatch(f'alewife-gdb: {line}', ran.stderr.strip().split('\n')[-1]), f'{refused}: {ran.stderr}')
+
+
+def answers_come_before_the_log(trial):
+    """The debugger is answered, and sees the start, while the log is still being read; what needs the log waits for it, or is interrupted"""
+    trial.keep_program('waiting', f'for each in $(seq 600); do [ "$1" != replay ] || [ -e read ] && exec {shlex.quote(trial.binary)} "$@"; sleep 0.1; done; exit 1')
+    keep_traces(trial)
+    client = Client(trial, 'walks', '--program', str(trial.folder / 'waiting'))
+    expect(client.ask('vMustReplyEmpty') == b'' and client.ask('Hg0') == b'OK', 'the greeting')
+    expect(b'org.gnu.gdb.sparc.cpu' in client.ask('qXfer:features:read:target.xml:0,fff'), 'the registers')
+    expect(client.stop('?') == (0, '', '05') and client.ask('qfThreadInfo') == b'm1,2,3,4', 'the threads at the start')
+    registers = client.ask('g').decode()
+    expect(registers[8 * 9:8 * 10] == '00000004' and registers[8 * PC:8 * PC + 8] == '00000000', f'the registers at the start: {registers}')
+    expect(client.memory(0, 4) == image_of(run_of((trial.folder / 'walks.trace').read_text().splitlines()[1:-1]).image).code[:4], 'the code')
+    expect(client.ask('Z0,c,4') == b'OK' and not (trial.folder / 'read').exists(), 'a breakpoint')
+    client.wire.send(b'vCont;c')
+    client.wire.write(INTERRUPT)
+    expect(client.wire.receive().startswith(b'T02thread:1;'), 'an interrupt')
+    trial.keep('read', b'')
+    expect(client.stop('vCont;c')[1] == 'swbreak:', 'the breakpoint is met')
+    client.close()
 
 
 def check_tools():
@@ -322,4 +363,5 @@ def transcripts_come_again(trial):
             expect(ran.stdout.rstrip('\n') == wanted.rstrip('\n'), f'{file.name}: {command}: {ran.stdout}')
 
 
-TRIALS = (states_are_shown, steps_are_turns, stops_are_events, breakpoints_lose_nothing, runs_are_only_read, transcripts_come_again)
+TRIALS = (states_are_shown, steps_are_turns, stops_are_events, breakpoints_lose_nothing, traps_on_data_have_addresses, answers_come_before_the_log,
+          runs_are_only_read, transcripts_come_again)

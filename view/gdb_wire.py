@@ -1,5 +1,6 @@
 """GDB's remote serial protocol on two streams: packets with their checksums and acknowledgements, and the bytes that are escaped."""
 import os
+import select
 
 INTERRUPT = b'\x03'
 ESCAPE, ESCAPED = 0x7d, b'#$}*'
@@ -26,6 +27,14 @@ class Wire:
         data = os.read(self.source, 1 << 16)
         self.rest += data
         return bool(data)
+
+    def is_interrupted(self):
+        """Whether the user wants to stop what is under way: nothing else comes meanwhile."""
+        if not self.rest and select.select([self.source], [], [], 0)[0]:
+            self.more()
+        before, found, behind = self.rest.partition(INTERRUPT)
+        self.rest = before + behind
+        return bool(found)
 
     def receive(self):
         """The body of the next packet, INTERRUPT where the user wants to stop, or None behind the last one."""

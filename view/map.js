@@ -1,47 +1,36 @@
-// The map: the mesh with a box for each node, wires with their loads, and arrows for the messages on their way.
+// The map: the mesh with a box for each node, large where something moved, wires with their loads, and the messages on their way, along their routes.
 
-const BOX = { row: 16 };
-const SIZES = { wide: { width: 276, across: 150, down: 132, letters: 35 }, narrow: { width: 216, across: 84, down: 116, letters: 27 } };
-const NARROW = 700, LETTER = 7.6;
-const MOST_ROWS = { a: 4, p: 4, h: 4, q: 3 };
-const DASHES = { RREQ: '1 3', WREQ: '3 2', RDATA: '', WDATA: '', INV: '', ACKC: '8 3', UPDATE: '8 3', REPM: '8 3', BUSY: '8 2 1 2' };
-const MOST_LABELLED = 16;
-const EVENT_ROWS = 3, CONTEXT_ROWS = 2;
+const BOX = { places: [] };
+const SIZES = {
+  wide: { width: 232, small: 158, across: 86, down: 42, margin: 20 },
+  narrow: { width: 196, small: 140, across: 56, down: 40, margin: 20 },
+};
+const NARROW = 700, MOST_LABELLED = 16, MOST_SCALE = 1.15, LEAST_HEIGHT = 320;
+const ROW = 14, LETTER = 7.25, MOST_ROWS = 8, FEW_LINES = 4, MOST_NAMES = 2;
+const NEAR = { row: ROW, letter: LETTER, kind: '' };
+const FAR = { row: 24, letter: 12.1, kind: 'far' };
+const IS_FAR = NODES > MOST_LABELLED, SMALL = IS_FAR ? FAR : NEAR, LARGE = IS_FAR ? { row: 17, letter: 9.1, kind: 'names' } : NEAR;
+const HEAVY = new Set(['RDATA', 'WDATA']);
+BOX.height = LARGE.row * (1 + MOST_ROWS) + 8;
 
-/** How many rows of each part a box has: the most that any frame needs, up to a limit. */
-const ROWS = Object.fromEntries(Object.entries({ cache: 'a', pending: 'p', home: 'h', packet: 'q' }).map(([kind, letter]) => {
-  return [kind, Math.min(Math.max(INDEX.most[letter] ?? 0, kind === 'packet' ? 0 : 1), MOST_ROWS[letter])];
-}));
-BOX.height = BOX.row * (1 + EVENT_ROWS + CONTEXT_ROWS * RUN.contexts + ROWS.cache + ROWS.pending + ROWS.home + ROWS.packet) + 10;
-
-/** Widens edges to a place with so much room on each side. */
-function widen(edges, x, y, across, down) {
-  Object.assign(edges, { left: Math.min(edges.left, x - across), right: Math.max(edges.right, x + across) });
-  Object.assign(edges, { top: Math.min(edges.top, y - down), bottom: Math.max(edges.bottom, y + down) });
-}
-
-/** Takes the sizes that suit the window, and the part of the plane that boxes, arrows and names of any frame need. */
+/** Takes the sizes that suit the window, and the edges of the whole map. */
 function measure() {
-  Object.assign(BOX, SIZES[document.documentElement.clientWidth < NARROW ? 'narrow' : 'wide']);
-  const last = placeOf(NODES - 1), letters = `▶UPDATE ${NODES * RUN.lines - 1}`.length;
-  const edges = { left: -4, top: -4, right: last.right + 4, bottom: last.bottom + 4 };
-  for (const key of INDEX.links) {
-    const [from, to] = key.slice(1).split('.').map(Number), points = curveOf(from, to);
-    for (let part = 0; part <= 1; part += 0.125) widen(edges, curveAt(points, part, 0), curveAt(points, part, 1), 4, 4);
-    for (const part of namesAlong(from, to)) widen(edges, curveAt(points, part, 0), curveAt(points, part, 1), LETTER * letters / 2 + 4, 24);
-  }
-  BOX.edges = edges;
+  Object.assign(BOX, SIZES[document.documentElement.clientWidth < NARROW ? 'narrow' : 'wide'], { places: [] });
+  if (IS_FAR) BOX.down = 26;
+  BOX.large = BOX.width + (IS_FAR ? Math.round(BOX.across * 0.8) : 0);
+  const last = cellOf(NODES - 1), aside = (BOX.large - BOX.width) / 2 + 6;
+  BOX.edges = { left: -aside, top: -BOX.margin, right: last.right + aside, bottom: last.bottom + BOX.margin };
 }
 
-/** Where on a link's curve its names may stand, as parts of it: nearer to the sender first. */
-function namesAlong(from, to) {
-  return from === to ? [0.5] : [0.27, 0.38, 0.5, 0.18, 0.62, 0.75];
-}
-
-/** The place of a node's box. */
-function placeOf(node) {
+/** The cell of a node, in which its box stands in the middle. */
+function cellOf(node) {
   const left = (node % WIDTH) * (BOX.width + BOX.across), top = Math.floor(node / WIDTH) * (BOX.height + BOX.down);
   return { left, top, right: left + BOX.width, bottom: top + BOX.height, x: left + BOX.width / 2, y: top + BOX.height / 2 };
+}
+
+/** The place of a node's box, or of its cell before anything is drawn. */
+function placeOf(node) {
+  return BOX.places[node] ?? cellOf(node);
 }
 
 /** A text that stands in markup. */
@@ -54,80 +43,125 @@ function svgText(x, y, text, kind = '', extra = '') {
   return `<text x="${x}" y="${y}" class="${kind}" ${extra}>${escaped(text)}</text>`;
 }
 
+// ---- what a box says
+
 /** How much a row is wanted: the followed line's first, then what changed, then lines that are asked for or on their way. */
 function wanted(row, moving) {
-  return 4 * (row.line !== undefined && row.line === VIEW.line) + 2 * row.fresh + moving.has(row.line);
+  return 4 * isFollowed(row) + 2 * row.fresh + moving.has(row.line);
 }
 
-/** The rows of one part of a box, at most so many, the most wanted first. */
-function partOf(node, kind, moving, text) {
-  const most = ROWS[kind];
-  const all = node[kind].map((each) => ({ text: text(each), line: each.line, fresh: each.fresh }));
-  if (kind !== 'packet') all.sort((a, b) => wanted(b, moving) - wanted(a, moving));
-  if (all.length <= most) return [...all, ...Array(most - all.length).fill({ text: '' })];
-  return [...all.slice(0, most - 1), { text: `and ${all.length - most + 1} more (${kind})` }];
+/** Whether a row is of the followed line. */
+function isFollowed(row) {
+  return row.line !== undefined && row.line === VIEW.line;
 }
 
-/** The rows of a context: what it does, and its statement. */
-function rowsOfContext(each, slot, current) {
-  const [status, line] = each.status.split(' ');
-  const about = status === 'hold' || status === 'wait' ? Number(line) : undefined;
-  const does = about === undefined ? each.status : `${status} ${lineName(about)}`;
-  return [{ text: `${current ? '*' : ' '}${slot} ${does}`, line: about, fresh: each.fresh }, { text: `  ${statementText(each.pc)}`, line: about, below: true }];
-}
-
-/** The rows of a node's box below its event. */
-function rowsOf(node, moving) {
+/** The rows of what a node asks for, has, is the home of, and has in its queue, each with the state that gives it a colour. */
+function rowsOfLines(node) {
+  const rows = (kind, each, text, tint) => ({ kind, text, line: each.line, fresh: each.fresh, tint });
   return [
-    ...node.context.flatMap((each, slot) => rowsOfContext(each, slot, slot === node.slot)),
-    ...partOf(node, 'pending', moving, (each) => `asks  ${lineName(each.line)} ${each.mode}`),
-    ...partOf(node, 'cache', moving, (each) => `cache ${lineName(each.line)} ${each.mode} ${short(each.body[0])}`),
-    ...partOf(node, 'home', moving, (each) => `home  ${lineName(each.line)} ${shortEntry(each)}`),
-    ...partOf(node, 'packet', moving, (each) => `queue ${each.kind} ${lineName(each.line)} from ${each.from}`),
+    ...node.pending.map((each) => rows('asks', each, `asks  ${lineName(each.line)} ${each.mode}`)),
+    ...node.home.map((each) => rows('home', each, `home  ${lineName(each.line)} ${shortEntry(each)}`, each.state)),
+    ...node.packet.map((each) => rows('queue', each, `queue ${each.kind} ${lineName(each.line)} from ${each.from}`)),
+    ...node.cache.map((each) => rows('cache', each, `cache ${lineName(each.line)} ${each.mode} ${short(each.body[0])}`, each.mode)),
   ];
 }
 
-/** A text of a box, which is pressed together where it is too long. */
-function boxText(left, top, text, kind, extra) {
-  const room = BOX.width - 10, long = text.length > BOX.letters ? `textLength="${room}" lengthAdjust="spacingAndGlyphs"` : '';
-  return svgText(left + 5, top, text, kind, `xml:space="preserve" ${long} ${extra}`);
+/** The row of a context: what it does. */
+function rowOfContext(each, slot, node) {
+  const [status, line] = each.status.split(' ');
+  const about = status === 'hold' || status === 'wait' ? Number(line) : undefined;
+  const does = about === undefined ? each.status : `${status} ${lineName(about)}`;
+  return { text: `${slot === node.slot ? '*' : ' '}${slot} ${does}`, line: about, fresh: each.fresh };
 }
 
-/** A node's box. */
-function drawBox(node, number, event, moving) {
-  const { left, top } = placeOf(number);
-  const rows = rowsOf(node, moving);
-  const thick = rows.some((row) => row.line === VIEW.line && row.line !== undefined) ? 4 : 1.5;
-  const parts = [`<rect class="box" x="${left}" y="${top}" width="${BOX.width}" height="${BOX.height}" stroke-width="${thick}"/>`];
-  parts.push(svgText(left + 8, top + 14, `node ${number}`, 'bold'), svgText(left + BOX.width - 8, top + 14, `clock ${node.clock}`, '', 'text-anchor="end"'));
-  if (event) {
-    parts.push(`<rect class="event" x="${left}" y="${top + BOX.row + 2}" width="${BOX.width}" height="${EVENT_ROWS * BOX.row + 2}"/>`);
-    parts.push(...rowsOfEvent(event).map((text, at) => boxText(left, top + (2 + at) * BOX.row, ` ${text}`, 'inverse', '')));
-  }
-  rows.forEach((row, at) => {
-    const followed = row.line === VIEW.line && row.line !== undefined;
-    const mark = row.below ? ' ' : followed ? '▶' : row.fresh ? '•' : ' ';
-    const kind = (followed ? 'bold ' : '') + (row.line === undefined ? '' : 'pick');
-    const pick = row.line === undefined ? '' : `data-line="${row.line}"`;
-    parts.push(boxText(left, top + (2 + EVENT_ROWS + at) * BOX.row, `${mark}${row.text}`, kind, pick));
+/** The statement at which a node's context is, where its event doesn't say it. */
+function rowsOfStatement(node, event) {
+  return event?.letter === 'I' ? [] : [{ text: `   ${statementText(node.context[node.slot].pc)}` }];
+}
+
+/** How many rows of each kind have no room, as a row. */
+function rowsOfRest(rest) {
+  const counts = new Map();
+  for (const { kind } of rest) counts.set(kind, (counts.get(kind) ?? 0) + 1);
+  return counts.size ? [{ text: ` and ${[...counts].map(([kind, count]) => `${count} ${kind}`).join(', ')}`, soft: true }] : [];
+}
+
+/** The rows of a large box: its event, its contexts, and of its lines those that are wanted most. */
+function rowsOfLarge(node, event, moving) {
+  const told = (event ? rowsOfEvent(event) : []).filter(Boolean).map((text) => ({ text: ` ${text}`, inverse: true }));
+  const contexts = node.context.map((each, slot) => rowOfContext(each, slot, node)).slice(0, 3);
+  const head = [...told, ...contexts, ...rowsOfStatement(node, event)].slice(0, MOST_ROWS - 2);
+  const lines = rowsOfLines(node).sort((a, b) => wanted(b, moving) - wanted(a, moving));
+  const useful = lines.length <= FEW_LINES ? lines.length : lines.filter((row) => wanted(row, moving)).length;
+  const room = MOST_ROWS - head.length - 1, shown = lines.slice(0, Math.min(useful, lines.length <= room + 1 ? room + 1 : room));
+  return [...head, ...shown, ...rowsOfRest(lines.slice(shown.length))];
+}
+
+/** The rows of a small box: what its context does, and the followed line. */
+function rowsOfSmall(node) {
+  const context = node.context[node.slot], row = rowOfContext(context, node.slot, node);
+  const status = { ...row, text: ` ${RUN.contexts > 1 ? row.text.slice(1) : row.text.slice(3)}` };
+  return [status, ...rowsOfLines(node).filter(isFollowed).slice(0, IS_FAR ? 1 : 3)];
+}
+
+/** Whether a node's event moves something: in a large mesh instructions that need no message don't. */
+function moves(event) {
+  return Boolean(event) && (!IS_FAR || event.letter !== 'I' || Boolean(event.misses) || event.sends.length > 0);
+}
+
+/** What is drawn of each node: its place, its rows and its letters. */
+function boxesOf(state, events, moving) {
+  return state.nodes.map((node, number) => {
+    const event = events.get(number), isLarge = moves(event), { x, y } = cellOf(number), style = isLarge ? LARGE : SMALL;
+    const rows = isLarge ? rowsOfLarge(node, event, moving) : rowsOfSmall(node);
+    const width = isLarge ? BOX.large : IS_FAR ? BOX.width : BOX.small, height = style.row * (1 + rows.length) + 8;
+    const place = { x, y, left: x - width / 2, right: x + width / 2, top: y - height / 2, bottom: y + height / 2 };
+    return { node, number, event, isLarge, rows, style, width, height, place };
   });
-  return parts.join('');
 }
 
-/** A wire from a node to a neighbour, with its load so far and in all. */
-function drawWire(from, to, loads, most) {
-  const name = `${from} ${to}`, sent = loads.get(name) ?? 0;
-  const a = placeOf(from), b = placeOf(to), level = a.y === b.y;
-  const side = from < to ? -1 : 1;
-  const ends = level ? [from < to ? a.right : a.left, a.y + side * 13, from < to ? b.left : b.right, a.y + side * 13]
-    : [a.x - side * 13, from < to ? a.bottom : a.top, a.x - side * 13, from < to ? b.top : b.bottom];
-  const width = 1 + (most ? 7 * sent / most : 0);
-  const whole = RUN.loads ? ` of ${TOTALS.get(name) ?? 0}` : '';
-  const place = `x1="${ends[0]}" y1="${ends[1]}" x2="${ends[2]}" y2="${ends[3]}"`;
-  const line = `<line class="wire" ${place} stroke-width="${width.toFixed(1)}" marker-end="url(#wire)"/>`;
-  if (level) return line + svgText((ends[0] + ends[2]) / 2, ends[1] + (side < 0 ? -8 : 18), `${sent}${whole}`, 'load');
-  const anchor = `style="text-anchor:${side < 0 ? 'start' : 'end'}"`;
-  return line + svgText(ends[0] - side * 6, (ends[1] + ends[3]) / 2 + 4 + side * 9, `${sent}${whole}`, 'load', anchor);
+// ---- boxes
+
+/** A text of a box, which is pressed together where it is too long. */
+function boxText({ place, width, style }, top, text, kind, extra) {
+  const long = text.length * style.letter > width - 8 ? `textLength="${width - 10}" lengthAdjust="spacingAndGlyphs"` : '';
+  return svgText(place.left + 5, top, text, `${style.kind} ${kind}`, `xml:space="preserve" ${long} ${extra}`);
+}
+
+/** A row of a box, on the colour of its copy or entry. */
+function drawRowOfBox(box, row, at) {
+  const { place, width, style } = box, top = place.top + style.row * (at + 1) + 4;
+  const followed = isFollowed(row), mark = row.inverse || row.soft ? '' : followed ? '▶' : row.fresh ? '•' : ' ';
+  const ground = row.inverse ? 'class="event"' : row.tint ? `style="fill:var(--${row.tint})"` : '';
+  const drawn = ground ? `<rect ${ground} x="${place.left + 1}" y="${top}" width="${width - 2}" height="${style.row}"/>` : '';
+  const kind = `${row.inverse ? 'inverse' : ''} ${row.soft ? 'soft' : ''} ${followed ? 'bold' : ''} ${row.line === undefined ? '' : 'pick'}`;
+  const pick = row.line === undefined ? '' : `data-line="${row.line}"`;
+  return drawn + boxText(box, top + style.row * 0.8, `${mark}${row.text}`, kind, pick);
+}
+
+/** A node's box: its head is black where it has an event, its edge thick where it has something of the followed line. */
+function drawBox(box) {
+  const { node, number, event, isLarge, rows, style, width, height, place } = box;
+  const thick = rows.some(isFollowed) ? 4 : 1.5, ink = event ? 'inverse' : '';
+  const head = event ? `<rect class="event" x="${place.left}" y="${place.top}" width="${width}" height="${style.row + 4}"/>` : '';
+  const clock = isLarge ? svgText(place.right - 6, place.top + style.row - 1, `clock ${node.clock}`, `${ink} ${style.kind}`, 'text-anchor="end"') : '';
+  const outer = `x="${place.left}" y="${place.top}" width="${width}" height="${height}"`;
+  const name = svgText(place.left + 6, place.top + style.row - 1, `node ${number}`, `bold ${ink} ${style.kind}`);
+  const inner = rows.map((row, at) => drawRowOfBox(box, row, at)).join('');
+  return `<rect class="box" ${outer} stroke="none"/>${head}${name}${clock}${inner}<rect class="edge" ${outer} stroke-width="${thick}"/>`;
+}
+
+// ---- wires and messages
+
+/** Where a wire from a node to a neighbour runs: its ends in the middles of boxes, where it leaves and meets them, and its lane, so far aside. */
+function laneOf(from, to, aside) {
+  const a = placeOf(from), b = placeOf(to), forward = from < to, level = Math.floor(from / WIDTH) === Math.floor(to / WIDTH);
+  if (level) {
+    const y = a.y + (forward ? -1 : 1) * (6 + aside);
+    return { level, forward, x1: a.x, y1: y, x2: forward ? b.left : b.right, y2: y, middle: ((forward ? a.right + b.left : a.left + b.right)) / 2 };
+  }
+  const x = a.x + (forward ? 1 : -1) * (11 + aside);
+  return { level, forward, x1: x, y1: a.y, x2: x, y2: forward ? b.top : b.bottom, middle: (forward ? a.bottom + b.top : a.top + b.bottom) / 2 };
 }
 
 /** The neighbours of the mesh, each pair both ways. */
@@ -140,71 +174,79 @@ function neighbours() {
   return pairs;
 }
 
-/** The curve of a link, as its ends and the points that bend it. */
-function curveOf(from, to) {
-  const a = placeOf(from), b = placeOf(to);
-  if (from === to) return [a.left + 16, a.top, a.left + 6, a.top - 62, a.left + 134, a.top - 62, a.left + 124, a.top];
-  const right = Math.sign(b.x - a.x), down = Math.sign(b.y - a.y);
-  const far = Math.min(4, Math.abs(right ? to - from : (to - from) / WIDTH));
-  if (!down) {
-    const edge = right > 0 ? a.top : a.bottom, bend = edge - right * (28 + 24 * far), out = BOX.width / 2 - 28 - 26 * far, into = BOX.width / 4;
-    return [a.x + right * out, edge, a.x + right * (out + 30), bend, b.x - right * (into + 30), bend, b.x - right * into, edge];
+/** The messages that cross each wire, those that arrive behind it first. */
+function crossings(state) {
+  const found = new Map();
+  for (const message of [...state.links.values()].flat()) {
+    for (const wire of route(message.from, message.to)) found.set(wire, [...(found.get(wire) ?? []), message]);
   }
-  if (!right) {
-    const edge = down > 0 ? a.right : a.left, bend = edge + down * (34 + 24 * far), out = 52 - 14 * far;
-    return [edge, a.y + down * out, bend, a.y + down * (out + 16), bend, b.y - down * 50, edge, b.y - down * 34];
+  for (const [wire, messages] of found) {
+    const to = Number(wire.split(' ')[1]);
+    messages.sort((a, b) => (a.to !== to) - (b.to !== to) || a.to - b.to);
   }
-  const start = [right > 0 ? a.right : a.left, down > 0 ? a.bottom : a.top], end = [right > 0 ? b.left : b.right, down > 0 ? b.top : b.bottom];
-  const bend = [down * 16, -right * 16];
-  return [...start, start[0] + right * 30 + bend[0], start[1] + down * 30 + bend[1], end[0] - right * 30 + bend[0], end[1] - down * 30 + bend[1], ...end];
+  return found;
 }
 
-/** A place of the curve, from 0 at its begin to 1 at its end, on an axis: 0 across, 1 down. */
-function curveAt(points, part, axis) {
-  const weights = [(1 - part) ** 3, 3 * part * (1 - part) ** 2, 3 * part ** 2 * (1 - part), part ** 3];
-  return weights.reduce((sum, weight, at) => sum + weight * points[2 * at + axis], 0);
+/** How a message's arrow looks: colour and dashes by its kind, thick with data, thin and grey where it is of another line than the followed one. */
+function strokeOf({ kind, line }) {
+  const other = VIEW.line !== null && line !== VIEW.line, width = (HEAVY.has(kind) ? 3.4 : 2) * (other ? 0.6 : 1);
+  return `style="stroke:var(--${other ? 'other' : kind});stroke-width:${width};stroke-dasharray:var(--${kind}-dash)"`;
 }
 
-/** A place for a label on a curve that is off those before it, nearer to the sender first. Keeps it in their list. */
-function labelPlace(points, parts, width, height, placed) {
-  const places = parts.map((part) => ({ x: curveAt(points, part, 0), y: curveAt(points, part, 1), width, height }));
-  const apart = (a, b) => Math.abs(a.x - b.x) * 2 > a.width + b.width || Math.abs(a.y - b.y) * 2 > a.height + b.height;
-  const chosen = places.find((place) => placed.every((other) => apart(place, other))) ?? places[0];
-  placed.push(chosen);
-  return chosen;
+/** The arrow of a message over one wire, with a head where it arrives. */
+function drawArrow(message, to, lane) {
+  const head = message.to === to ? ' marker-end="url(#head)"' : '';
+  return `<path class="message" d="M${lane.x1} ${lane.y1}L${lane.x2} ${lane.y2}" ${strokeOf(message)}${head}/>`;
 }
 
-/** The names of a link's messages, the first one first, on its curve. */
-function drawNames(messages, points, placed) {
-  const names = messages.slice(0, 3).map((each) => ({ text: `${each.line === VIEW.line ? '▶' : ''}${each.kind} ${each.line}`, line: each.line }));
-  if (messages.length > 3) names.push({ text: `and ${messages.length - 3} more` });
-  const width = LETTER * Math.max(...names.map(({ text }) => text.length)) + 4, height = 15 * names.length;
-  const { x, y } = labelPlace(points, namesAlong(messages[0].from, messages[0].to), width, height, placed);
-  const paper = `<rect class="paper" x="${x - width / 2}" y="${y - height / 2}" width="${width}" height="${height}"/>`;
-  return paper + names.map(({ text, line }, at) => {
-    const pick = line === undefined ? '' : `data-line="${line}"`;
-    return svgText(x, y + 4 + (at - (names.length - 1) / 2) * 15, text, `pick${text[0] === '▶' ? ' bold' : ''}`, `text-anchor="middle" ${pick}`);
+/** A message of a node to itself, as a bow over its box. */
+function drawLoop(message) {
+  const { left, top } = placeOf(message.from);
+  return `<path class="message" d="M${left + 70} ${top}C${left + 70} ${top - 15} ${left + 92} ${top - 15} ${left + 92} ${top - 2}" ${strokeOf(message)} marker-end="url(#head)"/>`;
+}
+
+/** The names of messages, those of a kind and a line together. */
+function namesOf(messages) {
+  const counts = new Map();
+  for (const { kind, line } of messages.filter((each) => !IS_FAR || VIEW.line === null || each.line === VIEW.line)) {
+    const name = `${kind} ${line}`, { count } = counts.get(name) ?? { count: 0 };
+    counts.set(name, { kind, line, count: count + 1 });
+  }
+  const names = [...counts].map(([name, { kind, line, count }]) => {
+    const other = VIEW.line !== null && line !== VIEW.line;
+    return { text: `${line === VIEW.line ? '▶' : ''}${name}${count > 1 ? ` ×${count}` : ''}`, line, ink: other ? 'other' : kind };
+  });
+  const rest = names.length - MOST_NAMES;
+  return rest > 1 ? [...names.slice(0, MOST_NAMES), { text: `and ${rest} more` }] : names;
+}
+
+/** Texts in rows at a place: names of messages in their colours, on paper. */
+function drawNames(names, x, y, up, anchor) {
+  const step = IS_FAR ? 18 : 13, letter = IS_FAR ? 9.7 : LETTER;
+  return names.map(({ text, line, ink }, at) => {
+    const width = letter * text.length + 2, top = y + (up ? -at : at) * step, left = { start: x, middle: x - width / 2, end: x - width }[anchor];
+    const paper = `<rect class="paper" x="${left}" y="${top - step + 3}" width="${width}" height="${step}"/>`;
+    const pick = `style="text-anchor:${anchor}${ink ? `;fill:var(--${ink})` : ''}" ${line === undefined ? '' : `data-line="${line}"`}`;
+    return paper + svgText(x, top, text, `name${IS_FAR ? ' names' : ''}${line === undefined ? '' : ' pick'}${text[0] === '▶' ? ' bold' : ''}`, pick);
   }).join('');
 }
 
-/** A link that messages are on: its arrow, and their names. */
-function drawLink(messages, placed) {
-  const { from, to, kind } = messages[0];
-  const points = curveOf(from, to);
-  const followed = messages.some((each) => each.line === VIEW.line), other = VIEW.line !== null && !followed;
-  const width = other ? 1 : (kind === 'RDATA' || kind === 'WDATA' ? 3.2 : 1.4) + (followed ? 0.8 : 0);
-  const [x1, y1, x2, y2, x3, y3, x4, y4] = points;
-  const curve = `M${x1} ${y1}C${x2} ${y2} ${x3} ${y3} ${x4} ${y4}`;
-  const style = `style="stroke-width:${width}" stroke-dasharray="${DASHES[kind]}"`;
-  const arrow = `<path class="message${other ? ' other' : ''}" d="${curve}" ${style} marker-end="url(#head)"/>`;
-  return { arrow, names: other && NODES > MOST_LABELLED ? '' : drawNames(messages, points, placed) };
+/** A wire with the arrows that cross it, and as texts apart the names of the messages that begin on it and its load so far and in all. */
+function drawWire(from, to, messages, loads, most) {
+  const wire = `${from} ${to}`, sent = loads.get(wire) ?? 0, spacing = Math.min(7, 24 / Math.max(1, messages.length - 1));
+  const bare = laneOf(from, to, 0), width = 1 + (most ? 7 * sent / most : 0);
+  const line = `<path class="wire" d="M${bare.x1} ${bare.y1}L${bare.x2} ${bare.y2}" stroke-width="${width.toFixed(1)}"/>`;
+  const arrows = messages.map((message, at) => drawArrow(message, to, laneOf(from, to, at * spacing)));
+  const names = namesOf(messages.filter((each) => each.from === from));
+  if (!IS_FAR && BOX.across > 60) names.push({ text: RUN.loads ? `${sent} of ${TOTALS.get(wire) ?? 0}` : `${sent}`, ink: 'soft' });
+  const outer = laneOf(from, to, Math.max(0, messages.length - 1) * spacing + 7), { level, forward } = bare;
+  const rows = level ? drawNames(names, bare.middle, outer.y1 + (forward ? 0 : 10), forward, 'middle')
+    : drawNames(names, outer.x1, bare.middle + 4 - 6.5 * (names.length - 1), false, forward ? 'start' : 'end');
+  return { shafts: [line, ...arrows].join(''), names: rows };
 }
 
 const MARKER = 'viewBox="0 0 10 10" refX="9" refY="5" markerUnits="userSpaceOnUse" orient="auto"';
-const HEADS_OF_ARROWS = `<defs>
-<marker id="head" ${MARKER} markerWidth="11" markerHeight="11"><path d="M0 0L10 5L0 10z" fill="context-stroke"/></marker>
-<marker id="wire" ${MARKER} markerWidth="9" markerHeight="9"><path d="M0 1L10 5L0 9" fill="none" stroke="#777" stroke-width="1.5"/></marker>
-</defs>`;
+const HEADS_OF_ARROWS = `<defs><marker id="head" ${MARKER} markerWidth="12" markerHeight="12"><path d="M0 0L10 5L0 10z" fill="context-stroke"/></marker></defs>`;
 const TOTALS = new Map((RUN.loads ?? []).map(([from, to, count]) => [`${from} ${to}`, count]));
 
 /** The lines that are asked for, on their way or in a queue. */
@@ -213,15 +255,28 @@ function movingIn(state) {
   return new Set(found.map((each) => each.line));
 }
 
+/** How large the map is drawn: as it says, or so that the whole of it fits the window below what stands above it. */
+function scaleOf(size, width, height) {
+  if (size !== 'fit') return Number(size);
+  const room = Math.max(LEAST_HEIGHT, innerHeight - part('map').getBoundingClientRect().top - window.scrollY - 8), across = document.body.clientWidth - 24;
+  return Math.min(MOST_SCALE, across / width, room / height);
+}
+
 /** The map of a state. */
 function drawMap(state, frame, size) {
-  const { left, top, right, bottom } = BOX.edges, width = right - left, height = bottom - top;
-  const scaled = size === 'fit' ? 'width="100%"' : `width="${width * size}" height="${height * size}"`;
-  const most = Math.max(1, ...TOTALS.values(), ...frame.loads.values());
-  const wires = neighbours().map(([from, to]) => drawWire(from, to, frame.loads, most));
-  const placed = [], moving = movingIn(state), events = new Map(frame.events.map((event) => [Number(event.node), event]));
-  const links = [...state.links.values()].map((each) => drawLink(each, placed));
-  const boxes = state.nodes.map((node, number) => drawBox(node, number, events.get(number), moving));
-  const parts = [HEADS_OF_ARROWS, ...wires, ...boxes, ...links.map((link) => link.arrow), ...links.map((link) => link.names)];
+  const { left, top, right, bottom } = BOX.edges, width = right - left, height = bottom - top, scale = scaleOf(size, width, height);
+  const moving = movingIn(state), events = new Map(frame.events.map((event) => [Number(event.node), event])), boxes = boxesOf(state, events, moving);
+  BOX.places = boxes.map(({ place }) => place);
+  const most = Math.max(1, ...TOTALS.values(), ...frame.loads.values()), crossing = crossings(state);
+  const wires = neighbours().map(([from, to]) => drawWire(from, to, crossing.get(`${from} ${to}`) ?? [], frame.loads, most));
+  const own = [...state.links.values()].filter(([{ from, to }]) => from === to);
+  const loops = own.map((each) => {
+    const { left: x, top: y } = placeOf(each[0].from);
+    const [name, ...more] = namesOf(each), names = name ? [{ ...name, text: `${name.text}${more.length ? ` and ${more.length} more` : ''}` }] : [];
+    return { bow: drawLoop(each[0]), names: drawNames(names, x + 98, y - 4, true, 'start') };
+  });
+  const parts = [HEADS_OF_ARROWS, ...wires.map((wire) => wire.shafts), ...loops.map((loop) => loop.bow), ...boxes.map(drawBox),
+    ...wires.map((wire) => wire.names), ...loops.map((loop) => loop.names)];
+  const scaled = `width="${(width * scale).toFixed(1)}" height="${(height * scale).toFixed(1)}"`;
   return `<svg xmlns="http://www.w3.org/2000/svg" ${scaled} viewBox="${left} ${top} ${width} ${height}" aria-hidden="true">${parts.join('\n')}</svg>`;
 }

@@ -10,6 +10,22 @@ WORD = 4
 KINDS = ('first', 'other-word', 'same-word', 'read-only', 'evicted', 'replaced', 'BUSY', 'waits')
 
 
+def registers_at_start(context, contexts):
+    """The registers with which a context begins."""
+    registers = [0] * len(REGISTERS)
+    registers[OWN_NUMBER], registers[ALL_NUMBER] = context, contexts
+    return registers
+
+
+def address_in(statement, registers):
+    """The address that a statement loads or stores, or None of another one."""
+    match = ADDRESS.search(statement)
+    if not match:
+        return None
+    beyond = registers[REGISTERS.index(match[2])] if match[2] else int(match[3] or 0)
+    return (registers[REGISTERS.index(match[1])] + beyond) % (1 << 32)
+
+
 @dataclass
 class Asked:
     """What a node asked for of a line: the context, what for, the address, the stamp, and the stamp of its turn, or 0 where it hasn't had one."""
@@ -36,16 +52,12 @@ class Story:
     def values(self, context):
         """The registers of a context."""
         if context not in self.registers:
-            self.registers[context] = [0] * len(REGISTERS)
-            self.registers[context][OWN_NUMBER] = context
-            self.registers[context][ALL_NUMBER] = self.head.nodes() * self.head.contexts
+            self.registers[context] = registers_at_start(context, self.head.nodes() * self.head.contexts)
         return self.registers[context]
 
     def reached(self, event):
-        """The address of a turn's access, which its statement and the registers say."""
-        match, values = ADDRESS.search(event.said['statement']), self.values(self.context(event))
-        beyond = values[REGISTERS.index(match[2])] if match[2] else int(match[3] or 0)
-        return (values[REGISTERS.index(match[1])] + beyond) % (1 << 32)
+        """The address of a turn's access, which its statement and the registers say; None of a turn without one."""
+        return address_in(event.said['statement'], self.values(self.context(event)))
 
     def take(self, event):
         """Takes an event. Of a miss the answer is why, and of INV what for, as a text."""

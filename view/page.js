@@ -63,6 +63,8 @@ function showControls(frame) {
   part('size').value = VIEW.size;
   const changes = VIEW.line === null ? [] : changesOf(VIEW.line);
   const disabled = { first: VIEW.at === 0, back: VIEW.at === 0, next: VIEW.at === LAST, last: VIEW.at === LAST };
+  disabled.quieter = !BUSY_FRAMES.some((at) => at < VIEW.at);
+  disabled.busier = !BUSY_FRAMES.some((at) => at > VIEW.at);
   disabled.before = !changes.some((at) => at < VIEW.at);
   disabled.after = !changes.some((at) => at > VIEW.at);
   for (const [name, value] of Object.entries(disabled)) part(name).setAttribute('aria-disabled', value);
@@ -99,13 +101,13 @@ function show() {
   showNow(frame);
   showControls(frame);
   part('map').classList.toggle('fit', VIEW.size === 'fit');
-  part('map').style.flexBasis = VIEW.size === 'fit' ? `${BOX.edges.right - BOX.edges.left}px` : 'auto';
   part('map').innerHTML = drawMap(state, frame, VIEW.size);
   part('counts').innerHTML = drawCounts(VIEW.at, VIEW.line);
   part('tables').innerHTML = drawTables(state, frame, before);
   part('text').textContent = frame.lines.map(({ text }) => text).join('\n') + '\n';
   part('prints').innerHTML = drawPrints(frame.stamp);
   showHistory();
+  showMark();
   scrollParts();
   if (focused && !document.activeElement?.closest('button')) focused()?.focus({ preventScroll: true });
   writeAddress();
@@ -149,7 +151,7 @@ function followLine(line) {
 
 const KEYS = {
   ArrowLeft: () => go(VIEW.at - 1), ArrowRight: () => go(VIEW.at + 1), '[': () => go(VIEW.at - 10), ']': () => go(VIEW.at + 10),
-  n: () => goToChange(true), p: () => goToChange(false), f: () => part('follow').focus(),
+  ',': () => goToBusy(false), '.': () => goToBusy(true), n: () => goToChange(true), p: () => goToChange(false), f: () => part('follow').focus(),
 };
 
 /** Does what a key says. Lists, the slider and parts that scroll keep the keys that move in them. */
@@ -174,7 +176,12 @@ function tie() {
   part('slider').max = LAST;
   part('slider').addEventListener('input', () => go(Number(part('slider').value)));
   const places = { first: () => go(0), back: () => go(VIEW.at - 1), next: () => go(VIEW.at + 1), last: () => go(LAST) };
-  const buttons = { ...places, before: () => goToChange(false), after: () => goToChange(true) };
+  part('strip').innerHTML = drawStrip();
+  for (const name of ['pointerdown', 'pointermove']) part('strip').addEventListener(name, pointAt);
+  part('strip').addEventListener('click', pointAt);
+  part('strip-names').innerHTML = drawStripNames();
+  part('kinds').innerHTML = drawKinds();
+  const buttons = { ...places, quieter: () => goToBusy(false), busier: () => goToBusy(true), before: () => goToChange(false), after: () => goToChange(true) };
   for (const [name, action] of Object.entries(buttons)) part(name).addEventListener('click', action);
   part('follow').innerHTML = '<option value="">none</option>' + LINES.map((line) => `<option value="${line}">${escaped(lineName(line))}</option>`).join('');
   part('follow').addEventListener('change', () => followLine(part('follow').value === '' ? null : Number(part('follow').value)));
@@ -183,6 +190,16 @@ function tie() {
   document.addEventListener('click', click);
   window.addEventListener('hashchange', () => { readAddress(); show(); });
   window.addEventListener('resize', () => { measure(); show(); });
+}
+
+/** The kinds of messages with their strokes, and the states of copies and entries with their colours. */
+function drawKinds() {
+  const kinds = ['RREQ', 'RDATA', 'WREQ', 'WDATA', 'INV', 'ACKC', 'UPDATE', 'REPM', 'BUSY'].map((kind) => {
+    const stroke = `style="stroke:var(--${kind});stroke-width:${HEAVY.has(kind) ? 3.4 : 2};stroke-dasharray:var(--${kind}-dash)"`;
+    return `<span class="pair"><svg width="40" height="10"><path d="M0 5h40" ${stroke}/></svg> <b style="color:var(--${kind})">${kind}</b></span>`;
+  });
+  const states = ['read', 'write', 'RO', 'RW', 'RT', 'WT'].map((name) => `<span class="tint" style="background:var(--${name})">${name}</span>`);
+  return [...kinds, ...states].join(' ');
 }
 
 /** A number of things, in words. */
@@ -202,6 +219,7 @@ function begin() {
   part('about').textContent = `Mesh ${WIDTH} by ${HEIGHT}, ${node}, ${numbered(pointers, 'hardware pointer')}, ${sets} sets, limit ${limit}; `
     + `${numbered(RUN.entries, 'event')}, ${numbered(LAST + 1, 'frame')}${begin}${end}.`;
   measure();
+  VIEW.at = INDEX.first ?? 0;
   readAddress();
   tie();
   show();

@@ -12,6 +12,7 @@ from importlib.util import module_from_spec, spec_from_loader
 from pathlib import Path
 from xml.dom import minidom
 
+import colours
 import cross
 import frames
 import machine
@@ -46,11 +47,57 @@ keep('named', [...document.querySelectorAll('button, select, input')].every((eac
 go(LAST); key('ArrowLeft'); go(3); keep('back', part('text').textContent === document.querySelectorAll('.kept')[3].textContent);
 const within = ({ x, y, width, height }, { left, top, right, bottom }) => x >= left - 1 && x + width <= right + 1 && y >= top - 1 && y + height <= bottom + 1;
 const drawn = () => [...document.querySelectorAll('#map text, #map path.message')].every((each) => within(each.getBBox(), BOX.edges));
-const boxed = () => [...document.querySelectorAll('#map text[textLength], #map text.pick')].every((each) => each.getBBox().width <= BOX.width + 1);
+const boxed = () => [...document.querySelectorAll('#map text[textLength], #map text.pick')].every((each) => each.getBBox().width <= BOX.large + 1);
 const fits = () => document.documentElement.scrollWidth <= innerWidth && part('map').scrollWidth <= part('map').clientWidth + 1 && drawn() && boxed();
 const all = [];
 for (let at = 0; at <= LAST; at += 1) { go(at); all.push(fits()); }
 keep('fits', all.every(Boolean));
+go(0); key('.'); keep('busier', VIEW.at === BUSY_FRAMES[0]); key('.'); key(','); keep('quieter', VIEW.at === BUSY_FRAMES[0]);
+const strip = part('strip').getBoundingClientRect();
+part('strip').dispatchEvent(new MouseEvent('click', { bubbles: true, clientX: strip.left + strip.width * 0.999 })); keep('pointed', VIEW.at === LAST);
+</script>
+'''
+LOOK = '''<script>
+const keep = (name, value) => { document.body.dataset[name] = JSON.stringify(value); };
+const parts = (colour) => colour.match(/[0-9.]+/g).map(Number);
+const linear = (part) => (part / 255 <= 0.03928 ? part / 255 / 12.92 : ((part / 255 + 0.055) / 1.055) ** 2.4);
+const lightness = (colour) => parts(colour).slice(0, 3).map(linear)
+  .reduce((sum, part, at) => sum + part * [0.2126, 0.7152, 0.0722][at], 0);
+const contrast = (one, two) => { const [low, high] = [lightness(one), lightness(two)].sort((a, b) => a - b); return (high + 0.05) / (low + 0.05); };
+const style = (each) => getComputedStyle(each);
+const PAPER = 'rgb(255, 255, 255)';
+function ground(each) {
+  for (let at = each; at; at = at.parentElement) if ((parts(style(at).backgroundColor)[3] ?? 1) > 0) return style(at).backgroundColor;
+  return PAPER;
+}
+const spans = (begin, size, place) => begin <= place && place <= begin + size;
+const holds = ({ x, y, width, height }, other) => spans(x, width, other.x + other.width / 2) && spans(y, height, other.y + other.height / 2);
+const shapes = () => [...document.querySelectorAll('#map rect:not(.edge), #map text')];
+function below(text, all) {
+  const box = text.getBBox(), rect = all.slice(0, all.indexOf(text)).findLast((each) => each.tagName === 'rect' && holds(each.getBBox(), box));
+  return rect ? style(rect).fill : PAPER;
+}
+const own = (each) => [...each.childNodes].some((child) => child.nodeType === 3 && child.textContent.trim()) && each.checkVisibility();
+const words = () => [...document.querySelectorAll('body *:not(script):not(svg *)')].filter(own).map((each) => contrast(style(each).color, ground(each)));
+const drawn = () => { const all = shapes(); return all.filter((each) => each.tagName === 'text' && each.textContent.trim()).map((each) => contrast(style(each).fill, below(each, all))); };
+const within = ({ x, y, width, height }, { left, top, right, bottom }) => x > left - 1 && x + width < right + 1 && y > top - 1 && y + height < bottom + 1;
+const inside = () => [...document.querySelectorAll('#map text, #map path.message, #map .edge')].every((each) => within(each.getBBox(), BOX.edges));
+const least = [], small = [], over = [];
+keep('opened', [VIEW.at, RUN.frames.findIndex(([, events]) => events.some((event) => event.includes(' sends ')))]);
+document.querySelector('details:last-of-type').open = true;
+for (let at = 0; at <= LAST; at += STEP_BY) {
+  go(at);
+  if (at % 3 === 0) followLine(LINES[at % LINES.length]);
+  least.push(...words(), ...drawn());
+  const moved = new Set(frameAt(at).events.filter(moves).map((event) => Number(event.node)));
+  const areas = [...document.querySelectorAll('#map .edge')].map((each) => each.getBBox()).map(({ width }, node) => [moved.has(node), width]);
+  small.push(inside() && areas.every(([large, width]) => large === (width === BOX.large)));
+  const map = document.querySelector('#map svg').getBoundingClientRect();
+  over.push(map.bottom + scrollY - innerHeight);
+}
+keep('least', Math.min(...least)); keep('small', small.every(Boolean)); keep('over', Math.max(...over)); keep('nodes', NODES);
+keep('wide', document.documentElement.scrollWidth - innerWidth);
+keep('band', document.querySelector('#map svg').getBoundingClientRect().top - part('events').getBoundingClientRect().bottom + BOX.margin);
 </script>
 '''
 
@@ -221,6 +268,23 @@ def prints_are_listed(trial):
     expect(all(any(f' prints x{int(word, 16):x}' in event for event in at[stamp]) for stamp, _, word in data['prints']), 'a stamp of a print')
 
 
+def line_of(drawn):
+    """The line that a picture follows."""
+    return int(re.search('<desc>.* line ([0-9]+)</desc>', drawn)[1])
+
+
+def colours_are_readable(trial):
+    """Letters in the colours of kinds and on those of copies and states have the contrast that WCAG wants, and in grey copies and the strokes of kinds differ"""
+    expect(colours.contrast('#ffffff', '#000000') == 21 and round(colours.contrast('#ffffff', '#767676'), 2) == 4.54, 'the contrast of black and of grey')
+    for name, colour in {**colours.KINDS, 'other': colours.OTHER}.items():
+        expect(colours.contrast(colour, colours.PAPER) >= colours.LEAST, f'{name} on paper')
+    for name, colour in {**colours.COPIES, **colours.STATES}.items():
+        expect(colours.contrast(colour, colours.INK) >= colours.LEAST, f'ink on {name}')
+    expect(colours.contrast(*colours.COPIES.values()) > 1.4, 'copies in grey')
+    strokes = {(colours.DASHES[kind], kind in colours.HEAVY) for kind in colours.KINDS}
+    expect(len(strokes) == len(colours.KINDS), f'kinds in grey: {strokes}')
+
+
 def pictures_show_frames(trial):
     """A picture of a frame has each node, each message on its way, and the load of each wire, of the line that is followed or of most messages"""
     for name, stamp, words in (('spill', 12, ()), ('lock', 31, ('--line', '0')), ('two_writers', 9, ())):
@@ -232,9 +296,18 @@ def pictures_show_frames(trial):
         expect([text for text in texts if text.startswith('node ')] == [f'node {at}' for at in range(len(nodes))], f'{name}: the nodes')
         expect(sum(int(text.split()[0]) for text in texts if re.match('[0-9]+ [A-Z]', text)) == len(messages), f'{name}: the messages')
         expect(drawn.count('z" fill=') == len(messages) > 0, f'{name}: the heads of the arrows')
+        inks = {match[1] for match in re.finditer('<path [^>]*stroke="(#[0-9a-f]{6})"', drawn)}
+        expect(inks == {colours.KINDS[each.kind] if each.line == line_of(drawn) else colours.OTHER for each in messages}, f'{name}: colours {inks}')
         loads = [load for _, _, load in data_in(trial.page(name))['loads'] or ()]
         told = [int(text) for text in texts if text.isdecimal()]
         expect(sorted(filter(None, told)) == sorted(loads), f'{name}: the loads')
+    log = trial.program(['replay', '--write', 'log'], (trial.folder / 'lock.trace').read_bytes(), RAN).decode()
+    for words, form in (('first INV', ' sends INV 0 '), ('last INV', ' sends INV 0 '), ('first miss', ' misses 0 '), ('last print', ' prints ')):
+        found = [line.split()[0] for line in log.splitlines() if form in line]
+        status, drawn, said = trial.view('lock.trace', '--svg', words, '--line', '0')
+        wanted = found and found[0 if words.startswith('first') else -1]
+        expect(re.findall(' stamp ([0-9]+), line 0</desc>', drawn) == ([wanted] if found else []), f'{words}: {said}, and the log has {wanted}')
+    trial.refused('there is no print in this run', 'lock.trace', '--svg', 'last print', '--line', '0')
     trial.refused('no entry has a stamp from 900 to 900', 'lock.trace', '--svg', '900')
     trial.refused('there is no line 4: the last one is 3', 'lock.trace', '--svg', '31', '--line', '4')
 
@@ -255,11 +328,11 @@ def shown_picture_is_drawn(trial):
     expect(status == 0 and drawn == shown, f'{SHOWN.name} differs. {said}')
 
 
-def browse(browser, folder, page, width):
-    """What a browser makes of a page in a window of some width, and what it says in its console."""
+def browse(browser, folder, page, width, height=900, at='#stamp=3'):
+    """What a browser makes of a page in a window of some size, and what it says in its console."""
     path = folder / 'visit.html'
     path.write_text(page)
-    words = [*QUIET, f'--window-size={width},900', f'--user-data-dir={folder}/browser', '--dump-dom', f'file://{path}#stamp=3']
+    words = [*QUIET, f'--window-size={width},{height}', f'--user-data-dir={folder}/browser', '--dump-dom', f'file://{path}{at}']
     try:
         ran = subprocess.run([browser, *words], capture_output=True, text=True, timeout=60)
     except subprocess.TimeoutExpired as fault:
@@ -269,11 +342,43 @@ def browse(browser, folder, page, width):
     return ran.stdout, [line for line in ran.stderr.split('\n') if 'CONSOLE' in line]
 
 
-def browsers_show_it(trial):
-    """In a browser each frame is the saved state and fits windows of 390 to 1920 pixels, keys step, a line is followed, and loads come to what route says"""
+def browser_here():
+    """A browser that is here."""
     browser = next(filter(None, map(shutil.which, BROWSERS)), None)
     if not browser:
         raise LeftOut('there is no Chromium')
+    return browser
+
+
+def marks_in(shown):
+    """What a visit to a page has kept of it."""
+    marks = re.findall(r' data-(\w+)="([^"]*)"', shown.partition('<body')[2].partition('>')[0])
+    return {each: json.loads(html.unescape(text)) for each, text in marks if each != 'shown'}
+
+
+def pages_are_readable(trial):
+    """Pages of 4, 16 and 64 nodes open at the first message, fit windows of 390 to 1920 pixels, and have large boxes for what moved and letters that WCAG reads"""
+    browser = browser_here()
+    for side, most in ((2, 40), (4, 90), (8, 30)):
+        image = trial.program(['gen', '--seed', '7', '--width', str(side), '--height', str(side), '--size', '12'], b'')
+        trial.keep('mesh.trace', trial.program(['run', '--pointers', '1', '--write', 'trace'], image))
+        status, page, line = trial.view('mesh.trace', '--to', str(most))
+        expect(status == 0, line)
+        page = page.replace('</body>', LOOK.replace('STEP_BY', str(most // 10)) + '</body>')
+        for width, height in ((390, 844), (1280, 900), (1920, 1080)):
+            shown, console = browse(browser, trial.folder, page, width, height, '')
+            said = marks_in(shown)
+            expect(not console and len(said) == 7, f'{side * side} nodes, {width}: {console[:1]}, {said}')
+            first, found = said.pop('opened')
+            reads = said['least'] >= colours.LEAST and said['small'] and said['wide'] <= 0
+            expect(first == found and reads, f'{side * side} nodes, {width}: {said}, opened at {first}')
+            expect(said['over'] <= 0 or width == 390, f'{side * side} nodes, {width}: the map is {said["over"]} pixels too high')
+            expect(said['band'] < 40, f'{side * side} nodes, {width}: {said["band"]} pixels are empty above the map')
+
+
+def browsers_show_it(trial):
+    """In a browser each frame is the saved state and fits windows of 390 to 1920 pixels, keys step, a line is followed, and loads come to what route says"""
+    browser = browser_here()
     for name, width in (('spill', 390), ('two_writers', 800), ('lock', 1280), ('lock', 1920)):
         page = trial.page(name)
         shown, console = browse(browser, trial.folder, page.replace('</body>', VISIT + '</body>'), width)
@@ -281,15 +386,14 @@ def browsers_show_it(trial):
         expect('data-shown="yes"' in shown and '<p id="fault" role="alert" hidden="">' in shown, f'{name}: the page failed')
         kept = [html.unescape(text) for text in re.findall(r'<pre class="kept">(.*?)</pre>', shown, re.S)]
         expect(kept == trial.states(name)[1], f'{name}: a frame differs from what was saved')
-        marks = re.findall(r' data-(\w+)="([^"]*)"', shown.partition('<body')[2].partition('>')[0])
-        said = {each: json.loads(html.unescape(text)) for each, text in marks if each != 'shown'}
+        said = marks_in(shown)
         loads = said.pop('loads')
-        expect(said == {'counts': True, 'stepped': 11, 'line': 0, 'changed': True, 'ended': True, 'focus': '0', 'named': True, 'back': True, 'fits': True},
-               f'{name}: {said}')
+        expect(said == {'counts': True, 'stepped': 11, 'line': 0, 'changed': True, 'ended': True, 'focus': '0', 'named': True, 'back': True, 'fits': True,
+                        'busier': True, 'quieter': True, 'pointed': True}, f'{name}: {said}')
         told = data_in(page)['loads']
         expect(told is None if name == 'spill' else loads == told, f'{name}: loads {loads}, and route says {told}')
 
 
 TRIALS = (frames_are_states, drawn_runs_have_their_states, pages_stand_alone, parts_are_chosen, traces_come_by_a_pipe, refusals_are_named,
-          logs_are_compared, long_pages_end, sources_are_shown, events_are_told, prints_are_listed, pictures_show_frames, shown_picture_is_drawn,
-          browsers_show_it)
+          logs_are_compared, long_pages_end, sources_are_shown, events_are_told, prints_are_listed, colours_are_readable, pictures_show_frames, shown_picture_is_drawn,
+          browsers_show_it, pages_are_readable)

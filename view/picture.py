@@ -3,22 +3,21 @@ from collections import Counter
 from dataclasses import dataclass, field
 from html import escape
 
+import colours
 import frames
 from alewife import digest_of
 
-WIDE, ROW, ACROSS, DOWN, MARGIN = 182, 14, 52, 32, 14
-LETTERS, LETTER = 26, 6.6
-DASHES = {'RREQ': '1 3', 'WREQ': '3 2', 'ACKC': '8 3', 'UPDATE': '8 3', 'REPM': '8 3', 'BUSY': '8 2 1 2'}
-EVENTS = {'I': 'runs', 'D': 'receives', 'H': 'handler', 'E': 'evicts'}
-HEAVY = {'RDATA', 'WDATA'}
+WIDE, ROW, ACROSS, DOWN, MARGIN = 200, 18, 50, 40, 18
+SIZE, LETTERS, LETTER = 14, 22, 8.5
+EVENTS = {'I': 'runs', 'D': 'takes', 'H': 'handler', 'E': 'evicts'}
 
 
 @dataclass
 class Node:
-    """What a node's box says: the status of its contexts, its rows, and whether it has a copy of the followed line."""
+    """What a node's box says: the status of its contexts, its rows, and the mode of its copy of the followed line."""
     statuses: list = field(default_factory=list)
     rows: list = field(default_factory=list)
-    has_copy: bool = False
+    copy: str = ''
 
 
 @dataclass(frozen=True)
@@ -42,9 +41,9 @@ class Mesh:
         return MARGIN + node % self.width * (WIDE + ACROSS), MARGIN + 12 + node // self.width * (self.tall + DOWN)
 
     def size(self):
-        """The width and height of the picture, with a line of text below."""
+        """The width and height of the picture without the text below."""
         left, top = self.corner(self.width * self.height - 1)
-        return left + WIDE + MARGIN, top + self.tall + MARGIN + 26
+        return left + WIDE + MARGIN, top + self.tall + MARGIN
 
     def wires(self):
         """All wires, each from a node to a neighbour."""
@@ -77,23 +76,23 @@ class Mesh:
 # ---- what a state says of a line
 
 
-def home_row(words):
-    """A home's row: its state, its hardware pointers, its software set, and how many answers are due. Long sets are counted."""
+def home_rows(words):
+    """A home's rows: its state and how many answers are due; its hardware pointers and its software set. Long sets are counted."""
     due = f' n {words[9]}' if words[9] != '0' else ''
-    row = f'home {words[2]} H {words[5]} S {words[7]}{due}'
-    if len(row) <= LETTERS:
-        return row
-    counts = [0 if words[at] == '-' else len(words[at].split(',')) for at in (5, 7)]
-    return f'home {words[2]} {counts[0]} in H {counts[1]} in S{due}'
+    row = f'H {words[5]} S {words[7]}'
+    if len(row) > LETTERS:
+        counts = [0 if words[at] == '-' else len(words[at].split(',')) for at in (5, 7)]
+        row = f'{counts[0]} in H {counts[1]} in S'
+    return [f'home {words[2]}{due}', f' {row}']
 
 
-def row_of(words):
-    """The row of a node's box for a line of its state."""
+def rows_of(words):
+    """The rows of a node's box for a line of its state."""
     if words[0] == 'home':
-        return home_row(words)
+        return home_rows(words)
     if words[0] == 'packet':
-        return f'queue {words[1]} from {words[3]}'
-    return f'asks {words[2]}' if words[0] == 'pending' else f'cache {words[3]}'
+        return [f'queue {words[1]} from {words[3]}']
+    return [f'asks {words[2]}' if words[0] == 'pending' else f'cache {words[3]}']
 
 
 def read_state(lines, line):
@@ -107,8 +106,8 @@ def read_state(lines, line):
         elif words[0] == 'context':
             nodes[-1].statuses.append(words[2])
         elif int(words[frames.LINE_AT[words[0]]]) == line:
-            nodes[-1].rows.append(row_of(words))
-            nodes[-1].has_copy |= words[0] == 'cache'
+            nodes[-1].rows += rows_of(words)
+            nodes[-1].copy = words[3] if words[0] == 'cache' else nodes[-1].copy
     return nodes, messages
 
 
@@ -133,16 +132,18 @@ def cut(what, most):
 
 
 def box(mesh, number, node, event):
-    """A node's box: its number and statuses, in white on black with its event where it has one, and its rows. A box with a copy has a thick edge."""
+    """A node's box: its number and statuses, in white on black with its event where it has one, and its rows. A box with a copy has a thick edge and
+    the colour of its mode."""
     left, top = mesh.corner(number)
     ink, name = ' fill="#fff"' if event else '', f'node {number}'
     room = LETTERS - len(name) - 1 - (len(event) + 1 if event else 0)
-    parts = [f'<rect x="{left}" y="{top}" width="{WIDE}" height="{mesh.tall}" fill="#fff" stroke="#000" stroke-width="{2.5 if node.has_copy else 1}"/>',
-             f'<rect x="{left}" y="{top}" width="{WIDE}" height="{ROW + 4}" fill="#000"/>' if event else '',
-             text(left + 6, top + ROW - 1, name, f' font-weight="bold"{ink}'),
-             text(left + 6 + LETTER * (len(name) + 1), top + ROW - 1, event, ink) if event else '',
-             text(left + WIDE - 6, top + ROW - 1, cut(' '.join(node.statuses), room), f' text-anchor="end"{ink}')]
-    return ''.join(parts) + ''.join(text(left + 6, top + (at + 2) * ROW + 3, cut(row, LETTERS)) for at, row in enumerate(node.rows))
+    parts = [f'<rect x="{left}" y="{top}" width="{WIDE}" height="{mesh.tall}" fill="{colours.COPIES.get(node.copy, colours.PAPER)}" '
+             f'stroke="#000" stroke-width="{3 if node.copy else 1}"/>',
+             f'<rect x="{left}" y="{top}" width="{WIDE}" height="{ROW + 3}" fill="#000"/>' if event else '',
+             text(left + 6, top + ROW - 3, name, f' font-weight="bold"{ink}'),
+             text(left + 6 + LETTER * (len(name) + 1), top + ROW - 3, event, ink) if event else '',
+             text(left + WIDE - 6, top + ROW - 3, cut(' '.join(node.statuses), room), f' text-anchor="end"{ink}')]
+    return ''.join(parts) + ''.join(text(left + 6, top + (at + 2) * ROW + 1, cut(row, LETTERS)) for at, row in enumerate(node.rows))
 
 
 def wire(mesh, ends, totals):
@@ -154,20 +155,20 @@ def wire(mesh, ends, totals):
         return drawn
     if y1 == y2:
         _, top = mesh.corner(ends[0])
-        return drawn + text((x1 + x2) / 2, top - 3 if forward else top + mesh.tall + 11, str(load), ' text-anchor="middle"')
-    return drawn + text(x1 + (24 if forward else -24), (y1 + y2) / 2 + 4, str(load), '' if forward else ' text-anchor="end"')
+        return drawn + text((x1 + x2) / 2, top - 4 if forward else top + mesh.tall + 14, str(load), ' text-anchor="middle"')
+    return drawn + text(x1 + (24 if forward else -24), (y1 + y2) / 2 + 5, str(load), '' if forward else ' text-anchor="end"')
 
 
 def style(kind, is_other):
-    """The colour and the stroke of a message's arrow: dashes by its kind, thick with data, grey where it is of another line than the followed."""
-    dash, colour = DASHES.get(kind), '#888' if is_other else '#000'
+    """The colour and the stroke of a message's arrow: colour and dashes by its kind, thick with data, thin and grey where it is of another line."""
+    dash, colour = colours.DASHES[kind], colours.OTHER if is_other else colours.KINDS[kind]
     dashes = f' stroke-dasharray="{dash}"' if dash else ''
-    return colour, f'stroke="{colour}" stroke-width="{2.4 if kind in HEAVY else 1.2}"{dashes}'
+    return colour, f'stroke="{colour}" stroke-width="{(3.4 if kind in colours.HEAVY else 2) - 0.8 * is_other:g}"{dashes}'
 
 
 def head(x, y, right, down, colour):
     """The head of an arrow that ends at a place in a direction."""
-    back, aside = (x - 8 * right, y - 8 * down), (3.2 * down, 3.2 * right)
+    back, aside = (x - 10 * right, y - 10 * down), (4.4 * down, 4.4 * right)
     points = f'{x:g} {y:g} {back[0] + aside[0]:g} {back[1] + aside[1]:g} {back[0] - aside[0]:g} {back[1] - aside[1]:g}'
     return f'<path d="M{points}z" fill="{colour}"/>'
 
@@ -175,7 +176,7 @@ def head(x, y, right, down, colour):
 def arrow(x1, y1, x2, y2, message, arrives, line):
     """The arrow of a message over one wire, with a head where it arrives."""
     colour, drawn = style(message.kind, message.line != line)
-    right, down, short = (x2 > x1) - (x2 < x1), (y2 > y1) - (y2 < y1), 7 if arrives else 0
+    right, down, short = (x2 > x1) - (x2 < x1), (y2 > y1) - (y2 < y1), 9 if arrives else 0
     shaft = f'<path d="M{x1:g} {y1:g}L{x2 - short * right:g} {y2 - short * down:g}" {drawn}/>'
     return shaft + (head(x2, y2, right, down, colour) if arrives else '')
 
@@ -183,7 +184,7 @@ def arrow(x1, y1, x2, y2, message, arrives, line):
 def arrows(mesh, ends, messages, line):
     """The messages that cross a wire, side by side, those that arrive first."""
     _, y1, _, y2 = mesh.lane(ends, 0)
-    apart = min(6, (mesh.tall * 0.46 if y1 == y2 else 36) / len(messages))
+    apart = min(8, (mesh.tall * 0.46 if y1 == y2 else 36) / len(messages))
     for at, message in enumerate(sorted(messages, key=lambda each: (each.receiver != ends[1], each.receiver))):
         place = mesh.lane(ends, (at - (len(messages) - 1) / 2) * apart)
         yield arrow(*place, message, message.receiver == ends[1], line)
@@ -192,21 +193,25 @@ def arrows(mesh, ends, messages, line):
 def loop(mesh, message, line, place):
     """A message of a node to itself, as a bow over its box."""
     left, top = mesh.corner(message.sender)
-    x, (colour, drawn) = left + 82 + 7 * place, style(message.kind, message.line != line)
+    x, (colour, drawn) = left + 82 + 9 * place, style(message.kind, message.line != line)
     return f'<path d="M{x} {top}C{x} {top - 16} {x + 16} {top - 16} {x + 16} {top - 7}" {drawn}/>' + head(x + 16, top, 0, 1, colour)
 
 
-def legend(y, stamp, messages, line):
-    """What is on its way, with the stroke of each kind, and how wide that is."""
+def legend(width, top, stamp, messages, line):
+    """What is on its way, with the stroke of each kind, in rows of a width below a place, and where they end."""
     said = f'line {line} at stamp {stamp}; ' + ('on their way:' if messages else 'nothing is on its way')
-    parts, x = [text(MARGIN, y, said)], MARGIN + LETTER * (len(said) + 2)
+    x, y = MARGIN + LETTER * (len(said) + 2), top + ROW
+    parts = [text(MARGIN, y, said)]
     counts = Counter((each.line != line, each.kind) for each in messages)
     for (is_other, kind), count in sorted(counts.items()):
         name = f'{count} {kind}' + (' of other lines' if is_other else '')
-        _, drawn = style(kind, is_other)
-        parts += [f'<path d="M{x:g} {y - 4}h34" {drawn}/>', text(x + 40, y, name)]
-        x += 40 + LETTER * (len(name) + 2)
-    return ''.join(parts), round(x)
+        across = 46 + LETTER * (len(name) + 2)
+        if x + across > width:
+            x, y = MARGIN, y + ROW + 2
+        colour, drawn = style(kind, is_other)
+        parts += [f'<path d="M{x:g} {y - 5}h38" {drawn}/>', text(x + 46, y, name, f' fill="{colour}"')]
+        x += across
+    return ''.join(parts), y + MARGIN
 
 
 def crossings(mesh, messages):
@@ -239,10 +244,10 @@ def picture(run, state, stamp, loads, line):
     mesh = Mesh(*frames.start_of(run.image)['mesh'], ROW * (max(rows, 2) + 1) + 10)
     totals = {(sender, receiver): load for sender, receiver, load in loads or ()}
     width, height = mesh.size()
-    told, needed = legend(height - 12, stamp, messages, line)
-    width = max(width, needed)
+    width = max(width, MARGIN + round(LETTER * 48))
+    told, height = legend(width, height, stamp, messages, line)
     parts = [f'<svg xmlns="http://www.w3.org/2000/svg" width="{width}" height="{height}" viewBox="0 0 {width} {height}" '
-             'font-family="monospace" font-size="11" fill="none">',
+             f'font-family="monospace" font-size="{SIZE}" fill="none">',
              f'<desc>image {digest_of(run.image)}, stamp {stamp}, line {line}</desc>',
              f'<rect width="{width}" height="{height}" fill="#fff"/>']
     parts += [wire(mesh, ends, totals) for ends in mesh.wires()]

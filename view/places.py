@@ -17,7 +17,7 @@ ASKED_AT_ONCE = 4096
 
 class Places:
     """Where code is in the source, by address, and what lies in shared data. The words of the code are None where they aren't known."""
-    words, places, symbols, end = None, {}, (), 0
+    words, places, symbols, end, stacks = None, {}, (), 0, (0, 0, 0)
 
     def place(self, address):
         """The place of an address of code behind two blanks, or nothing."""
@@ -41,8 +41,11 @@ class Linked(Places):
             self.words = words_of(cross.section(elf, '.text', folder))
         addresses = [f'0x{WORD * at:08x}' for at in range(len(self.words))]
         parts = (addresses[at:at + ASKED_AT_ONCE] for at in range(0, len(addresses), ASKED_AT_ONCE))
-        self.places = {int(address, 16): place for part in parts for address, place in cross.places_of(elf, part).items()}
+        placed = {int(address, 16): place for part in parts for address, place in cross.places_of(elf, part).items()}
+        asserted = {address: f': {text}' for address, (_, text) in cross.assertions_of(elf).items()}
+        self.places = {address: f'{place}{asserted.get(address, "")}' for address, place in placed.items()}
         self.symbols, self.end = statements.variables_of(elf)
+        self.stacks = statements.stacks_of(elf)
 
 
 class Listed(Places):

@@ -28,7 +28,9 @@ MOST_TOLD = 4
 
 
 class Code:
-    """The code of an image. Its statements are words in hexadecimal."""
+    """The code of an image. Its statements are words in hexadecimal. Of a linked program in C the assertions are known by the addresses of their traps,
+    each as its place and its text."""
+    assertions = {}
 
     def __init__(self, image):
         self.words = [word for word, in struct.iter_unpack('>I', image.code)]
@@ -44,6 +46,10 @@ class Code:
     def shown(self, _):
         """The statements at addresses, and their places in the source, by address: no one knows."""
         return {}
+
+    def asserted(self, address):
+        """The assertion that traps at an address, as a text behind a colon, or nothing."""
+        return f': {self.assertions[address][1]}' if address in self.assertions else ''
 
     def name(self, _):
         """What lies at an address of shared data: no one knows."""
@@ -67,30 +73,33 @@ class Linked(Code):
             if cross.section(elf, '.text', folder) != image.code:
                 raise ViewError(f"{elf} isn't the program of this trace: its code is another")
         self.symbols, self.end = variables_of(elf)
-        self.stacks_end, self.stack_size = stacks_of(elf)
+        self.assertions = cross.assertions_of(elf)
+        self.stacks = stacks_of(elf)
 
     def statement(self, address):
         if self.word(address) is None:
             return super().statement(address)
         words = ['sparc64-linux-gnu-objdump', '-d', '--no-show-raw-insn', f'--start-address={address}', f'--stop-address={address + WORD}', self.elf]
         text = ' '.join(DISASSEMBLED.search(cross.called(words))[2].split('!')[0].split())
-        return f'{text}  {cross.places_of(self.elf, [f"0x{address:08x}"])[f"0x{address:08x}"]}'
+        return f'{text}  {cross.places_of(self.elf, [f"0x{address:08x}"])[f"0x{address:08x}"]}{self.asserted(address)}'
 
     def shown(self, addresses):
         placed = cross.places_of(self.elf, [f'0x{address:08x}' for address in addresses])
         texts = disassembled(self.elf)
-        return {address: (texts.get(address, ''), placed.get(f'0x{address:08x}', '')) for address in addresses}
+        return {address: (texts.get(address, ''), placed.get(f'0x{address:08x}', '') + self.asserted(address)) for address in addresses}
 
     def line_name(self, address):
         if address >= self.end:
-            return f'stack {(self.stacks_end - 1 - address) // self.stack_size}' if self.stack_size else ''
+            return stack_at(self.stacks, address)
         names = [name for value, name in self.symbols if address <= value < address + LINE_BYTES]
         covering = [] if any(value == address for value, _ in self.symbols) else [self.name(address).strip(' ()')]
         return ', '.join(filter(None, covering + names))
 
     def name(self, address):
         at = bisect.bisect_right(self.symbols, (address, '\x7f')) - 1
-        if at < 0 or address >= self.end:
+        if address >= self.end:
+            return f' ({stack_at(self.stacks, address)})' if stack_at(self.stacks, address) else ''
+        if at < 0:
             return ''
         beyond = address - self.symbols[at][0]
         return f' ({self.symbols[at][1]}{f"+{beyond}" if beyond else ""})'
@@ -104,9 +113,16 @@ def variables_of(elf):
 
 
 def stacks_of(elf):
-    """The address behind the stacks of a linked program, of which that of context 0 is the last one, and how many bytes each has."""
+    """The address behind the stacks of a linked program, of which that of context 0 is the last one, how many bytes each has, and how many there are."""
     symbols = cross.symbols_of(elf)
-    return symbols.get('shared_end', 0), symbols.get('stack_size', 0)
+    return tuple(symbols.get(name, 0) for name in ('shared_end', 'stack_size', 'contexts'))
+
+
+def stack_at(stacks, address):
+    """The stack in which an address lies, as 'stack 0', or nothing."""
+    end, size, count = stacks
+    number = (end - 1 - address) // size if size else count
+    return f'stack {number}' if 0 <= number < count else ''
 
 
 def disassembled(elf):

@@ -5,6 +5,12 @@ function row(cells, line, fresh) {
   return { cells, line, fresh };
 }
 
+/** A cell as markup, with the colour of a copy's or an entry's state. */
+function drawCell(cell) {
+  if (TINTED.has(cell)) return `<td><span class="tint" style="background:var(--${cell})">${cell}</span></td>`;
+  return `<td${String(cell).length > 60 ? ' class="wide"' : ''}>${escaped(cell)}</td>`;
+}
+
 /** A row as markup, with marks where it changed or is followed. */
 function drawRow({ cells, line, fresh }) {
   const followed = line !== undefined && line === VIEW.line;
@@ -13,11 +19,12 @@ function drawRow({ cells, line, fresh }) {
   const name = [followed ? 'followed' : '', fresh ? 'changed' : ''].filter(Boolean).join(', ');
   const sign = mark && `<span role="img" aria-label="${name}">${mark}</span>`;
   const button = line === undefined ? '' : `<button type="button" data-line="${line}" aria-label="follow line ${line}">${escaped(lineName(line))}</button>`;
-  const drawn = cells.map((cell) => (cell === LINE ? `<td>${button}</td>` : `<td${String(cell).length > 60 ? ' class="wide"' : ''}>${escaped(cell)}</td>`));
+  const drawn = cells.map((cell) => (cell === LINE ? `<td>${button}</td>` : drawCell(cell)));
   return `<tr class="${kind}"><td>${sign}</td>${drawn.join('')}</tr>`;
 }
 
 const LINE = Symbol('line');
+const TINTED = new Set(['read', 'write', 'RO', 'RW', 'RT', 'WT']);
 
 const MOST_SHOWN = 300;
 
@@ -176,7 +183,7 @@ function drawHistory(line, at) {
   const first = Math.max(0, Math.min(all.findLastIndex((each) => each <= at) - MOST_CHANGES / 2, all.length - MOST_CHANGES));
   const shown = all.slice(first, first + MOST_CHANGES);
   const rows = shown.map((each) => {
-    const cells = lineCells(each, line).map((cell) => `<td${String(cell).length > 60 ? ' class="wide"' : ''}>${escaped(cell)}</td>`).join('');
+    const cells = lineCells(each, line).map(drawCell).join('');
     return `<tr data-at="${each}"><td></td><td><button type="button" data-at="${each}">${RUN.frames[each][0]}</button></td>${cells}</tr>`;
   });
   const names = ['', 'stamp', 'state', 'meta state', 'H', 'S', 'counter', 'words', 'copies', 'asked for by', 'on the way'];

@@ -75,8 +75,9 @@ def answered(words):
     """What a tool writes to standard output and to standard error. The second is why there is no image where it fails."""
     ran = subprocess.run([str(word) for word in words], stdout=subprocess.PIPE, stderr=subprocess.PIPE, text=True, errors='replace')
     if ran.returncode != 0:
-        hints = [hint for pattern, hint in HINTS if pattern.search(ran.stderr)]
-        raise BuildError('\n'.join([f'{words[0]} refused it:', ran.stderr.strip(), *hints]))
+        said = '\n'.join(line for line in ran.stderr.strip().splitlines() if not UNUSED.search(line))
+        hints = [hint for pattern, hint in HINTS if pattern.search(said)]
+        raise BuildError('\n'.join([f'{words[0]} refused it:', said, *hints]))
     return ran.stdout, ran.stderr
 
 
@@ -215,11 +216,24 @@ def linked(build, files):
     return made
 
 
-def section(program, name, folder):
-    """The bytes of a section."""
+def section(program, name, folder, *words):
+    """The bytes of a section; none of one that isn't there. Words are further ones for objcopy."""
     made = Path(folder, 'section')
-    called(['sparc64-linux-gnu-objcopy', '-O', 'binary', '-j', name, program, made])
+    called(['sparc64-linux-gnu-objcopy', '-O', 'binary', '-j', name, *words, program, made])
     return made.read_bytes()
+
+
+ASSERTIONS = '.debug_assertions'
+ASSERTED = re.compile(rb'(.{4})(.{4})([^\0]*)\0([^\0]*)\0', re.S)
+
+
+def assertions_of(elf):
+    """The assertions of a linked program, each as its place and its text, by the address of its trap: include/assert.h has them in a section of their own."""
+    with tempfile.TemporaryDirectory() as folder:
+        data = section(elf, ASSERTIONS, folder, '--set-section-flags', f'{ASSERTIONS}=alloc,load,readonly')
+    rows = ((int.from_bytes(address, 'big'), int.from_bytes(line, 'big'), file.decode(errors='replace'), text.decode(errors='replace'))
+            for address, line, file, text in ASSERTED.findall(data))
+    return {address: (f'{Path(file).name}:{line}', f'assert({text})') for address, line, file, text in rows if address < UNUSED_AT}
 
 
 def symbols_of(program):
@@ -239,6 +253,38 @@ def places_of(elf, addresses):
         lines = [f'{line.split(" ")[0]} ({function})' for function, line in zip(pairs[::2], pairs[1::2])]
         places[f'0x{address}'] = ' in '.join(lines)
     return places
+
+
+GIVEN = ('alewife.h', 'atomic.c', 'runtime.c', 'start.s')
+ONE_TURN = ('load_word', 'store_word', 'exchange', 'test_and_set', 'print')
+
+
+def short_place(place):
+    """A place in the program's own sources: its line, and which given function is called there, if that is more than one turn."""
+    parts = [part.partition(' (') for part in place.split(' in ')]
+    own = next((at for at, (line, _, _) in enumerate(parts) if line.partition(':')[0] not in GIVEN), len(parts) - 1)
+    called_there = parts[own - 1][2].rstrip(')') if own else ''
+    return f'{called_there}(), {parts[own][0]}' if called_there and called_there not in ONE_TURN else parts[own][0]
+
+
+def spelled(numbers):
+    """Numbers in order, with ranges, as 0-3,7."""
+    ranges = []
+    for number in sorted(numbers):
+        if ranges and number == ranges[-1][1] + 1:
+            ranges[-1][1] = number
+        else:
+            ranges.append([number, number])
+    return ','.join(f'{first}-{last}' if first < last else f'{first}' for first, last in ranges)
+
+
+def told_standing(places):
+    """Where contexts stand, by their places: a line for each short place, those of most contexts first."""
+    found = {}
+    for number, place in places.items():
+        found.setdefault(short_place(place), []).append(number)
+    for place, numbers in sorted(found.items(), key=lambda each: (-len(each[1]), min(each[1]))):
+        yield f'{len(numbers)} {"is" if len(numbers) == 1 else "are"} {"in" if "()" in place else "at"} {place}: {spelled(numbers)}'
 
 
 def check_stack(build, symbols):

@@ -13,6 +13,7 @@ SECTIONS
     /* Any section that isn't named here is refused: the image wouldn't have it. */
     .debug_abbrev 0 : { *(.debug_abbrev) }
     .debug_aranges 0 : { *(.debug_aranges) }
+    .debug_assertions 0 : { *(.debug_assertions) }
     .debug_frame 0 : { *(.debug_frame) }
     .debug_info 0 : { *(.debug_info) }
     .debug_line 0 : { *(.debug_line) }

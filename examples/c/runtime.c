@@ -1,6 +1,5 @@
 /* What GCC calls where the machine has no instruction: quotients and rests, and numbers of 64 bits; and what include/ declares. What a
    program doesn't use isn't linked. Floating point isn't here. */
-#include <assert.h>
 #include "alewife.h"
 
 uint32_t unsigned_quotient(uint32_t, uint32_t) __asm__(".udiv");
@@ -212,16 +211,4 @@ int strcmp(const char *one, const char *other)
 char *strcpy(char *restrict to, const char *restrict from)
 {
     return memcpy(to, from, strlen(from) + 1);
-}
-
-void assertion_failed(const char *file, unsigned line)
-{
-    const char *name = file;
-    for (; *file != 0; file++)
-        if (*file == '/')
-            name = file + 1;
-    print_text(name);
-    print(line);
-    __asm__ volatile("ta 3");
-    __builtin_unreachable();
 }
