@@ -8,6 +8,8 @@ What is tested:
   answer nothing but that. A row may begin with a name, '**name**: ', and a named promise has an edit in one of its rows.
 - README.md, docs/, bench/README.md and each crate's README: each name in `code` that looks like one of the repository's is
   declared in it, and each path is there, as is what links lead to, with the place in its page. CHANGES.md may name what is gone.
+- the tables of these pages: a name behind a folder, as in `alw_cli/src`: `top`, is a file of it; of a table that says places, what a row names
+  stands in one of the row's files; and what docs/DEFINITIONS.md names stands in the file that it says, as does each line of a definition there.
 - what tools/words.py writes of the command words is current: README.md's table, the launcher's help, the manual's options, the completions. README.md
   says each form, and README.md and the manual say the times that the launcher says.
 - each edit still fits: its old text stands once in its file.
@@ -31,13 +33,17 @@ import json
 import re
 import sys
 from dataclasses import dataclass, field
+from functools import lru_cache
 from pathlib import Path
 
 sys.path.insert(0, str(Path(__file__).resolve().parent.parent / 'tools'))
 sys.dont_write_bytecode = True
 import grammars
+import places
 import words
 from alewife import Findings, ROOT
+from places import declared
+from pages import SPAN, WORD, is_name, section_of, tables_of, without_fences
 
 LANGUAGE = ROOT / 'docs' / 'LANGUAGE.md'
 FORMATS = ROOT / 'docs' / 'FORMATS.md'
@@ -52,7 +58,7 @@ OUTSIDE = set('''
     Model Option Some None Result Ok Err Vec String extend_from_slice from_be_bytes strip_prefix split_at where pub mod
     serde serde_json compact_text Appends Consumes IsAtEnd Keeps IsPermutation FinMap take filter eqb-true arith nat_tests yes no
     auto using unfolding unfoldable abbrev refl sym subst ap rw simp cc elim search omega grind rt plant renice asm gen dis
-    watch reverse-continue rc why
+    watch reverse-continue rc why nat_lt declared result requires ensures
 '''.split())
 
 
@@ -123,8 +129,6 @@ RUST_NAME = re.compile(r'\b(?:fn|struct|enum|trait|const|static|type|mod) (\w+)'
 TYPE = re.compile(r'^pub (?:struct|enum|trait) (\w+)[^;{(]*(?:\{(.*?)^\}|\((.*?)\);|;)', re.M | re.S)
 MEMBER = re.compile(r'^ +(?:pub |pub\(crate\) )?(?:ghost )?(\w+)(?=[:,({ ])', re.M)
 EXPORT = re.compile(r'^(?:pub )?use [\w:]*?(\{[^}]*\}|\w+);', re.M)
-ANTT_NAME = re.compile(
-    r'^ *(?:abbrev |unfoldable )?(?:pub )?(?:(?:record|data|mod|ruleset) ([^\s:]+)|([^\s({:]+)(?= :))', re.M)
 
 
 @dataclass
@@ -162,12 +166,6 @@ def read_crate(folder):
     return crate
 
 
-def declared(file):
-    """What a file of specs/ or proofs/ declares, with fields and constructors."""
-    bare = re.sub(r'--.*', '', file.read_text())
-    return {name for pair in ANTT_NAME.findall(bare) for name in pair if name}
-
-
 def read_crates():
     return {folder.name: read_crate(folder) for folder in sorted((ROOT / 'crates').iterdir()) if (folder / 'src').is_dir()}
 
@@ -189,40 +187,6 @@ def memory_calls(crate, repository):
 
 
 # ---- the documents
-
-
-SPAN = re.compile(r'`([^`\n]+)`')
-FENCE = re.compile(r'^( *)```.*?^\1```', re.M | re.S)
-
-
-@dataclass
-class Row:
-    line: int
-    cells: list
-
-
-def without_fences(text):
-    """The text with fenced and indented code blanked, its lines kept."""
-    text = FENCE.sub(lambda m: '\n' * m[0].count('\n'), text)
-    return re.sub(r'^    .*$', '', text, flags=re.M)
-
-
-def tables_of(text):
-    """The tables of a document: of each its head and its rows."""
-    tables, rows = [], []
-    for number, line in enumerate(without_fences(text).splitlines() + [''], 1):
-        if line.startswith('|'):
-            rows.append(Row(number, [cell.strip() for cell in re.split(r'(?<!\\)\|', line.strip()[1:-1])]))
-        elif rows:
-            tables.append((rows[0].cells, [row for row in rows[1:] if set(row.cells[0]) - set('-: ')]))
-            rows = []
-    return tables
-
-
-def section_of(text, heading):
-    """What stands below a heading, up to the next."""
-    match = re.search(rf'^## {re.escape(heading)}\n(.*?)(?=^## |\Z)', text, re.M | re.S)
-    return match[1].strip() if match else None
 
 
 def placed(file, line, text):
@@ -309,6 +273,11 @@ def check_promises(findings, repository):
 PROMISE_LINK = re.compile(r'\]\(docs/PROMISES\.md#([^)]+)\)')
 
 
+def linked_promises():
+    """The places of docs/PROMISES.md that README.md links to."""
+    return set(PROMISE_LINK.findall((ROOT / 'README.md').read_text()))
+
+
 def check_readme(findings):
     """README.md is a page that one reads, with nine promises. `check_links` says whether they are there."""
     file = ROOT / 'README.md'
@@ -318,7 +287,7 @@ def check_readme(findings):
     for number, line in enumerate(lines, 1):
         if len(line) >= 120:
             findings.say(file, number, f'has {len(line)} characters, and fewer than 120 are wanted')
-    if len(set(PROMISE_LINK.findall('\n'.join(lines)))) != 9:
+    if len(linked_promises()) != 9:
         findings.say(file, 0, 'links to other than nine promises of docs/PROMISES.md')
 
 
@@ -363,7 +332,6 @@ def check_crate(findings, crate, repository):
 
 PATH = re.compile(r'^[\w.*-]+(/[\w.*-]*)+$|^[\w-]+\.(?:rt|antt|md|s|sh|py|txt)$')
 LINK = re.compile(r'\]\(([^):#\s]*)(?:#([^):\s]+))?\)')
-WORD = re.compile(r'[A-Za-z_◌][\w-]*')
 
 
 def check_names(findings, file, repository, folder):
@@ -406,15 +374,15 @@ def is_there(path, folder):
     """Whether a path is there, from the top, from crates/ or from the crate of a README, else from any crate; .antt may be left out.
     What a build makes, in a folder out, isn't there."""
     crates = ROOT / 'crates'
-    own = [folder, folder / 'specs'] if folder.parent == crates else [*crates.iterdir()]
-    bases = (ROOT, crates, *own)
-    found = [file for base in bases for end in ('', '.antt') for file in base.glob(path + end)]
+    own = (folder, folder / 'specs') if folder.parent == crates else tuple(crates.iterdir())
+    return any(stands_below(base, path + end) for base in (ROOT, crates, *own) for end in ('', '.antt'))
+
+
+@lru_cache(maxsize=None)
+def stands_below(base, path):
+    """Whether a folder has a path, which may have '*' in it, outside of what a build makes."""
+    found = base.glob(path) if '*' in path else [base / path] if (base / path).exists() else []
     return any('out' not in file.relative_to(ROOT).parts for file in found)
-
-
-def is_name(span):
-    """Whether a span is a name, or several joined by '.' or '::', that could be one of the repository's own."""
-    return bool(re.fullmatch(r'[A-Za-z_][\w-]*((::|\.)\{?[\w-]+(, [\w-]+)*\}?)*', span))
 
 
 EDIT = re.compile(r'^(?:file: (.*)|old: (.*)\nnew: ?(.*))$', re.M)
@@ -491,11 +459,13 @@ def check_floors(findings, repository):
                     findings.say(file, 0, f'{crate} of {floor} stands on {other} of {floor_of[other]}')
 
 
-def tests_of(crate):
-    """The tests of a crate."""
-    return {name for file in crate.folder.glob('src/**/*.rt') for name in re.findall(r'#\[test\]\s+fn (\w+)', file.read_text())}
+@lru_cache(maxsize=None)
+def tests_in(folder):
+    """The tests of a crate's folder."""
+    return {name for file in folder.glob('src/**/*.rt') for name in re.findall(r'#\[test\]\s+fn (\w+)', file.read_text())}
 
 
+@lru_cache(maxsize=None)
 def cases_of(group):
     """The names of a group of cases."""
     file = ROOT / 'cases' / f'{group}.jsonl'
@@ -522,7 +492,7 @@ def check_cases(findings):
 def check_successes(findings, file, row, repository):
     """What a row of docs/REFUSALS.md names as a success: tests, which stand in alw_trials, and cases."""
     named = row.cells[4]
-    for test in sorted(set(re.findall(r'`(\w+)`', named)) - tests_of(repository['alw_trials'])):
+    for test in sorted(set(re.findall(r'`(\w+)`', named)) - tests_in(repository['alw_trials'].folder)):
         findings.say(file, row.line, f'there is no test {test} in alw_trials')
     for group, name in re.findall(r'`(\w+): ([^`]+)`', named):
         if name not in cases_of(group):
@@ -754,26 +724,56 @@ def documents(repository):
             yield crate.readme(), crate.folder
 
 
-def main():
-    findings, repository = Findings(placed), read_crates()
-    check_readme(findings)
-    check_promises(findings, repository)
-    for crate in repository.values():
+# The checks of whole pages, each with what it reads of them: those that look at sources, and those that don't.
+BY_SOURCES = {
+    check_promises: 'crates/*/README.md',
+    check_architecture: 'crates.txt docs/ARCHITECTURE.md',
+    check_floors: 'crates.txt',
+    check_refusals: 'docs/REFUSALS.md',
+}
+BY_THEMSELVES = {
+    check_readme: 'README.md',
+    check_words: 'README.md alewife docs/alewife.1 docs/completions/* tools/words.json',
+    check_times: 'README.md alewife docs/alewife.1',
+    check_cases: 'cases/*',
+    check_examples: 'README.md docs/*.md examples/**/*',
+    check_language: 'docs/LANGUAGE.md',
+    check_formats: 'docs/FORMATS.md',
+}
+
+
+def is_read(patterns, changed):
+    """Whether one of these files is the changed one, which is None where all may be."""
+    return changed is None or any(changed in ROOT.glob(pattern) for pattern in patterns.split())
+
+
+def check_pages(findings, repository, changed):
+    """The checks of whole pages."""
+    for each in (each for each, patterns in BY_SOURCES.items() if is_read(patterns, changed)):
+        each(findings, repository)
+    for each in (each for each, patterns in BY_THEMSELVES.items() if is_read(patterns, changed)):
+        each(findings)
+
+
+def check_all(findings, repository, changed=None):
+    """All checks, or those that read the one file that has changed."""
+    for crate in (crate for crate in repository.values() if is_read(f'crates/{crate.name}/README.md', changed)):
         check_crate(findings, crate, repository)
-        for edit in sorted(crate.folder.glob('must-fail/*.edit')):
+    for crate in repository.values():
+        for edit in (edit for edit in sorted(crate.folder.glob('must-fail/*.edit')) if changed in (None, edit)):
             check_fit(findings, edit, crate)
-    for file, folder in documents(repository):
+    for file, folder in ((file, folder) for file, folder in documents(repository) if changed in (None, file)):
         check_names(findings, file, repository, folder)
         check_links(findings, file)
-    check_architecture(findings, repository)
-    check_floors(findings, repository)
-    check_words(findings)
-    check_times(findings)
-    check_refusals(findings, repository)
-    check_cases(findings)
-    check_examples(findings)
-    check_language(findings)
-    check_formats(findings)
+        places.check(findings, file, OUTSIDE)
+        if file == places.QUOTING:
+            places.check_quotes(findings, file)
+    check_pages(findings, repository, changed)
+
+
+def main():
+    findings = Findings(placed)
+    check_all(findings, read_crates())
     if findings.count:
         print(f'documents: {findings.count} findings')
     return 1 if findings.count else 0
