@@ -7,7 +7,7 @@ _alewife() {
     *:[\<\>]*) ;;
     "$at":*)
         words='asm run replay audit gen route save resume outcomes dis'
-        [ "$at" = 1 ] && words="$words help --unproved --build --install --help --version"
+        [ "$at" = 1 ] && words="$words help --unproved --build --which --install --help --version"
         ;;
     *)
         case ${COMP_WORDS[at]}:$before in
