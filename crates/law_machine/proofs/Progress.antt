@@ -38,7 +38,7 @@ use Rattle.law_machine.proofs.MainEvents.{ready_runs, instr_goes, handle_goes, d
 -- ---- lists
 
 -- a held line has a slot that holds it
-held_slot : (slots : List Slot) (line : ℕ) → is_held slots line ≡ true → (i : ℕ) × ((slot_at slots i).hold ≡ Some line)
+pub held_slot : (slots : List Slot) (line : ℕ) → is_held slots line ≡ true → (i : ℕ) × ((slot_at slots i).hold ≡ Some line)
 held_slot [] line is = absurd (false≢true is)
 held_slot (slot ∷ rest) line is = go slot.hold refl is (held_slot rest line)
   where
@@ -63,11 +63,11 @@ some_front : (xs : List Msg) → is_nonempty xs ≡ true → (msg : Msg) × (fro
 some_front [] is = absurd (false≢true is)
 some_front (msg ∷ rest) is = (msg, refl)
 
-nonempty_by : (xs : List Msg) → (xs ≡ [] → ⊥) → is_nonempty xs ≡ true
+pub nonempty_by : (xs : List Msg) → (xs ≡ [] → ⊥) → is_nonempty xs ≡ true
 nonempty_by [] isnt = absurd (isnt refl)
 nonempty_by (msg ∷ rest) isnt = refl
 
-not_false : (b : Bool) → not b ≡ false → b ≡ true
+pub not_false : (b : Bool) → not b ≡ false → b ≡ true
 not_false true e = refl
 not_false false e = absurd (false≢true (sym e))
 

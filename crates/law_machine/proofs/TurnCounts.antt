@@ -53,11 +53,11 @@ module _ (parts : Parts) (parameters : Parameters) where
     packet_quiet m packet (ForMemory said) = refl
     packet_quiet m packet (ForCache said) = refl
 
-    queue_quiet : (queue : List Msg) → turn_in parts n (handle_front parts parameters n stamp node queue).did ≡ []
+    pub queue_quiet : (queue : List Msg) → turn_in parts n (handle_front parts parameters n stamp node queue).did ≡ []
     queue_quiet [] = refl
     queue_quiet (packet ∷ rest) = packet_quiet rest packet (content packet)
 
-    taken_quiet : (taken : Option Msg) → turn_in parts n (deliver parts parameters n stamp node taken).did ≡ []
+    pub taken_quiet : (taken : Option Msg) → turn_in parts n (deliver parts parameters n stamp node taken).did ≡ []
     taken_quiet None = refl
     taken_quiet (Some msg) = delivery_quiet msg (content msg)
 

@@ -1,19 +1,17 @@
 -- What is on its way is delivered: a context that is being served comes to have its line, or the line that it waits for comes.
-use Rattle.std.proofs.Common.{◌≡◌, ℕ, zero, suc, ◌+◌, ◌<◌, ◌≤◌, ◌||◌, nat_lt, Bool, true, false, Option, Some, None, List, [], ◌∷◌, ◌++◌, refl, ap, arith, ◌⊎◌, inl, inr}
+use Rattle.std.proofs.Common.{◌≡◌, ℕ, zero, suc, ◌+◌, ◌<◌, ◌≤◌, ◌||◌, nat_lt, true, false, Option, Some, None, List, [], ◌∷◌, ◌++◌, refl, ap, arith, ◌⊎◌, inl, inr}
 use Rattle.std.proofs.lemmas.Bool.{le-leb, ltb-true, false≢true}
 use Rattle.alw_num.proofs.Weigh.{cases_lt_then}
 use Rattle.alw_msg.specs.declared.messages.Msg.{Msg}
 use Rattle.alw_msg.specs.declared.events.Event.{Event}
 use Rattle.alw_msg.specs.declared.events.Event.TheVariants.{Instr, Handle, Deliver, Evict}
 use Rattle.alw_msg.specs.declared.events.Entry.{Entry}
-use Rattle.alw_msg.specs.Contents.{ToMemory, Content, ForMemory, ForCache, content}
 use Rattle.alw_msg.specs.Events.{node_of}
 use Rattle.alw_image.specs.declared.parts.Parts.{Parts}
 use Rattle.alw_image.specs.Images.{node_count, IsImage}
 use Rattle.alw_image.specs.Parameters.{Parameters, AreParameters}
 use Rattle.alw_model.specs.MemorySteps as memory
-use Rattle.alw_model.specs.NodeStates.{NodeState, stamp_of, memory_of}
-use Rattle.alw_model.specs.NodeSteps.{deliver_by, deliver, handle_front}
+use Rattle.alw_model.specs.NodeStates.{stamp_of}
 use Rattle.alw_msg.specs.Lists.{front}
 use Rattle.alw_model.proofs.Journals.{and_parts}
 use Rattle.law_machine.proofs.Sends.{MsgStands}
@@ -22,6 +20,7 @@ use Rattle.alw_model.specs.Runs.{turn_in}
 use Rattle.law_lines.proofs.Steps.{enabled_is}
 use Rattle.law_machine.proofs.MachineRuns.{IsKept, entry_kept}
 use Rattle.law_machine.proofs.Timing.{each_front}
+use Rattle.law_machine.proofs.TurnCounts.{queue_quiet, taken_quiet}
 use Rattle.law_machine.proofs.Greatest.{clock_below, greatest_grows}
 use Rattle.law_turns.specs.Turns.{greatest_clock, turns_from, serves, AllServe}
 use Rattle.law_turns.proofs.Stages.{heft_of, IsServing}
@@ -31,32 +30,11 @@ use Rattle.law_turns.proofs.Moves.{left_moves, serving_reaches}
 
 module _ (parts : Parts) (parameters : Parameters) where
   -- no quiet event is a turn
-  module _ (n stamp : ℕ) (node : NodeState) where
-    home_quiet : (msg : Msg) (said : ToMemory) (traps : Bool) → turn_in parts n (memory.at_home stamp (memory_of parts parameters n node) msg said traps).did ≡ []
-    home_quiet msg said true = refl
-    home_quiet msg said false = refl
-
-    delivery_quiet : (msg : Msg) (said : Content) → turn_in parts n (deliver_by parts parameters n stamp node msg said).did ≡ []
-    delivery_quiet msg (ForMemory said) = home_quiet msg said _
-    delivery_quiet msg (ForCache said) = refl
-
-    packet_quiet : (m : List Msg) (packet : Msg) (said : Content) → turn_in parts n (memory.handle_by stamp (record (memory_of parts parameters n node) { packets = m }) packet said).did ≡ []
-    packet_quiet m packet (ForMemory said) = refl
-    packet_quiet m packet (ForCache said) = refl
-
-    queue_quiet : (queue : List Msg) → turn_in parts n (handle_front parts parameters n stamp node queue).did ≡ []
-    queue_quiet [] = refl
-    queue_quiet (packet ∷ rest) = packet_quiet rest packet (content packet)
-
-    taken_quiet : (taken : Option Msg) → turn_in parts n (deliver parts parameters n stamp node taken).did ≡ []
-    taken_quiet None = refl
-    taken_quiet (Some msg) = delivery_quiet msg (content msg)
-
   pub quiet_turns_not : (s : MachineState) (event : Event) → is_quiet event ≡ true → turn_in parts (node_of event) (stepped_by parts parameters s event).did ≡ []
   quiet_turns_not s (Instr at) quiet = absurd (false≢true quiet)
   quiet_turns_not s (Evict at its) quiet = absurd (false≢true quiet)
-  quiet_turns_not s (Handle at) quiet = queue_quiet at.0 _ (node_at s at.0) (node_at s at.0).packets
-  quiet_turns_not s (Deliver from to) quiet = taken_quiet to.0 _ (node_at s to.0) (taken_by parts s (Deliver from to))
+  quiet_turns_not s (Handle at) quiet = queue_quiet parts parameters at.0 _ (node_at s at.0) (node_at s at.0).packets
+  quiet_turns_not s (Deliver from to) quiet = taken_quiet parts parameters to.0 _ (node_at s to.0) (taken_by parts s (Deliver from to))
 
 -- a quiet event serves whoever's turn it is
 pub quiet_own : (c : ℕ) (event : Event) → is_quiet event ≡ true → serves c event ≡ true

@@ -1,5 +1,5 @@
 -- While one context is served and a message is left, a delivery or an action of the handler is enabled.
-use Rattle.std.proofs.Common.{◌≡◌, ℕ, zero, suc, ◌+◌, ◌*◌, ◌-◌, ◌^◌, ◌/◌, ◌%◌, ◌<◌, ◌≤◌, ◌==◌, nat_lt, not, ◌||◌, Bool, true, false, Option, Some, None, List, [], ◌∷◌, length, get_or, refl, sym, subst, ap, ◌∙◌, arith}
+use Rattle.std.proofs.Common.{◌≡◌, ℕ, zero, suc, ◌+◌, ◌*◌, ◌-◌, ◌^◌, ◌/◌, ◌%◌, ◌<◌, ◌≤◌, ◌==◌, nat_lt, not, Bool, true, false, Option, Some, None, List, [], ◌∷◌, length, get_or, refl, sym, subst, ap, ◌∙◌, arith}
 use Rattle.std.proofs.lemmas.Bool.{eq-eqb, eqb-true, lt-ltb, false≢true}
 use Rattle.std.proofs.lemmas.Nat.{row_below_turned, mod_below}
 use Rattle.std.proofs.Math.Nat.{mod-add-div'}
@@ -26,6 +26,7 @@ use Rattle.alw_model.proofs.Journals.{and_is}
 use Rattle.law_lines.proofs.CacheSide.{old_part}
 use Rattle.law_machine.proofs.ContextRuns.{down_at}
 use Rattle.law_machine.proofs.Sends.{MsgStands}
+use Rattle.law_machine.proofs.Progress.{held_slot, nonempty_by, not_false}
 use Rattle.law_machine.proofs.Timing.{each_front}
 use Rattle.law_machine.proofs.MachineRuns.{IsKept, clocks_small, fit_on}
 use Rattle.law_turns.proofs.Hefts.{heft, packet_heft}
@@ -43,30 +44,9 @@ some_front : (f : Msg → ℕ) (xs : List Msg) → 1 ≤ weigh f xs → (msg : M
 some_front f [] some = absurd (omega arith)
 some_front f (msg ∷ rest) some = (msg, refl)
 
-nonempty_by : (f : Msg → ℕ) (xs : List Msg) → 1 ≤ weigh f xs → is_nonempty xs ≡ true
-nonempty_by f [] some = absurd (omega arith)
-nonempty_by f (msg ∷ rest) some = refl
-
-nonempty_not : (xs : List Msg) → (xs ≡ [] → ⊥) → is_nonempty xs ≡ true
-nonempty_not [] isnt = absurd (isnt refl)
-nonempty_not (msg ∷ rest) isnt = refl
-
-not_false : (b : Bool) → not b ≡ false → b ≡ true
-not_false true e = refl
-not_false false e = absurd (false≢true (sym e))
-
--- a held line is the hold of one of the slots
-held_slot : (slots : List Slot) (line : ℕ) → is_held slots line ≡ true → (i : ℕ) × ((slot_at slots i).hold ≡ Some line)
-held_slot [] line is = absurd (false≢true is)
-held_slot (slot ∷ rest) line is = go slot.hold refl is (held_slot rest line)
-  where
-    go : (o : Option ℕ) → slot.hold ≡ o → (passes (λ held. held == line) o || is_held rest line) ≡ true → (is_held rest line ≡ true → (i : ℕ) × ((slot_at rest i).hold ≡ Some line)) → (i : ℕ) × ((slot_at (slot ∷ rest) i).hold ≡ Some line)
-    go None e is more = let r = more is in (suc r.0, r.1)
-    go (Some held) e is more = by_test (held == line) refl is
-      where
-        by_test : (b : Bool) → (held == line) ≡ b → (b || is_held rest line) ≡ true → (i : ℕ) × ((slot_at (slot ∷ rest) i).hold ≡ Some line)
-        by_test true same is = (0, e ∙ ap Some (eqb-true held line same))
-        by_test false other is = let r = more is in (suc r.0, r.1)
+nonempty_weighed : (f : Msg → ℕ) (xs : List Msg) → 1 ≤ weigh f xs → is_nonempty xs ≡ true
+nonempty_weighed f [] some = absurd (omega arith)
+nonempty_weighed f (msg ∷ rest) some = refl
 
 -- nothing for a cache is kept on its link
 abbrev pub MayReach : Parts → Parameters → MachineState → Type 0
@@ -91,7 +71,7 @@ module _ (parts : Parts) (image : IsImage parts) (parameters : Parameters) (are 
 
   -- what keeps a message from memory is a packet
   packet_moves : (n l : ℕ) → n < node_count parts → l < line_count parts → home_node parts l ≡ n → is_in_progress (home_at parts (node_at s n) l).meta ≡ true → Moves
-  packet_moves n l here lines home busy = queue_moves n here (nonempty_not (node_at s n).packets (λ none.
+  packet_moves n l here lines home busy = queue_moves n here (nonempty_by (node_at s n).packets (λ none.
       let one_is : length (ups l (node_at s n).packets) ≡ 1 = (kept.has.sound.standing.each n here).pending l lines home ∙ ap digit busy in
       let zero_is : length (ups l (node_at s n).packets) ≡ 0 = ap (λ (q : List Msg). length (ups l q)) none in
       omega arith))
@@ -136,7 +116,7 @@ module _ (parts : Parts) (image : IsImage parts) (parameters : Parameters) (are 
   some_queue_moves : 1 ≤ weigh (λ (node : NodeState). weigh (packet_heft (node_count parts)) node.packets) s.nodes → Moves
   some_queue_moves some =
       let at = heavy (λ (node : NodeState). weigh (packet_heft (node_count parts)) node.packets) no_node s.nodes some in
-      queue_moves at.0 (subst (λ k. at.0 < k) kept.has.sound.standing.nodes at.1.0) (nonempty_by (packet_heft (node_count parts)) (node_at s at.0).packets at.1.1)
+      queue_moves at.0 (subst (λ k. at.0 < k) kept.has.sound.standing.nodes at.1.0) (nonempty_weighed (packet_heft (node_count parts)) (node_at s at.0).packets at.1.1)
 
   -- so it does while anything is left
   pub left_moves : 1 ≤ heft_of parts s → Moves
