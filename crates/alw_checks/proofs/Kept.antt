@@ -49,13 +49,13 @@ search_end [] true = refl
 search_end [] false = refl
 search_end (trap ∷ rest) ends = refl
 
-search_unrefused : (bytes : List ℕ) (fault : InputErr) → IsNoImage bytes fault → search_task.Accepts bytes → ⊥
-search_unrefused bytes (reason.Image fault) refused accepted = absurd (let e : Some fault ≡ None = sym refused ∙ accepted in cc)
-search_unrefused bytes _ refused accepted = refused
+search_unrefused : (most : ℕ) (bytes : List ℕ) (fault : InputErr) → IsNoImage bytes fault → (search_task most).Accepts bytes → ⊥
+search_unrefused most bytes (reason.Image fault) refused accepted = absurd (let e : Some fault ≡ None = sym refused ∙ accepted in cc)
+search_unrefused most bytes _ refused accepted = refused
 
-pub search_kept : IsKept search_task
-search_kept = record {
+pub search_kept : (most : ℕ) → IsKept (search_task most)
+search_kept most = record {
   finished = λ bytes output made accepted. subst (λ (e : Ending). IsTrue (is_search (cause_of e))) (sym made.text.ending_is)
       (search_end made.told.traps (made.told.is_complete && is_never_stuck made.told.stuck));
-  unrefused = λ bytes fault refused accepted. search_unrefused bytes fault refused accepted;
+  unrefused = λ bytes fault refused accepted. search_unrefused most bytes fault refused accepted;
 }

@@ -11,7 +11,7 @@ use std::alloc::Global;
 /// Searches every order of turns of the image that bytes spell, up to so many places, and tells what it can
 /// come to.
 pub fn search_bytes(alloc: Global, most: u32, bytes: &[u8]) -> Result<Output, Refusal>
-    ensures { Gives (Searches bytes.now) (IsNoImage bytes.now) result }
+    ensures { Gives (Searches most bytes.now) (IsNoImage bytes.now) result }
 {
     let image = read_image(alloc, bytes)?;
     let told = outcomes_of(alloc, &image, most)?;

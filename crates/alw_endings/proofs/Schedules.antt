@@ -31,7 +31,7 @@ use Rattle.alw_endings.specs.Schedules.{TellsHalt, TellsTrap, TellsEveryRun}
 
 -- ---- what lists are made by
 
-same_flat : (one other : ℕ → List (ℕ × ℕ)) (a n : ℕ) → ((i : ℕ) → a ≤ i → i < a + n → one i ≡ other i) → flat_map one (range_with_len a n) ≡ flat_map other (range_with_len a n)
+pub same_flat : (one other : ℕ → List (ℕ × ℕ)) (a n : ℕ) → ((i : ℕ) → a ≤ i → i < a + n → one i ≡ other i) → flat_map one (range_with_len a n) ≡ flat_map other (range_with_len a n)
 same_flat one other a zero each = refl
 same_flat one other a (suc n) each =
     ap (λ (xs : List (ℕ × ℕ)). xs ++ flat_map one (range_with_len (a + 1) n)) (each a (omega arith) (omega arith))

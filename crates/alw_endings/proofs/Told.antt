@@ -18,10 +18,11 @@ use Rattle.alw_outcomes.specs.declared.explored.Explored.{Explored}
 use Rattle.alw_outcomes.specs.declared.explored.Trapped.{Trapped}
 use Rattle.alw_outcomes.proofs.Finding.{same_member}
 use Rattle.alw_outcomes.proofs.Storing.{places_length, number_place}
+use Rattle.alw_outcomes.proofs.Witnesses.{each_reached}
 use Rattle.alw_outcomes.specs.declared.endings.Endings.{Endings}
 use Rattle.alw_endings.specs.declared.values.Outcomes.{Outcomes}
 use Rattle.alw_endings.specs.declared.values.HaltEnd.{HaltEnd}
-use Rattle.alw_endings.specs.Ends.{prints_at, memory_at, place_by, halt_told, trap_told, endings_told, HasSizesOf, IsHaltEnd, IsTrapEnd, IsStuckRun, IsStuckThere, AreOutcomes}
+use Rattle.alw_endings.specs.Ends.{prints_at, memory_at, place_by, halt_told, trap_told, endings_told, HasSizesOf, IsHaltEnd, IsTrapEnd, IsStuckRun, IsStuckThere, KeepsPlaces, AreOutcomes}
 
 -- members that are told of the numbers so far; the rest is to come
 pub record ToldSoFar {X Y : Type 0} (Is : X → Type 0) (tells : X → Ending) (names : Y → Ending) (all rest : List Y) (told : List X) : Type 0 where
@@ -130,6 +131,15 @@ stuck_there parts found at turns runs stuck leads are = record {
   never = subst (λ (p : Place). CanEnd parts p → ⊥) (same_member found.places at stuck.place leads.place stuck.there leads.there ∙ sym leads.after) stuck.never;
 }
 
+-- the places that are kept, and turns to each
+pub keeps_places : (parts : Parts) (found : Found) (count : ℕ) → IsReal parts found → length found.places ≡ count → KeepsPlaces parts count
+keeps_places parts found count real counted = record {
+  places = found.places;
+  counted = counted;
+  reached = λ at place there. let led = each_reached parts found real at place there in
+      record { turns = led.0; run = led.1.run; there = led.1.after ∙ same_member found.places at led.1.place place led.1.there there };
+}
+
 -- ---- the whole
 
 module _ (parts : Parts) (found : Found) (endings : Endings) (told : Outcomes)
@@ -141,10 +151,11 @@ module _ (parts : Parts) (found : Found) (endings : Endings) (told : Outcomes)
       ap (λ (one : List Ending). one ++ map trap_told told.traps) halts_told
       ∙ ap (λ (other : List Ending). map (halt_at found) endings.ends.items ++ other) traps_told
 
-  pub are_outcomes : HasSizesOf parts told → AllByRecursion (IsHaltEnd parts) told.halts → AllByRecursion (IsTrapEnd parts) told.traps →
+  pub are_outcomes : HasSizesOf parts told → KeepsPlaces parts told.places → AllByRecursion (IsHaltEnd parts) told.halts → AllByRecursion (IsTrapEnd parts) told.traps →
       (IsTrue told.is_complete → HasEvery parts (endings_in found)) → IsStuckRun parts told.stuck → AreOutcomes parts told
-  are_outcomes sizes halts traps every stuck = record {
+  are_outcomes sizes kept halts traps every stuck = record {
     sizes = sizes;
+    kept = kept;
     halts = halts;
     traps = traps;
     ascending = subst (IsStrictlySortedBy ending_cmp) (sym all_told) different.ascending;

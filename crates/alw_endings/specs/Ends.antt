@@ -1,8 +1,7 @@
 -- What a value of endings tells of an image: ends that turns on one memory come to, each with turns that lead there.
-use Rattle.std.specs.Prelude.{◌≡◌, ℕ, true, List, [], ◌∷◌, ◌++◌, map, slice_index_or, ⊤}
+use Rattle.std.specs.Prelude.{◌≡◌, ℕ, true, Some, List, [], ◌∷◌, ◌++◌, length, map, slice_get, slice_index_or, ⊤}
 use Rattle.std.specs.List.{flat_map, range_with_len, AllByRecursion}
 use Rattle.std.specs.List.Sorted.{IsStrictlySortedBy}
-use Rattle.alw_num.specs.declared.addresses.Line.{Line}
 use Rattle.alw_msg.specs.Stretches.{stretches, turns_in}
 use Rattle.alw_image.specs.declared.parts.Parts.{Parts}
 use Rattle.alw_image.specs.Images.{line_count, context_count, zero_line}
@@ -86,9 +85,22 @@ IsStuckRun parts No = CanAlwaysEnd parts
 IsStuckRun parts (Yes runs) = IsStuckThere parts runs
 IsStuckRun parts Unknown = ⊤
 
+-- such turns lead from the start to the place
+pub record IsReached (parts : Parts) (place : Place) : Type 0 where
+  pub turns : List ℕ
+  pub run : IsRun parts (place_start parts) turns
+  pub there : place_by parts turns ≡ place
+
+-- so many places are kept, and turns lead to each
+pub record KeepsPlaces (parts : Parts) (count : ℕ) : Type 0 where
+  pub places : List Place
+  pub counted : length places ≡ count
+  pub reached : (at : ℕ) → (place : Place) → slice_get places at ≡ Some place → IsReached parts place
+
 -- nothing is told that can't be, each once and in order; and where the search is complete, nothing is left out
 pub record AreOutcomes (parts : Parts) (told : Outcomes) : Type 0 where
   pub sizes : HasSizesOf parts told
+  pub kept : KeepsPlaces parts told.places
   pub halts : AllByRecursion (IsHaltEnd parts) told.halts
   pub traps : AllByRecursion (IsTrapEnd parts) told.traps
   pub ascending : IsStrictlySortedBy ending_cmp (endings_told parts told)

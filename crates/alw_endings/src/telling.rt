@@ -1,4 +1,4 @@
-ghost use Rattle.std.specs.Prelude.{◌≡◌, ◌<◌, ◌≤◌, ◌+◌, ◌++◌, ◌∷◌, [], ◌^◌, ℕ, length, map, slice_get, slice_index_or, Some, IfOk, OnOk, IsTrue};
+ghost use Rattle.std.specs.Prelude.{◌≡◌, ◌<◌, ◌≤◌, ◌+◌, ◌++◌, ◌∷◌, [], ◌^◌, ℕ, false, max, length, map, slice_get, slice_index_or, Some, IfOk, OnOk, IsTrue};
 ghost use Rattle.std.specs.List.{AllByRecursion, Contains};
 ghost use Rattle.alw_image.specs.Images.{line_count, context_count};
 ghost use Rattle.alw_msg.specs.Stretches.{stretches};
@@ -17,10 +17,12 @@ use alw_outcomes::{
 use alw_report::put_line;
 use std::alloc::Global;
 
-/// What an image can come to, by a search that takes turns from so many places at most. Each end has
-/// turns that lead there, and is told once.
+/// What an image can come to, by a search that takes turns from so many places at most, and stops only where
+/// it keeps so many. Each end has turns that lead there, and is told once.
 pub fn outcomes_of(alloc: Global, image: &Image, most: u32) -> Result<Outcomes, NoMemory>
-    ensures { IfOk result (λ told. AreOutcomes image.now told) }
+    ensures are { IfOk result (λ told. AreOutcomes image.now told) }
+    ensures stopped { IfOk result (λ told. told.is_complete ≡ false → most ≤ told.places) }
+    ensures few { IfOk result (λ told. told.places ≤ max most 1) }
 {
     let mut found = explore(alloc, image, most)?;
     let places = found.memories.len() as u64;

@@ -17,6 +17,7 @@ use Rattle.alw_outcomes.specs.declared.pools.Seat.{Seat}
 use Rattle.alw_outcomes.specs.declared.pools.Link.{Link}
 use Rattle.alw_outcomes.specs.declared.pools.Numbers.{Numbers}
 use Rattle.alw_outcomes.specs.declared.explored.Trapped.{Trapped}
+use Rattle.alw_outcomes.specs.declared.classes.Broken.{Broken}
 use Rattle.alw_outcomes.specs.declared.pools.Pools.{Pools}
 use Rattle.alw_outcomes.specs.declared.explored.Origin.{Origin}
 use Rattle.alw_outcomes.specs.declared.explored.Explored.{Explored}
@@ -24,6 +25,7 @@ use Rattle.alw_outcomes.specs.declared.remembered.Known.{Known}
 use Rattle.alw_outcomes.specs.Remembered.{AreLeads}
 use Rattle.alw_outcomes.specs.Places.{Place, place_start}
 use Rattle.alw_outcomes.specs.Outcomes.{all_halted}
+use Rattle.alw_outcomes.specs.Sharing.{CanBreak}
 use Rattle.alw_outcomes.specs.Threads.{thread_at, with_thread}
 use Rattle.alw_outcomes.specs.Pools.{IsFront, Numbered, AreIn, ArePools, PoolsGrow, GoOn, lists_of, no_seat, seat_in, context_of, context_in, words_in, memory_in, place_of, thread_in}
 use Rattle.alw_outcomes.specs.Explored.{IsAmong, Grows, IsStored, IsRow, AreAtStart, IsReal, halted_in, row_in, place_in, places_in, found_in}
@@ -114,14 +116,15 @@ places_grow parts before after stored grow width memories rows =
     ∙ place_grows parts before.pools after.pools stored.pools grow (slice_index_or before.memories.items k 0) (row_in before k) (memory_inside parts before k stored less) (row_inside parts before k stored less))
 
 pub stored_grows : (parts : Parts) (before after : Explored) → IsStored parts before → GoOn parts before.pools after.pools → after.width ≡ before.width → after.memories.items ≡ before.memories.items → after.rows.items ≡ before.rows.items
-    → AreLeads parts after.classes.items after.pools after.leads.slots.items → IsStored parts after
-stored_grows parts before after stored go width memories rows leads = record {
+    → after.classes.items ≡ before.classes.items → after.broken.items ≡ before.broken.items → AreLeads parts after.classes.items after.pools after.leads.slots.items → IsStored parts after
+stored_grows parts before after stored go width memories rows classes broken leads = record {
   width = width ∙ stored.width;
   rows = ap length rows ∙ stored.rows ∙ (λ i. length (sym memories i) * sym width i);
   memory_in = λ k m e. front_length before.pools.memories.items after.pools.memories.items m go.grow.memories (stored.memory_in k m (ap (λ (l : List ℕ). slice_get l k) (sym memories) ∙ e));
   seat_in = λ k s e. front_length before.pools.seats.items after.pools.seats.items s go.grow.seats (stored.seat_in k s (ap (λ (l : List ℕ). slice_get l k) (sym rows) ∙ e));
   pools = go.pools;
   leads = leads;
+  breaks = λ some. subst CanBreak (sym classes) (stored.breaks (subst (λ (l : List Broken). 0 < length l) broken some));
 }
 
 -- ---- a place by its number
@@ -192,7 +195,8 @@ module _ (parts : Parts) (before : Explored) (at context : ℕ) (to : Numbers) (
   pub already : (k : ℕ) → IsRow before k to.memory (slice_set (row_in before at) context to.seat) → IsAmong (places_in before) (with_thread (place_in before at) context (thread_in before.pools to))
   already k is = record { at = k; there = row_there k is }
 
-  module _ (after : Explored) (row : List ℕ) (width : after.width ≡ before.width) (classes : after.classes ≡ before.classes) (pools : after.pools ≡ before.pools) (leads : after.leads ≡ before.leads) (memories : after.memories.items ≡ before.memories.items ++ to.memory ∷ []) (rows : after.rows.items ≡ before.rows.items ++ row)
+  module _ (after : Explored) (row : List ℕ) (width : after.width ≡ before.width) (classes : after.classes ≡ before.classes) (pools : after.pools ≡ before.pools) (leads : after.leads ≡ before.leads)
+      (broken : after.broken ≡ before.broken) (memories : after.memories.items ≡ before.memories.items ++ to.memory ∷ []) (rows : after.rows.items ≡ before.rows.items ++ row)
       (row_is : row ≡ slice_set (row_in before at) context to.seat) where
     long : length row ≡ before.width
     long = ap length row_is ∙ length-set (row_in before at) context to.seat ∙ row_length parts before at stored within ∙ sym stored.width
@@ -249,6 +253,7 @@ module _ (parts : Parts) (before : Explored) (at context : ℕ) (to : Numbers) (
       seat_in = λ k s e. subst (λ (p : Pools). s < length p.seats.items) (sym pools) (seated before.rows.items k s (λ j t f. stored.seat_in j t f) (ap (λ (l : List ℕ). slice_get l k) (sym rows) ∙ e));
       pools = subst (ArePools parts) (sym pools) stored.pools;
       leads = subst (λ (e : Explored). AreLeads parts e.classes.items e.pools e.leads.slots.items) (λ i. record before { classes = sym classes i; pools = sym pools i; leads = sym leads i }) stored.leads;
+      breaks = subst (λ (e : Explored). 0 < length e.broken.items → CanBreak e.classes.items) (λ i. record before { classes = sym classes i; broken = sym broken i }) stored.breaks;
     }
       where
         held : (k m : ℕ) → (slice_get before.memories.items k ≡ Some m) ⊎ ((k ≡ length before.memories.items) × (to.memory ≡ m)) → m < length before.pools.memories.items
@@ -343,7 +348,8 @@ one_member x y zero e = cc
 one_member x y (suc k) e = absurd (cc)
 
 module _ (parts : Parts) (found : Explored) (memory : List Line) (number : ℕ) (origin : Origin) (width : found.width ≡ context_count parts) (numbered : Numbered [] found.pools.memories.items memory number) (memory_is : memory ≡ map (body_of parts) (range_with_len 0 (line_count parts)))
-    (start : AreAtStart parts found.pools.seats.items found.rows.items (context_count parts)) (links : found.pools.links.items ≡ []) (memories : found.memories.items ≡ number ∷ []) (origins : found.origins.items ≡ origin ∷ []) (halted : found.halted.items ≡ []) (trapped : found.trapped.items ≡ [])
+    (start : AreAtStart parts found.pools.seats.items found.rows.items (context_count parts)) (links : found.pools.links.items ≡ []) (memories : found.memories.items ≡ number ∷ []) (origins : found.origins.items ≡ origin ∷ [])
+    (halted : found.halted.items ≡ []) (trapped : found.trapped.items ≡ []) (broken : found.broken.items ≡ [])
     (leads : (k : ℕ) (known : Known) → slice_get found.leads.slots.items k ≡ Some (Some known) → ⊥) where
   rows_long : length found.rows.items ≡ context_count parts
   rows_long = sym (length-map found.rows.items (context_by found.pools.seats.items)) ∙ ap length start.contexts ∙ length-map-range_with_len (context_start parts) 0 (context_count parts)
@@ -360,6 +366,7 @@ module _ (parts : Parts) (found : Explored) (memory : List Line) (number : ℕ) 
       sizes = λ k m e. sized k m (numbered_cases [] found.pools.memories.items memory number k m numbered e);
     };
     leads = λ known there. absurd (leads there.slot known there.there);
+    breaks = λ some. absurd (omega (arith, some, ap length broken));
   }
     where
       no_link : (k : ℕ) (link : Link) → slice_get [] k ≡ Some link → ⊥

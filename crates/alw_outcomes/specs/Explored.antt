@@ -8,7 +8,7 @@ use Rattle.alw_msg.specs.Statuses.{is_halted}
 use Rattle.alw_model.specs.Flat.{context_start}
 use Rattle.alw_outcomes.specs.Places.{Place, place_start, place_turn, places_after, IsForward, IsRun}
 use Rattle.alw_outcomes.specs.Outcomes.{Ending, Halts, Traps, EndsIn, all_halted}
-use Rattle.alw_outcomes.specs.Sharing.{Goes, Breaks, IsPrivate, HasNext, HasPrivateNext}
+use Rattle.alw_outcomes.specs.Sharing.{Goes, Breaks, CanBreak, IsPrivate, HasNext, HasPrivateNext}
 use Rattle.alw_outcomes.specs.Pools.{ArePools, no_seat, context_of, place_of}
 use Rattle.alw_outcomes.specs.Remembered.{AreLeads}
 use Rattle.alw_outcomes.specs.declared.classes.Class.{Class}
@@ -40,7 +40,7 @@ places_in e = map (place_in e) (range_with_len 0 (length e.memories.items))
 abbrev pub found_in : Explored → Found
 found_in e = record { places = places_in e; origins = e.origins.items; halted = e.halted.items; trapped = e.trapped.items; broken = e.broken.items }
 
--- all numbers are of what the pools hold, each place has a row, and what is remembered as a lead is one
+-- all numbers are of what the pools hold, each place has a row, what is remembered as a lead is one, and a hint that was broken can be
 pub record IsStored (parts : Parts) (e : Explored) : Type 0 where
   pub width : e.width ≡ context_count parts
   pub rows : length e.rows.items ≡ length e.memories.items * e.width
@@ -48,6 +48,7 @@ pub record IsStored (parts : Parts) (e : Explored) : Type 0 where
   pub seat_in : (k s : ℕ) → slice_get e.rows.items k ≡ Some s → s < length e.pools.seats.items
   pub pools : ArePools parts e.pools
   pub leads : AreLeads parts e.classes.items e.pools e.leads.slots.items
+  pub breaks : 0 < length e.broken.items → CanBreak e.classes.items
 
 -- the place with this number has this memory and these contexts
 pub record IsRow (e : Explored) (at memory : ℕ) (row : List ℕ) : Type 0 where

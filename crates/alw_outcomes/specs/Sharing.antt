@@ -42,6 +42,12 @@ is_private classes _ = true
 abbrev pub need_at : Parts → Place → ℕ → Need
 need_at parts place context = need_of parts.code (regs_at place context) (line_count parts)
 
+-- some need of a context doesn't keep to the hint: none does so where all lines are shared
+pub record CanBreak (classes : List Class) : Type 0 where
+  pub context : ℕ
+  pub need : Need
+  pub broken : is_allowed classes context need ≡ false
+
 -- a context goes on, and keeps to the hint
 pub record Goes (parts : Parts) (classes : List Class) (place : Place) (context : ℕ) : Type 0 where
   pub on : GoesOn parts place context

@@ -1,4 +1,4 @@
-ghost use Rattle.std.specs.Prelude.{◌≡◌, ◌<◌, ◌≤◌, ◌+◌, ◌*◌, ◌++◌, ◌∷◌, [], length, map, take, drop, replicate, slice_get, slice_set, slice_index_or, ℕ, Some, true, false, IfOk, IfSome, OnOk, IsTrue};
+ghost use Rattle.std.specs.Prelude.{◌≡◌, ◌<◌, ◌≤◌, ◌+◌, ◌*◌, ◌++◌, ◌∷◌, [], length, map, take, drop, replicate, slice_get, slice_set, slice_index_or, ℕ, Some, true, false, max, IfOk, IfSome, OnOk, IsTrue};
 ghost use Rattle.std.specs.List.{range_with_len};
 ghost use Rattle.alw_image.specs.Images.{line_count, context_count};
 ghost use Rattle.alw_model.specs.Flat.{context_start};
@@ -45,12 +45,11 @@ pub struct Trapped {
     pub tt: u8,
 }
 
-/// What a search has found: how many places it may keep, its hint, pools, leads, and of each place the
-/// number of its memory, those of its contexts, and where it came from.
+/// What a search has found: its hint, pools, leads, and of each place the number of its memory, those of its
+/// contexts, and where it came from.
 #[derive(Drop)]
 pub struct Explored {
     pub width: u32,
-    pub most: u32,
     pub classes: Vec<Class>,
     pub pools: Pools,
     pub leads: Remembered,
@@ -76,8 +75,11 @@ pub(crate) fn explore_by(
     ensures real { IfOk result (λ found. IsReal image.now (found_in found)) }
     ensures closed { IfOk result (λ found. IsTrue found.is_complete → IsClosed image.now found.classes.items (found_in found)) }
     ensures complete { IfOk result (λ found. IsTrue found.is_complete → HasEvery image.now (endings_in (found_in found))) }
+    ensures hint { IfOk result (λ found. found.classes.items ≡ classes.now) }
+    ensures stopped { IfOk result (λ found. found.is_complete ≡ false → length found.broken.items ≡ 0 → most ≤ length found.memories.items) }
+    ensures few { IfOk result (λ found. length found.memories.items ≤ max most 1) }
 {
-    let mut found = start(alloc, image, classes, most)?;
+    let mut found = start(alloc, image, classes)?;
     let is_complete = expand_all(image, &mut found, most)?;
     found.is_complete = is_complete;
     Ok(found)
@@ -89,7 +91,10 @@ fn expand_all(image: &Image, found: &mut Explored, most: u32) -> Result<bool, No
     requires real { IsReal image.now (found_in found.old) }
     ensures stored { OnOk result (IsStored image.now found.new) }
     ensures real { OnOk result (IsReal image.now (found_in found.new)) }
+    ensures hint { OnOk result (found.new.classes.items ≡ found.old.classes.items) }
     ensures closed { IfOk result (λ all. IsTrue all → IsClosed image.now found.new.classes.items (found_in found.new)) }
+    ensures stopped { IfOk result (λ all. all ≡ false → length found.new.broken.items ≡ 0 → most ≤ length found.new.memories.items) }
+    ensures few { OnOk result (length found.new.memories.items ≤ max most (length found.old.memories.items)) }
 {
     for next in 0..most {
         if !found.broken.is_empty() {
@@ -98,7 +103,7 @@ fn expand_all(image: &Image, found: &mut Explored, most: u32) -> Result<bool, No
         if next as usize >= found.memories.len() {
             return Ok(true);
         }
-        if !expand(image, found, next)? {
+        if !expand(image, found, next, most)? {
             return Ok(false);
         }
     }
@@ -142,10 +147,11 @@ fn push_times(turns: &mut Vec<u32>, context: u32, times: u32) -> Result<(), NoMe
 }
 
 // The start alone is found.
-fn start(alloc: Global, image: &Image, classes: &[Class], most: u32) -> Result<Explored, NoMemory>
+fn start(alloc: Global, image: &Image, classes: &[Class]) -> Result<Explored, NoMemory>
     ensures stored { IfOk result (λ found. IsStored image.now found) }
     ensures real { IfOk result (λ found. IsReal image.now (found_in found)) }
     ensures hint { IfOk result (λ found. found.classes.items ≡ classes.now) }
+    ensures one { IfOk result (λ found. length found.memories.items ≡ 1) }
 {
     let mut pools = Pools::empty(alloc);
     let memory = Memory::start(alloc, image, lines_of(image))?;
@@ -161,7 +167,6 @@ fn start(alloc: Global, image: &Image, classes: &[Class], most: u32) -> Result<E
     })?;
     Ok(Explored {
         width: contexts_of(image),
-        most,
         classes: classes.to_vec(alloc)?,
         pools,
         leads: Remembered::empty(alloc),
@@ -223,7 +228,7 @@ fn status_of(start: Option<u32>) -> Status
 
 // Goes on from a place: by a private turn alone where there is one, and else by the turns of all contexts.
 // It answers whether it could keep all places that they lead to.
-fn expand(image: &Image, found: &mut Explored, at: u32) -> Result<bool, NoMemory>
+fn expand(image: &Image, found: &mut Explored, at: u32, most: u32) -> Result<bool, NoMemory>
     requires at { at < length found.old.memories.items }
     requires stored { IsStored image.now found.old }
     requires real { IsReal image.now (found_in found.old) }
@@ -231,15 +236,17 @@ fn expand(image: &Image, found: &mut Explored, at: u32) -> Result<bool, NoMemory
     ensures goes { OnOk result (GoesTo image.now (found_in found.old) (found_in found.new)) }
     ensures hint { OnOk result (found.new.classes.items ≡ found.old.classes.items) }
     ensures expanded { IfOk result (λ kept. IsTrue kept → HasExpanded image.now found.new.classes.items (found_in found.new) at) }
+    ensures stopped { IfOk result (λ kept. kept ≡ false → most ≤ length found.new.memories.items) }
+    ensures few { OnOk result (length found.new.memories.items ≤ max most (length found.old.memories.items)) }
 {
     let alone = first_alone(image, found, at)?;
     match alone {
         Some(context) => {
-            let kept = add_turn(image, found, at, context)?;
+            let kept = add_turn(image, found, at, context, most)?;
             Ok(kept)
         }
         None => {
-            let kept = add_turns(image, found, at)?;
+            let kept = add_turns(image, found, at, most)?;
             Ok(kept)
         }
     }
@@ -293,7 +300,7 @@ fn is_alone(image: &Image, found: &mut Explored, at: u32, context: u32) -> Resul
 }
 
 // Goes on by the turns of all contexts.
-fn add_turns(image: &Image, found: &mut Explored, at: u32) -> Result<bool, NoMemory>
+fn add_turns(image: &Image, found: &mut Explored, at: u32, most: u32) -> Result<bool, NoMemory>
     requires at { at < length found.old.memories.items }
     requires stored { IsStored image.now found.old }
     requires real { IsReal image.now (found_in found.old) }
@@ -301,9 +308,11 @@ fn add_turns(image: &Image, found: &mut Explored, at: u32) -> Result<bool, NoMem
     ensures goes { OnOk result (GoesTo image.now (found_in found.old) (found_in found.new)) }
     ensures hint { OnOk result (found.new.classes.items ≡ found.old.classes.items) }
     ensures full { IfOk result (λ kept. IsTrue kept → HasFull image.now found.new.classes.items (found_in found.new) at) }
+    ensures stopped { IfOk result (λ kept. kept ≡ false → most ≤ length found.new.memories.items) }
+    ensures few { OnOk result (length found.new.memories.items ≤ max most (length found.old.memories.items)) }
 {
     for context in 0..contexts_of(image) {
-        if !add_turn(image, found, at, context)? {
+        if !add_turn(image, found, at, context, most)? {
             return Ok(false);
         }
     }
@@ -320,6 +329,7 @@ fn tell_halt(image: &Image, found: &mut Explored, at: u32) -> Result<(), NoMemor
     ensures goes { OnOk result (GoesTo image.now (found_in found.old) (found_in found.new)) }
     ensures hint { OnOk result (found.new.classes.items ≡ found.old.classes.items) }
     ensures tells { OnOk result (TellsHalt (found_in found.new) at) }
+    ensures memories { OnOk result (found.new.memories.items ≡ found.old.memories.items) }
 {
     let _parts = image.parts();
     if has_halted(image, found, at) {
@@ -360,7 +370,13 @@ fn seat_halted(seats: &[Seat], at: u32) -> bool
 }
 
 // Finds what a context's turn leads to, and answers whether a place that it leads to could be kept.
-fn add_turn(image: &Image, found: &mut Explored, at: u32, context: u32) -> Result<bool, NoMemory>
+fn add_turn(
+    image: &Image,
+    found: &mut Explored,
+    at: u32,
+    context: u32,
+    most: u32,
+) -> Result<bool, NoMemory>
     requires context { context < context_count image.now }
     requires at { at < length found.old.memories.items }
     requires stored { IsStored image.now found.old }
@@ -369,6 +385,8 @@ fn add_turn(image: &Image, found: &mut Explored, at: u32, context: u32) -> Resul
     ensures goes { OnOk result (GoesTo image.now (found_in found.old) (found_in found.new)) }
     ensures hint { OnOk result (found.new.classes.items ≡ found.old.classes.items) }
     ensures turn { IfOk result (λ kept. IsTrue kept → HasTurn image.now found.new.classes.items (found_in found.new) at context) }
+    ensures stopped { IfOk result (λ kept. kept ≡ false → most ≤ length found.new.memories.items) }
+    ensures few { OnOk result (length found.new.memories.items ≤ max most (length found.old.memories.items)) }
 {
     let lead = lead_at(image, found, at, context)?;
     match lead {
@@ -387,7 +405,7 @@ fn add_turn(image: &Image, found: &mut Explored, at: u32, context: u32) -> Resul
             Ok(true)
         }
         Lead::Goes { to, more, first: _ } => {
-            let kept = add(image, found, at, context, to, more)?;
+            let kept = add(image, found, at, context, to, more, most)?;
             Ok(kept)
         }
     }
@@ -465,6 +483,7 @@ fn add(
     context: u32,
     to: Numbers,
     more: u32,
+    most: u32,
 ) -> Result<bool, NoMemory>
     requires context { context < context_count image.now }
     requires at { at < length found.old.memories.items }
@@ -474,6 +493,8 @@ fn add(
     ensures hint { OnOk result (found.new.classes.items ≡ found.old.classes.items) }
     ensures adds { IfOk result (λ kept. IsTrue kept → Adds (found_in found.old) (found_in found.new) (with_thread (place_in found.old at) context (thread_in found.old.pools to)) (record { from = at; context = context; turns = more + 1 })) }
     ensures full { IfOk result (λ kept. kept ≡ false → found_in found.new ≡ found_in found.old) }
+    ensures stopped { IfOk result (λ kept. kept ≡ false → most ≤ length found.new.memories.items) }
+    ensures few { OnOk result (length found.new.memories.items ≤ max most (length found.old.memories.items)) }
 {
     let _parts = image.parts();
     if more == u32::MAX {
@@ -485,7 +506,7 @@ fn add(
         Some(_at) => return Ok(true),
         None => {}
     }
-    if found.memories.len() >= found.most as usize {
+    if found.memories.len() >= most as usize {
         return Ok(false);
     }
     found.by_row.add(digest, found.memories.len() as u32)?;

@@ -1,4 +1,4 @@
-ghost use Rattle.std.specs.Prelude.{◌≡◌, IfOk, IsTrue};
+ghost use Rattle.std.specs.Prelude.{◌≡◌, ◌≤◌, length, false, max, IfOk, IfNone, IsTrue};
 ghost use Rattle.alw_outcomes.specs.Outcomes.{HasEvery};
 ghost use Rattle.alw_outcomes.specs.Explored.{found_in, endings_in, IsStored, IsReal, IsClosed};
 
@@ -11,12 +11,14 @@ use std::alloc::Global;
 
 /// Finds every outcome of an image. It first takes each line for one that nobody writes, and begins
 /// again whenever a turn shows that the line is written by one context, or used by several. It keeps at
-/// most `most` places, and the start, and stops as incomplete where there are more.
+/// most `most` places, and the start, and stops as incomplete only where it keeps so many.
 pub fn explore(alloc: Global, image: &Image, most: u32) -> Result<Explored, NoMemory>
     ensures stored { IfOk result (λ found. IsStored image.now found) }
     ensures real { IfOk result (λ found. IsReal image.now (found_in found)) }
     ensures closed { IfOk result (λ found. IsTrue found.is_complete → IsClosed image.now found.classes.items (found_in found)) }
     ensures complete { IfOk result (λ found. IsTrue found.is_complete → HasEvery image.now (endings_in (found_in found))) }
+    ensures stopped { IfOk result (λ found. found.is_complete ≡ false → most ≤ length found.memories.items) }
+    ensures few { IfOk result (λ found. length found.memories.items ≤ max most 1) }
 {
     let lines = lines_of(image);
     let mut classes = vec![in alloc; Class::Fixed; lines as usize]?;
@@ -27,12 +29,14 @@ pub fn explore(alloc: Global, image: &Image, most: u32) -> Result<Explored, NoMe
             None => return Ok(found),
         }
     }
-    let found = explore_by(alloc, image, &classes, most)?;
+    let found = explore_by(alloc, image, &[], most)?;
     Ok(found)
 }
 
 // The first turn that didn't keep to the hint.
-fn first_break(broken: &[Broken]) -> Option<Broken> {
+fn first_break(broken: &[Broken]) -> Option<Broken>
+    ensures { IfNone result (length broken.now ≡ 0) }
+{
     broken.first().copied()
 }
 

@@ -10,12 +10,12 @@ returns-in-Some-clause-adds c = λ _.
 
 pub returns-clause-stored : goal.returns-clause-stored
 returns-clause-stored c =
-    stored_added c.args.image.now c.args.found.now c.args.at c.args.context c.args.to c.requires.stored c.requires.at c.requires.to (record { width = c.args.found.now.width; most = c.args.found.now.most; classes = c.args.found.now.classes; pools = c.args.found.now.pools; leads = c.args.found.now.leads; memories = c.push.new.self; rows = c.extend_from_slice.new.self; by_row = c.add.new.self; origins = c.push-2.new.self; halted = c.args.found.now.halted; trapped = c.args.found.now.trapped; broken = c.args.found.now.broken; is_complete = c.args.found.now.is_complete })
-    c.in_ok-row.row.items refl refl refl refl c.in_ok-push.ensures.items (c.in_ok-extend_from_slice.ensures.items ∙ ap (λ (l : List ℕ). c.args.found.now.rows.items ++ l) c.deref-3.ensures.value) c.in_ok-row.ensures c.requires.context
+    stored_added c.args.image.now c.args.found.now c.args.at c.args.context c.args.to c.requires.stored c.requires.at c.requires.to (record { width = c.args.found.now.width; classes = c.args.found.now.classes; pools = c.args.found.now.pools; leads = c.args.found.now.leads; memories = c.push.new.self; rows = c.extend_from_slice.new.self; by_row = c.add.new.self; origins = c.push-2.new.self; halted = c.args.found.now.halted; trapped = c.args.found.now.trapped; broken = c.args.found.now.broken; is_complete = c.args.found.now.is_complete })
+    c.in_ok-row.row.items refl refl refl refl refl c.in_ok-push.ensures.items (c.in_ok-extend_from_slice.ensures.items ∙ ap (λ (l : List ℕ). c.args.found.now.rows.items ++ l) c.deref-3.ensures.value) c.in_ok-row.ensures c.requires.context
 
 pub returns-clause-adds : goal.returns-clause-adds
 returns-clause-adds c = λ _.
     let places =
-    places_added c.args.image.now c.args.found.now c.args.at c.args.context c.args.to c.requires.stored c.requires.at c.requires.to (record { width = c.args.found.now.width; most = c.args.found.now.most; classes = c.args.found.now.classes; pools = c.args.found.now.pools; leads = c.args.found.now.leads; memories = c.push.new.self; rows = c.extend_from_slice.new.self; by_row = c.add.new.self; origins = c.push-2.new.self; halted = c.args.found.now.halted; trapped = c.args.found.now.trapped; broken = c.args.found.now.broken; is_complete = c.args.found.now.is_complete })
-    c.in_ok-row.row.items refl refl refl refl c.in_ok-push.ensures.items (c.in_ok-extend_from_slice.ensures.items ∙ ap (λ (l : List ℕ). c.args.found.now.rows.items ++ l) c.deref-3.ensures.value) c.in_ok-row.ensures in
+    places_added c.args.image.now c.args.found.now c.args.at c.args.context c.args.to c.requires.stored c.requires.at c.requires.to (record { width = c.args.found.now.width; classes = c.args.found.now.classes; pools = c.args.found.now.pools; leads = c.args.found.now.leads; memories = c.push.new.self; rows = c.extend_from_slice.new.self; by_row = c.add.new.self; origins = c.push-2.new.self; halted = c.args.found.now.halted; trapped = c.args.found.now.trapped; broken = c.args.found.now.broken; is_complete = c.args.found.now.is_complete })
+    c.in_ok-row.row.items refl refl refl refl refl c.in_ok-push.ensures.items (c.in_ok-extend_from_slice.ensures.items ∙ ap (λ (l : List ℕ). c.args.found.now.rows.items ++ l) c.deref-3.ensures.value) c.in_ok-row.ensures in
     inr (λ i. record { places = places i; origins = c.in_ok-push-2.ensures.items i; halted = c.args.found.now.halted.items; trapped = c.args.found.now.trapped.items; broken = c.args.found.now.broken.items })

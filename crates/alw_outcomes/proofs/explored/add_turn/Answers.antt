@@ -33,3 +33,16 @@ returns-in_ok-push-in-Traps-clause-turn c = λ _. (trap_done c.args.image.now c.
 
 pub returns-in_ok-kept-in-Goes-clause-turn : goal.returns-in_ok-kept-in-Goes-clause-turn
 returns-in_ok-kept-in-Goes-clause-turn c = λ yes'. subst (λ (l : List Class). HasTurn c.args.image.now l (found_in c.add.new.found) c.args.at c.args.context) (sym c.in_ok-kept-in-Goes.ensures.hint) (kept_turn c.args.image.now c.lead_at.new.found.classes.items (found_in c.args.found.now) c.lead_at.new.found c.args.at c.args.context c.requires.real c.in_ok-lead.ensures.same (within_same c.lead_at.new.found c.args.found.now c.args.at c.requires.at c.in_ok-lead.ensures.memories) c.in-Goes.to c.in-Goes.more _ (found_in c.add.new.found) c.requires.context (rw c.in-Goes.is at c.in_ok-lead.ensures.lead) c.in_ok-kept-in-Goes.kept c.in_ok-kept-in-Goes.ensures.adds c.in_ok-kept-in-Goes.ensures.full yes')
+
+pub returns-in_ok-push-in-Breaks-clause-stored : goal.returns-in_ok-push-in-Breaks-clause-stored
+returns-in_ok-push-in-Breaks-clause-stored c =
+    let before = c.in_ok-lead.ensures.stored in
+    record {
+      width = before.width;
+      rows = before.rows;
+      memory_in = before.memory_in;
+      seat_in = before.seat_in;
+      pools = before.pools;
+      leads = before.leads;
+      breaks = λ _. record { context = c.args.context; need = _; broken = (rw c.in-Breaks.is at c.in_ok-lead.ensures.lead).1 };
+    }

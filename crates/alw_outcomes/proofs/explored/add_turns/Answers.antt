@@ -16,6 +16,7 @@ loop-context-preserved c =
       goes = goes_trans c.args.image.now (found_in c.args.found.now) (found_in c.loop-context.found) (found_in c.add_turn.new.found) c.loop-context.invariant.goes c.in_ok-add_turn.ensures.goes;
       hint = c.in_ok-add_turn.ensures.hint ∙ c.loop-context.invariant.hint;
       stored = c.in_ok-add_turn.ensures.stored;
+      few = let one = c.loop-context.invariant.few in let two = c.in_ok-add_turn.ensures.few in omega arith;
       turns = turns_more c.args.image.now c.add_turn.new.found.classes.items (found_in c.loop-context.found) (found_in c.add_turn.new.found) c.args.at c.loop-context.context within c.in_ok-add_turn.ensures.goes (subst (λ (l : List Class). (context : ℕ) → context < c.loop-context.context → HasTurn c.args.image.now l (found_in c.loop-context.found) c.args.at context) (sym c.in_ok-add_turn.ensures.hint) c.loop-context.invariant.turns) (c.in_ok-add_turn.ensures.turn c.if-not-branch.false);
     }
 

@@ -19,7 +19,9 @@ pub loop-next-preserved : goal.loop-next-preserved
 loop-next-preserved c = record {
   explored = explored_more c.args.image.now c.expand.new.found.classes.items (found_in c.loop-next.found) (found_in c.expand.new.found) c.loop-next.next
       (subst (λ (l : List Class). IsExploredTo c.args.image.now l (found_in c.loop-next.found) c.loop-next.next) (sym c.in_ok-expand.ensures.hint) c.loop-next.invariant.explored) (omega (arith, c.if-next-len.false, c.len.ensures, places_length c.loop-next.found)) c.in_ok-expand.ensures.goes (c.in_ok-expand.ensures.expanded c.if-not-branch.false);
+  hint = c.in_ok-expand.ensures.hint ∙ c.loop-next.invariant.hint;
   stored = c.in_ok-expand.ensures.stored;
+  few = let one = c.loop-next.invariant.few in let two = c.in_ok-expand.ensures.few in omega arith;
 }
 
 pub returns-clause-closed : goal.returns-clause-closed
