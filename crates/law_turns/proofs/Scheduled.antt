@@ -27,7 +27,7 @@ use Rattle.law_turns.proofs.Ends.{nodes_halted, nodes_trapped, trapped_one, halt
 use Rattle.law_turns.proofs.Fronts.{all_append, all_map, all_among, cut_in, before_last, cut_at}
 use Rattle.law_turns.proofs.Turns.{state_more, turns_more, turns_of_more, next_is_ready}
 
-serves_keeps : (c : ℕ) (event : Event) → serves c event ≡ true → is_evict event ≡ false
+pub serves_keeps : (c : ℕ) (event : Event) → serves c event ≡ true → is_evict event ≡ false
 serves_keeps c (Instr at) own = refl
 serves_keeps c (Handle at) own = refl
 serves_keeps c (Deliver from to) own = refl
@@ -62,11 +62,11 @@ module _ (parts : Parts) (parameters : Parameters) (s : MachineState) where
 
 module _ (parts : Parts) (parameters : Parameters) where
   -- the second part of entries that are legal
-  legal_behind : (s : MachineState) (front back : List Entry) → AreLegal parts parameters s (front ++ back) → AreLegal parts parameters (after parts parameters s front) back
+  pub legal_behind : (s : MachineState) (front back : List Entry) → AreLegal parts parameters s (front ++ back) → AreLegal parts parameters (after parts parameters s front) back
   legal_behind s [] back legal = legal
   legal_behind s (entry ∷ front) back legal = legal_behind (step parts parameters s entry.event) front back legal.1
 
-  legal_before : (s : MachineState) (front back : List Entry) → AreLegal parts parameters s (front ++ back) → AreLegal parts parameters s front
+  pub legal_before : (s : MachineState) (front back : List Entry) → AreLegal parts parameters s (front ++ back) → AreLegal parts parameters s front
   legal_before s [] back legal = tt
   legal_before s (entry ∷ front) back legal = (legal.0, legal_before (step parts parameters s entry.event) front back legal.1)
 
