@@ -48,6 +48,10 @@ text_text (text.Range line) = text_fault_text line (codes "range")
 text_text (text.Image fault) = image_text fault
 text_text text.NoMemory = []
 
+-- which turn of a claim isn't taken, and why
+abbrev pub turn_text : ℕ → List ℕ → List ℕ
+turn_text turn why = codes "turn " ++ (decimal turn ++ why)
+
 abbrev pub input_text : InputErr → List ℕ
 input_text input.TooLong = codes "too long"
 input_text (input.Asm fault) = asm_text fault
@@ -58,6 +62,9 @@ input_text input.Unfinished = codes "not finished"
 input_text (input.StateDiffers line) = codes "state line " ++ decimal line
 input_text (input.LimitDoesNotFit number most) = codes "limit " ++ (decimal number ++ (codes " above " ++ decimal most))
 input_text (input.WorkersDoNotFit number most) = codes "workers " ++ (decimal number ++ (codes " above " ++ decimal most))
+input_text (input.NotReady turn) = turn_text turn (codes " not ready")
+input_text (input.NotCurrent turn) = turn_text turn (codes " not current")
+input_text (input.AboveLimit turn) = turn_text turn (codes " above limit")
 
 -- the words before a refused input's reason
 unfoldable pub input_refused : List ℕ

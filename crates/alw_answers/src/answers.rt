@@ -17,7 +17,9 @@ pub const MOST_INPUT: usize = 268_435_456;
 /// Why an input was refused: it is too long; it is no source, no image, or no text of a trace or a claim; nodes
 /// times the event limit are above the most that a machine takes, with both numbers; there are more workers
 /// than nodes, with both numbers; an entry of a trace, counted from 0, is the first that isn't legal; no end
-/// holds after its last entry; or a line of a checkpoint, counted from 1, isn't the one that its entries leave.
+/// holds after its last entry, or after the turns of a claim; a line of a checkpoint, counted from 1, isn't the one
+/// that its entries leave; or a turn of a claim, counted from 0, isn't taken, for its context isn't ready, another
+/// one of its node runs, or an event of it has a stamp above the limit.
 #[derive(Clone, Copy, Debug, PartialEq, Eq)]
 pub enum InputErr {
     TooLong,
@@ -29,6 +31,9 @@ pub enum InputErr {
     LimitDoesNotFit(u64, u64),
     StateDiffers(u64),
     WorkersDoNotFit(u64, u64),
+    NotReady(u32),
+    NotCurrent(u32),
+    AboveLimit(u32),
 }
 
 /// The cause of an answer. A claim that differs from the flat run of its turns does so first at a place, with

@@ -1,7 +1,7 @@
 ghost use Rattle.std.specs.Prelude.{◌≡◌, ◌≤◌, ◌+◌, ◌++◌, [], length, codes};
 ghost use Rattle.std.specs.Fmt.{decimal};
 ghost use Rattle.alw_answers.specs.declared.answers.Cause.TheVariants.{Words, Input};
-ghost use Rattle.alw_answers.specs.ErrLines.{err_line, input_text, asm_text, asm_fault_text, image_text, image_fault_text, text_text, text_fault_text, input_refused, read_fault_line, write_fault_line, no_memory_line};
+ghost use Rattle.alw_answers.specs.ErrLines.{err_line, input_text, asm_text, asm_fault_text, image_text, image_fault_text, text_text, text_fault_text, turn_text, input_refused, read_fault_line, write_fault_line, no_memory_line};
 
 use crate::answers::{Cause, InputErr};
 use alw_image::ImageErr;
@@ -108,6 +108,9 @@ fn put_input(line: &mut ArrayString<96>, fault: &InputErr)
             put_long(line, *at);
         }
         InputErr::WorkersDoNotFit(number, most) => put_excess(line, "workers ", *number, *most),
+        InputErr::NotReady(turn) => put_turn(line, *turn, " not ready"),
+        InputErr::NotCurrent(turn) => put_turn(line, *turn, " not current"),
+        InputErr::AboveLimit(turn) => put_turn(line, *turn, " above limit"),
     }
 }
 
@@ -122,6 +125,18 @@ fn put_excess(line: &mut ArrayString<96>, what: &str, number: u64, most: u64)
     put_long(line, number);
     line.push_str(" above ");
     put_long(line, most);
+}
+
+// A turn that isn't taken, and why.
+fn put_turn(line: &mut ArrayString<96>, turn: u32, why: &str)
+    requires room { length line.old.bytes ≤ 24 }
+    requires short { length why.now ≤ 12 }
+    ensures text { line.new.bytes ≡ line.old.bytes ++ turn_text turn why.now }
+    ensures few { length line.new.bytes ≤ 80 }
+{
+    line.push_str("turn ");
+    put_number(line, turn);
+    line.push_str(why);
 }
 
 // The fault of a source.

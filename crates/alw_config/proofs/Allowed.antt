@@ -127,6 +127,10 @@ defaults_allowed names.Resume (suc (suc zero)) l = refl
 defaults_allowed names.Resume (suc (suc (suc k))) l = absurd (omega arith)
 defaults_allowed names.Outcomes zero l = refl
 defaults_allowed names.Outcomes (suc k) l = absurd (omega arith)
+defaults_allowed names.Schedule zero l = refl
+defaults_allowed names.Schedule (suc zero) l = refl
+defaults_allowed names.Schedule (suc (suc zero)) l = refl
+defaults_allowed names.Schedule (suc (suc (suc k))) l = absurd (omega arith)
 
 pub few_defaults : (name : Name) → length (defaults_of name) ≤ 6
 few_defaults names.Asm = omega arith
@@ -139,6 +143,7 @@ few_defaults names.Route = omega arith
 few_defaults names.Save = omega arith
 few_defaults names.Resume = omega arith
 few_defaults names.Outcomes = omega arith
+few_defaults names.Schedule = omega arith
 
 pub value_allowed : (name : Name) (chosen : List (Option Made)) (k : ℕ) → ValuesAreAllowed (options_of name) chosen → k < length (defaults_of name)
     → IsTrue (is_allowed (options_of name) k (value_by chosen (defaults_of name) k))

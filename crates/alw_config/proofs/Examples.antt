@@ -2,7 +2,7 @@
 use Rattle.std.proofs.Common.{◌≡◌, ℕ, zero, suc, ◌<◌, Bool, true, false, List, [], ◌∷◌, codes, refl, inl, arith}
 use Rattle.std.specs.Prelude.{None, Some}
 use Rattle.std.specs.Fmt.{digits}
-use Rattle.alw_config.specs.declared.commands.Command.TheVariants.{Asm, Run, Replay, Audit, Gen, Route, Save, Resume, Outcomes, Dis}
+use Rattle.alw_config.specs.declared.commands.Command.TheVariants.{Asm, Run, Replay, Audit, Gen, Route, Save, Resume, Outcomes, Dis, Schedule}
 use Rattle.alw_config.specs.declared.commands.How.TheVariants.{Seed, Workers}
 use Rattle.alw_config.specs.declared.commands.AsmForm.TheVariants.{Image, Listing}
 use Rattle.alw_config.specs.declared.commands.AuditForm.TheVariants as audits
@@ -121,6 +121,9 @@ resumed = refl
 
 searched : asked (codes "outcomes" ∷ []) ≡ Some (Outcomes 1000000)
 searched = refl
+
+scheduled : asked (codes "schedule" ∷ []) ≡ Some (Schedule (record { pointers = 4; sets = 256; limit = 32768; evict = 0 }))
+scheduled = refl
 
 abbrev is_bad_most : List ℕ → Bool
 is_bad_most value = is_bad (codes "outcomes" ∷ codes "--most" ∷ value ∷ []) 2

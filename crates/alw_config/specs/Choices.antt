@@ -101,4 +101,5 @@ IsWorkerCount (hows.Workers n) = (1 ≤ n) × (n ≤ 256)
 abbrev pub CommandIsWithin : Command → Type 0
 CommandIsWithin (command.Run how params write) = AreParameters params × IsWorkerCount how
 CommandIsWithin (command.Gen seed width height size) = IsWorkload width height size
+CommandIsWithin (command.Schedule params) = AreParameters params
 CommandIsWithin _ = ⊤

@@ -8,7 +8,7 @@ use Rattle.alw_config.specs.declared.commands.Command.TheVariants as command
 use Rattle.alw_config.specs.declared.rows.Value.{Value}
 use Rattle.alw_config.specs.declared.rows.Value.TheVariants.{Number, How, AsmForm, AuditForm, Form}
 use Rattle.alw_config.specs.declared.rows.Name.{Name}
-use Rattle.alw_config.specs.declared.rows.Name.TheVariants.{Asm, Run, Replay, Audit, Gen, Route, Save, Resume, Outcomes, Dis}
+use Rattle.alw_config.specs.declared.rows.Name.TheVariants.{Asm, Run, Replay, Audit, Gen, Route, Save, Resume, Outcomes, Dis, Schedule}
 use Rattle.alw_config.specs.declared.rows.Kind.{Kind}
 use Rattle.alw_config.specs.declared.rows.Kind.TheVariants as kinds
 use Rattle.alw_config.specs.declared.commands.How.TheVariants as hows
@@ -24,7 +24,7 @@ use Rattle.alw_config.specs.Values.{row_of, value_of}
 abbrev pub commands : List (List ℕ × Name)
 commands =
     (codes "asm", Asm) ∷ (codes "run", Run) ∷ (codes "replay", Replay) ∷ (codes "audit", Audit) ∷ (codes "gen", Gen) ∷ (codes "route", Route) ∷ (codes "save", Save) ∷
-    (codes "resume", Resume) ∷ (codes "outcomes", Outcomes) ∷ (codes "dis", Dis) ∷ []
+    (codes "resume", Resume) ∷ (codes "outcomes", Outcomes) ∷ (codes "schedule", Schedule) ∷ (codes "dis", Dis) ∷ []
 
 -- options, by their names
 abbrev pub Options : Type 0
@@ -52,6 +52,8 @@ options_of Save = (codes "--at", makes_by 0 (kinds.Between 0 4294967295)) ∷ []
 options_of Resume =
     (codes "--seed", makes_by 0 (kinds.Between 0 18446744073709551615)) ∷ (codes "--evict", makes_by 1 (kinds.Between 0 255)) ∷ (codes "--write", makes_by 2 kinds.Form) ∷ []
 options_of Outcomes = (codes "--most", makes_by 0 (kinds.Between 1 16777216)) ∷ []
+options_of Schedule =
+    (codes "--pointers", makes_by 0 (kinds.Between 1 8)) ∷ (codes "--sets", makes_by 1 kinds.SetCount) ∷ (codes "--limit", makes_by 2 (kinds.Between 1 1048576)) ∷ []
 
 abbrev pub defaults_of : Name → List Value
 defaults_of Asm = AsmForm asms.Image ∷ []
@@ -64,6 +66,7 @@ defaults_of Route = Number 0 ∷ []
 defaults_of Save = Number 4294967295 ∷ []
 defaults_of Resume = Number 0 ∷ Number 0 ∷ Form forms.Report ∷ []
 defaults_of Outcomes = Number 1000000 ∷ []
+defaults_of Schedule = Number 4 ∷ Number 256 ∷ Number 32768 ∷ []
 
 -- a word is an option that makes this choice
 abbrev pub makes : Options → ℕ → List ℕ → Bool
@@ -137,4 +140,5 @@ command_of Route (Number seed ∷ []) = Some (command.Route seed)
 command_of Save (Number at ∷ []) = Some (command.Save at)
 command_of Resume (Number seed ∷ Number evict ∷ Form write ∷ []) = Some (command.Resume seed evict write)
 command_of Outcomes (Number most ∷ []) = Some (command.Outcomes most)
+command_of Schedule (Number pointers ∷ Number sets ∷ Number limit ∷ []) = Some (command.Schedule (record { pointers = pointers; sets = sets; limit = limit; evict = 0 }))
 command_of _ _ = None

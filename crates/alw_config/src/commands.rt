@@ -50,6 +50,10 @@ pub enum Command {
     },
     /// Writes the source of an image.
     Dis,
+    /// Takes the turns of a claim, in their order, on a machine with these parameters.
+    Schedule {
+        params: Params,
+    },
 }
 
 /// What an assembled source is written as.

@@ -11,7 +11,7 @@ use crate::rows::{
     MOST_CHOICES, Made, Meaning, NO_DEFAULTS, NO_OPTIONS, Name, OUTCOMES_DEFAULTS,
     OUTCOMES_OPTIONS, REPLAY_DEFAULTS, REPLAY_OPTIONS, RESUME_DEFAULTS, RESUME_OPTIONS,
     ROUTE_DEFAULTS, ROUTE_OPTIONS, RUN_DEFAULTS, RUN_OPTIONS, Row, Rule, SAVE_DEFAULTS,
-    SAVE_OPTIONS, Value,
+    SAVE_OPTIONS, SCHEDULE_DEFAULTS, SCHEDULE_OPTIONS, Value,
 };
 use alw_image::Params;
 
@@ -99,6 +99,7 @@ impl Name {
             Name::Resume => &RESUME_OPTIONS,
             Name::Outcomes => &OUTCOMES_OPTIONS,
             Name::Dis => &NO_OPTIONS,
+            Name::Schedule => &SCHEDULE_OPTIONS,
         }
     }
 
@@ -118,6 +119,7 @@ impl Name {
             Name::Resume => &RESUME_DEFAULTS,
             Name::Outcomes => &OUTCOMES_DEFAULTS,
             Name::Dis => &NO_DEFAULTS,
+            Name::Schedule => &SCHEDULE_DEFAULTS,
         }
     }
 
@@ -195,6 +197,14 @@ impl Name {
             },
             Name::Outcomes => Command::Outcomes {
                 most: self.value(chosen, 0).number() as u32,
+            },
+            Name::Schedule => Command::Schedule {
+                params: Params::of(
+                    self.value(chosen, 0).number() as u8,
+                    self.value(chosen, 1).number() as u32,
+                    self.value(chosen, 2).number() as u32,
+                    0,
+                ),
             },
         }
     }

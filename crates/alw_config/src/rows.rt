@@ -18,6 +18,7 @@ pub(crate) enum Name {
     Save,
     Resume,
     Outcomes,
+    Schedule,
     Dis,
 }
 
@@ -79,8 +80,15 @@ pub(crate) struct Rule {
 // The most choices that a command leaves.
 pub(crate) const MOST_CHOICES: usize = 6;
 
+// The parameters of a machine where no option gives them.
+const DEFAULT_POINTERS: u64 = 4;
+
+const DEFAULT_SETS: u64 = 256;
+
+const DEFAULT_LIMIT: u64 = 32_768;
+
 // The commands, by their names.
-pub(crate) const COMMANDS: [Row<Name>; 10] = [
+pub(crate) const COMMANDS: [Row<Name>; 11] = [
     (b"asm", Name::Asm),
     (b"run", Name::Run),
     (b"replay", Name::Replay),
@@ -90,6 +98,7 @@ pub(crate) const COMMANDS: [Row<Name>; 10] = [
     (b"save", Name::Save),
     (b"resume", Name::Resume),
     (b"outcomes", Name::Outcomes),
+    (b"schedule", Name::Schedule),
     (b"dis", Name::Dis),
 ];
 
@@ -184,9 +193,9 @@ pub(crate) const RUN_OPTIONS: [Row<Meaning>; 7] = [
 // What `run` chooses where no option does.
 pub(crate) const RUN_DEFAULTS: [Value; 6] = [
     Value::How(How::Seed(0)),
-    Value::Number(4),
-    Value::Number(256),
-    Value::Number(32_768),
+    Value::Number(DEFAULT_POINTERS),
+    Value::Number(DEFAULT_SETS),
+    Value::Number(DEFAULT_LIMIT),
     Value::Number(0),
     Value::Form(Form::Report),
 ];
@@ -332,3 +341,35 @@ pub(crate) const OUTCOMES_OPTIONS: [Row<Meaning>; 1] = [(
 )];
 
 pub(crate) const OUTCOMES_DEFAULTS: [Value; 1] = [Value::Number(1_000_000)];
+
+// The options of `schedule`.
+pub(crate) const SCHEDULE_OPTIONS: [Row<Meaning>; 3] = [
+    (
+        b"--pointers",
+        Meaning {
+            choice: 0,
+            kind: Kind::Between(1, MOST_POINTERS as u64),
+        },
+    ),
+    (
+        b"--sets",
+        Meaning {
+            choice: 1,
+            kind: Kind::SetCount,
+        },
+    ),
+    (
+        b"--limit",
+        Meaning {
+            choice: 2,
+            kind: Kind::Between(1, MOST_LIMIT as u64),
+        },
+    ),
+];
+
+// What `schedule` chooses where no option does.
+pub(crate) const SCHEDULE_DEFAULTS: [Value; 3] = [
+    Value::Number(DEFAULT_POINTERS),
+    Value::Number(DEFAULT_SETS),
+    Value::Number(DEFAULT_LIMIT),
+];

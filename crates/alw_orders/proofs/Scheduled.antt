@@ -1,0 +1,39 @@
+-- What a claim that was read is scheduled to, or why it isn't.
+use Rattle.std.proofs.Common.{◌≡◌, ℕ, ◌<◌, List, refl, sym, subst, ap, ◌∙◌}
+use Rattle.std.specs.Prelude.{Err}
+use Rattle.alw_image.specs.Parameters.{Parameters}
+use Rattle.alw_model.specs.declared.ends.Ended.{Ended}
+use Rattle.alw_model.specs.Ends.{IsEnd}
+use Rattle.alw_mesh.specs.Limits.{most_steps}
+use Rattle.alw_mesh.specs.Histories.{History, begun}
+use Rattle.alw_trace.specs.declared.values.Claim.{Claim}
+use Rattle.alw_config.specs.declared.commands.Form.TheVariants.{Trace}
+use Rattle.alw_checks.specs.Auditing.{SpellsClaim}
+use Rattle.alw_runs.specs.Forms.{IsTold, output_of}
+use Rattle.alw_runs.proofs.Ended.{told_of_run}
+use Rattle.alw_answers.specs.Outputs.{Gives}
+use Rattle.alw_serve.specs.declared.errors.Hindrance.TheVariants.{NotReady, NotCurrent, AboveLimit}
+use Rattle.alw_serve.specs.declared.errors.ServeErr.{ServeErr}
+use Rattle.alw_serve.specs.declared.errors.ServeErr.TheVariants as serves
+use Rattle.alw_serve.specs.Serving.{HasTaken, Serves}
+use Rattle.alw_orders.specs.Scheduling.{Schedules, IsNotScheduled, IsOfClaim, refusal_of_serve}
+
+module _ (parameters : Parameters) (bytes : List ℕ) (claim : Claim) (spells : SpellsClaim bytes claim) where
+  pub not_served : (fault : ServeErr) → Serves claim.image parameters claim.turns (Err fault) → Gives (Schedules parameters bytes) (IsNotScheduled parameters bytes) (Err (refusal_of_serve fault))
+  not_served (serves.DoesNotFit number most) is =
+      record { claim = claim; spelled = spells; holds = record { most_is = is.2; number_is = is.1; above = subst (λ (n : ℕ). most_steps < n) is.1 is.0 } }
+  not_served (serves.NotTaken turn NotReady) is = record { claim = claim; spelled = spells; holds = is }
+  not_served (serves.NotTaken turn NotCurrent) is = record { claim = claim; spelled = spells; holds = is }
+  not_served (serves.NotTaken turn AboveLimit) is = record { claim = claim; spelled = spells; holds = is }
+  not_served serves.NotFinished is = record { claim = claim; spelled = spells; holds = is }
+  not_served serves.NoMemory is = tt
+
+-- the trace of a machine that has taken a claim's turns
+pub scheduled : (parameters : Parameters) (bytes : List ℕ) (h : History) (ended : Ended) → IsOfClaim parameters bytes (record { machine = h; ended = ended }) → Schedules parameters bytes (output_of h ended Trace)
+scheduled parameters bytes h ended is = record {
+  claim = is.claim;
+  spelled = is.spelled;
+  told = subst (λ (now : History). IsTold now.image now.parameters Trace (output_of h ended Trace)) is.taken.begun (told_of_run h ended Trace is.taken.run is.end);
+  taken = subst (HasTaken is.claim.image parameters is.claim.turns) is.taken.begun is.taken;
+  merged = refl;
+}
