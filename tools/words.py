@@ -62,6 +62,7 @@ COMMANDS = {
     'save': ('trace', 'checkpoint', 'cuts a trace: a checkpoint at a stamp'),
     'resume': ('checkpoint', 'report', 'goes on from a checkpoint: the whole run'),
     'outcomes': ('image', 'outcomes', 'takes turns in every order on one memory: all that an image can come to'),
+    'schedule': ('claim', 'trace', 'has contexts take the turns of a claim in their order: the trace of that run'),
     'dis': ('image', 'source', 'writes an image back: its source'),
 }
 # The forms of a command that are other texts than those of their names.
@@ -79,6 +80,8 @@ PHRASES = {
     'save': {'--at': 'the greatest stamp that is kept'},
     'resume': {'--seed': ORDER, '--evict': EVICT, '--write': FORM},
     'outcomes': {'--most': 'the places that are kept at most'},
+    'schedule': {'--pointers': 'hardware pointers of a directory entry', '--sets': "sets of a node's cache",
+                 '--limit': 'the greatest stamp of an event before all contexts have halted'},
     'dis': {},
 }
 OWN = {

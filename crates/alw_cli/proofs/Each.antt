@@ -9,6 +9,7 @@ use Rattle.alw_checks.proofs.Kept.{audit_kept, search_kept}
 use Rattle.alw_runs.proofs.Kept.{run_kept, replay_kept}
 use Rattle.alw_threads.proofs.Kept.{work_kept}
 use Rattle.alw_cuts.proofs.Kept.{route_kept, save_kept, resume_kept}
+use Rattle.alw_orders.proofs.Kept.{schedule_kept}
 
 pub each_kept : (command : Command) → IsKept (task_of command)
 each_kept (commands.Asm form) = asm_kept form
@@ -20,5 +21,6 @@ each_kept (commands.Gen seed width height size) = gen_kept (record { seed = seed
 each_kept (commands.Route seed) = route_kept
 each_kept (commands.Save at) = save_kept at
 each_kept (commands.Resume seed evict form) = resume_kept seed evict form
-each_kept (commands.Outcomes most) = search_kept
+each_kept (commands.Outcomes most) = search_kept most
+each_kept (commands.Schedule params) = schedule_kept params
 each_kept commands.Dis = dis_kept

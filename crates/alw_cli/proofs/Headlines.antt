@@ -1,13 +1,17 @@
 -- The headline of what the program answers.
-use Rattle.std.proofs.Common.{◌≡◌, ℕ, true, List, refl, sym, ap, subst, ◌∙◌, ◌⊎◌, inl, inr}
+use Rattle.std.proofs.Common.{◌≡◌, ℕ, ◌+◌, ◌*◌, ◌≤◌, true, List, length, refl, sym, ap, subst, ◌∙◌, ◌⊎◌, inl, inr}
 use Rattle.std.proofs.lemmas.Bool.{false≢true}
 use Rattle.alw_msg.specs.declared.events.Entry.{Entry}
 use Rattle.alw_image.specs.declared.parts.Parts.{Parts}
 use Rattle.alw_image.specs.Faults.{image_in}
+use Rattle.alw_image.specs.Images.{node_count}
 use Rattle.alw_image.specs.Parameters.{Parameters}
 use Rattle.alw_model.specs.Headline.{IsCoherentRun, IsScheduled}
+use Rattle.law_machine.proofs.RunFacts.{always_bounded}
 use Rattle.alw_sched.specs.Schedules.{IsSeededRun}
+use Rattle.alw_sched.proofs.Bounded.{seeded_bounded}
 use Rattle.alw_config.specs.declared.commands.Form.{Form}
+use Rattle.alw_config.specs.declared.commands.Form.TheVariants.{Trace}
 use Rattle.alw_config.specs.declared.commands.Command.{Command}
 use Rattle.alw_config.specs.declared.commands.Command.TheVariants as commands
 use Rattle.alw_config.specs.declared.commands.How.TheVariants as hows
@@ -23,6 +27,7 @@ use Rattle.alw_runs.specs.Running.{run_task}
 use Rattle.alw_threads.specs.Working.{work_task}
 use Rattle.alw_runs.specs.Replaying.{replay_task}
 use Rattle.alw_cuts.specs.Resuming.{resume_task}
+use Rattle.alw_orders.specs.Scheduling.{schedule_task}
 use Rattle.alw_cli.specs.Answers.{task_of, Answers}
 use Rattle.alw_cli.specs.Headline.{has_journal, IsCoherent, Promised, Headline}
 use Rattle.alw_cli.proofs.Completing.{answered_to}
@@ -61,6 +66,8 @@ module _ (image : Parts) (parameters : Parameters) (form : Form) (output : Outpu
     ended = told.ended;
     run = subst (λ (j : List Entry). IsCoherentRun image parameters j told.ended) (sym same) told.run;
     told = end_of end;
+    few = subst (λ (j : List Entry). length j ≤ node_count image * parameters.limit + (3 * (node_count image * parameters.sets) + 2 * (node_count image * image.per_node))) (sym same)
+        (always_bounded image told.image_is parameters told.parameters_are output.journal told.run.legal);
   }
 
 promised : (command : Command) (input input' out out' : Stream) (c : Cause) (journal : List Entry) (merged : ℕ) →
@@ -78,6 +85,8 @@ promised (commands.Run (hows.Seed seed) parameters form) input input' out out' c
         coherent = coherent image parameters form made.output runs.told c journal made.journal_is made.told;
         scheduled = subst (λ (j : List Entry). IsScheduled image parameters j) (sym made.journal_is) runs.scheduled;
         seeded = subst (λ (j : List Entry). IsSeededRun image parameters seed j) (sym made.journal_is) runs.seeded;
+        fewer = subst (λ (j : List Entry). length j ≤ node_count image * parameters.limit + 2 * (node_count image * image.per_node)) (sym made.journal_is)
+            (seeded_bounded image runs.told.image_is parameters runs.told.parameters_are seed made.output.journal runs.seeded);
       };
     }
 promised (commands.Run (hows.Workers n) parameters form) input input' out out' c journal merged answer has =
@@ -105,6 +114,13 @@ promised (commands.Resume seed evict form) input input' out out' c journal merge
       image = resumes.machine.image;
       parameters = resumes.machine.parameters;
       coherent = coherent resumes.machine.image resumes.machine.parameters form made.output resumes.told c journal made.journal_is made.told;
+    }
+promised (commands.Schedule parameters) input input' out out' c journal merged answer has =
+    let made = has_output (schedule_task parameters) input input' out out' c journal merged answer has in
+    let schedules = made.reads.holds in
+    record {
+      image = schedules.claim.image;
+      coherent = coherent schedules.claim.image parameters Trace made.output schedules.told c journal made.journal_is made.told;
     }
 promised _ input input' out out' c journal merged answer has = tt
 

@@ -22,6 +22,7 @@ use Rattle.alw_cuts.specs.Routing.{route_task}
 use Rattle.alw_cuts.specs.Saving.{save_task}
 use Rattle.alw_cuts.specs.Resuming.{resume_task}
 use Rattle.alw_checks.specs.Searching.{search_task}
+use Rattle.alw_orders.specs.Scheduling.{schedule_task}
 use Rattle.alw_answers.specs.ErrLines.{err_line}
 
 -- ---- the answers
@@ -37,7 +38,8 @@ task_of (commands.Gen seed width height size) = gen_task (record { seed = seed; 
 task_of (commands.Route seed) = route_task
 task_of (commands.Save at) = save_task at
 task_of (commands.Resume seed evict form) = resume_task seed evict form
-task_of (commands.Outcomes most) = search_task
+task_of (commands.Outcomes most) = search_task most
+task_of (commands.Schedule params) = schedule_task params
 task_of commands.Dis = dis_task
 
 -- a command asks for no workers

@@ -1,9 +1,9 @@
 -- The headline of what the program answers: of each command that answers a run's journal, what is promised of that journal.
-use Rattle.std.specs.Prelude.{◌≡◌, ℕ, ◌≤◌, Bool, true, false, None, List, ◌⊎◌, ⊤}
+use Rattle.std.specs.Prelude.{◌≡◌, ℕ, ◌+◌, ◌*◌, ◌≤◌, Bool, true, false, None, List, length, ◌⊎◌, ⊤}
 use Rattle.alw_msg.specs.declared.events.Entry.{Entry}
 use Rattle.alw_image.specs.declared.parts.Parts.{Parts}
 use Rattle.alw_image.specs.Faults.{image_in, image_fault}
-use Rattle.alw_image.specs.Images.{IsImage, spelling}
+use Rattle.alw_image.specs.Images.{IsImage, node_count, spelling}
 use Rattle.alw_image.specs.Parameters.{Parameters, AreParameters}
 use Rattle.alw_model.specs.declared.ends.Ended.{Ended}
 use Rattle.alw_model.specs.Headline.{IsCoherentRun, IsScheduled}
@@ -27,7 +27,8 @@ has_journal (cause.Limit event) = true
 has_journal cause.WriteFault = true
 has_journal _ = false
 
--- the journal is a coherent run of an image that fits, up to an end, which is the cause, unless a write failed
+-- the journal is a coherent run of an image that fits, up to an end, which is the cause, unless a write failed; and it is bounded: by N * L, three for
+-- each set of each node, and two for each line
 pub record IsCoherent (image : Parts) (parameters : Parameters) (answered : Cause) (journal : List Entry) : Type 0 where
   pub image_is : IsImage image
   pub parameters_are : AreParameters parameters
@@ -35,11 +36,17 @@ pub record IsCoherent (image : Parts) (parameters : Parameters) (answered : Caus
   pub ended : Ended
   pub run : IsCoherentRun image parameters journal ended
   pub told : (answered ≡ cause_of (ending_of ended)) ⊎ (answered ≡ cause.WriteFault)
+  pub few : length journal ≤ node_count image * parameters.limit + (3 * (node_count image * parameters.sets) + 2 * (node_count image * image.per_node))
 
 -- of some image under some parameters
 pub record IsSomeCoherent (answered : Cause) (journal : List Entry) : Type 0 where
   pub image : Parts
   pub parameters : Parameters
+  pub coherent : IsCoherent image parameters answered journal
+
+-- of some image under these parameters
+pub record IsCoherentUnder (parameters : Parameters) (answered : Cause) (journal : List Entry) : Type 0 where
+  pub image : Parts
   pub coherent : IsCoherent image parameters answered journal
 
 -- the whole input is an image, of which this holds
@@ -50,11 +57,12 @@ pub record IsOfImage (input input' : Stream) (Holds : Parts → Type 0) : Type 0
   pub spelled : bytes ≡ spelling (image_in bytes)
   pub holds : Holds (image_in bytes)
 
--- a coherent run by the schedule of a seed
+-- a coherent run by the schedule of a seed, which has at most N * L + 2 * N * K entries
 pub record IsSeedsRun (seed : ℕ) (parameters : Parameters) (answered : Cause) (journal : List Entry) (image : Parts) : Type 0 where
   pub coherent : IsCoherent image parameters answered journal
   pub scheduled : IsScheduled image parameters journal
   pub seeded : IsSeededRun image parameters seed journal
+  pub fewer : length journal ≤ node_count image * parameters.limit + 2 * (node_count image * image.per_node)
 
 -- what is promised of a command's journal
 abbrev pub Promised : Command → Stream → Stream → Cause → List Entry → Type 0
@@ -63,6 +71,7 @@ Promised (commands.Run (hows.Workers workers) parameters form) input input' answ
     IsOfImage input input' (λ image. IsCoherent image parameters answered journal)
 Promised (commands.Replay form) input input' answered journal = IsSomeCoherent answered journal
 Promised (commands.Resume seed evict form) input input' answered journal = IsSomeCoherent answered journal
+Promised (commands.Schedule parameters) input input' answered journal = IsCoherentUnder parameters answered journal
 Promised _ input input' answered journal = ⊤
 
 -- the words, the source before and after, and the cause and the journal that were answered

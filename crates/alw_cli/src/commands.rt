@@ -17,6 +17,7 @@ use alw_config::{Command, Form, How};
 use alw_cuts::{resume, route_bytes, save_bytes};
 use alw_image::Params;
 use alw_io::{Sink, Source};
+use alw_orders::schedule_bytes;
 use alw_runs::{replay_bytes, run_bytes};
 use std::alloc::Global;
 
@@ -77,6 +78,7 @@ fn make(alloc: Global, command: Command, bytes: &[u8]) -> Result<Output, Refusal
         Command::Resume { seed, evict, write } => resume(alloc, seed, evict, write, bytes),
         Command::Outcomes { most } => search_bytes(alloc, most, bytes),
         Command::Dis => read_back(alloc, bytes),
+        Command::Schedule { params } => schedule_bytes(alloc, &params, bytes),
     }
 }
 

@@ -1,16 +1,16 @@
 -- What a run of a searched image reports is told.
-use Rattle.std.proofs.Common.{◌≡◌, ℕ, Bool, true, false, ◌&&◌, cond, List, Some, None, refl, sym, ap, ◌∙◌, subst, arith}
+use Rattle.std.proofs.Common.{◌≡◌, refl, sym, ◌∙◌, subst}
 use Rattle.alw_image.specs.declared.parts.Parts.{Parts}
 use Rattle.alw_image.specs.Parameters.{Parameters}
 use Rattle.alw_model.specs.declared.ends.Ended.{Ended}
 use Rattle.alw_model.specs.declared.ends.Ended.TheVariants as ended
-use Rattle.alw_model.specs.Machine.{MachineState, state, any_trapped, has_halted, is_settled, goes_on, end_of}
-use Rattle.alw_model.specs.Machine as machine
+use Rattle.alw_model.specs.Machine.{state}
 use Rattle.alw_model.specs.Ends.{IsEnd}
 use Rattle.alw_report.specs.Reports.{told_of}
 use Rattle.alw_config.specs.declared.commands.Form.{Form}
 use Rattle.alw_endings.specs.declared.values.Outcomes.{Outcomes}
 use Rattle.alw_endings.specs.Schedules.{TellsEveryRun}
+use Rattle.law_endings.proofs.Ends.{all_have}
 use Rattle.alw_answers.specs.declared.outputs.Ending.{Ending}
 use Rattle.alw_answers.specs.declared.outputs.Ending.TheVariants as ending
 use Rattle.alw_answers.specs.declared.outputs.Output.{Output}
@@ -23,15 +23,6 @@ is_halt : (e : Ended) → ending.Fine ≡ ending_of e → e ≡ ended.Halted
 is_halt ended.Halted same = refl
 is_halt (ended.Trapped at) same = absurd cc
 is_halt (ended.Limit event) same = absurd cc
-
-all_have : (parts : Parts) (parameters : Parameters) (s : MachineState) → end_of parts parameters s ≡ Some machine.Halted → has_halted s ≡ true
-all_have parts parameters s end = go (any_trapped s) (has_halted s) (is_settled s) (goes_on parts parameters s) end
-  where
-    go : (a b c d : Bool) → cond a (Some machine.Trapped) (cond (b && c) (Some machine.Halted) (cond d None (Some machine.Limit))) ≡ Some machine.Halted → b ≡ true
-    go true b c d e = absurd cc
-    go false true c d e = refl
-    go false false c true e = absurd cc
-    go false false c false e = absurd cc
 
 pub tells_report : (image : Parts) (told : Outcomes) → TellsEveryRun image told → (parameters : Parameters) (form : Form) (output : Output) → IsTold image parameters form output →
     output.ending ≡ ending.Fine → TellsReport image told (told_of image parameters output.journal ended.Halted)

@@ -33,6 +33,11 @@ ghost use Rattle.alw_config.specs.declared.commands.AuditForm.{AuditForm};
 ghost use Rattle.alw_config.specs.declared.commands.Form.{Form};
 ghost use Rattle.alw_answers.specs.declared.outputs.Ending.TheVariants.{Fine};
 ghost use Rattle.alw_endings.specs.Schedules.{TellsEveryRun};
+ghost use Rattle.alw_endings.specs.declared.values.StuckRun.TheVariants.{No};
+ghost use Rattle.alw_image.specs.Parameters.{AreParameters};
+ghost use Rattle.law_turns.specs.Stuck.{NoneIsStuck};
+ghost use Rattle.law_endings.specs.Runs.{ComesToTold, TellsRuns};
+ghost use Rattle.alw_orders.specs.Scheduling.{Schedules};
 ghost use Rattle.alw_checks.specs.Searching.{Searches, TellsReport};
 
 /// A replay reports what the run reported. The trace of a run is accepted, and where its replay is
@@ -72,11 +77,30 @@ pub fn checkpoints_are_resumed()
 /// prints by context and the memory of the run's report is told; and the trap of each context that has trapped. So it is
 /// of each output that tells a run of the image, as those of `run`, `replay` and `resume` do.
 pub fn every_schedule_is_told()
-    ensures runs { (bytes : List ℕ) → (searched : Output) → (searches : Searches bytes searched) → searches.told.is_complete ≡ true →
+    ensures runs { (most : ℕ) → (bytes : List ℕ) → (searched : Output) → (searches : Searches most bytes searched) → searches.told.is_complete ≡ true →
         (parameters : Parameters) → (form : Form) → (output : Output) → IsTold (image_in bytes) parameters form output → output.ending ≡ Fine →
         TellsReport (image_in bytes) searches.told (told_of (image_in bytes) parameters output.journal Halted) }
-    ensures journals { (bytes : List ℕ) → (output : Output) → (searches : Searches bytes output) → searches.told.is_complete ≡ true →
+    ensures journals { (most : ℕ) → (bytes : List ℕ) → (output : Output) → (searches : Searches most bytes output) → searches.told.is_complete ≡ true →
         TellsEveryRun (image_in bytes) searches.told }
+{}
+
+/// What `outcomes` tells of an image with one context a node is of runs of the machine, under all parameters, whether the
+/// search is complete or not. Each outcome and each trap is one of a legal journal that takes the turns told with it, with
+/// these prints by context and this memory, or this trap; or the limit alone stands against these turns. Behind the turns
+/// told for `stuck yes` no legal journal ends; and where `stuck no` is told, each legal journal can come to an end, where
+/// the limit leaves room.
+pub fn told_ends_are_of_runs()
+    ensures told { (most : ℕ) → (bytes : List ℕ) → (output : Output) → (searches : Searches most bytes output) → (image_in bytes).contexts ≡ 1 →
+        (parameters : Parameters) → AreParameters parameters → TellsRuns (image_in bytes) parameters searches.told }
+    ensures unstuck { (most : ℕ) → (bytes : List ℕ) → (output : Output) → (searches : Searches most bytes output) → (image_in bytes).contexts ≡ 1 →
+        searches.told.stuck ≡ No → NoneIsStuck (image_in bytes) }
+{}
+
+/// What `schedule` makes of a claim with the turns that `outcomes` tells with an outcome or a trap comes to it, with however
+/// many contexts a node: all contexts halt with these prints by context and this memory, or the context traps so.
+pub fn told_turns_are_scheduled()
+    ensures { (most : ℕ) → (bytes : List ℕ) → (searched : Output) → (searches : Searches most bytes searched) → (parameters : Parameters) → (claimed : List ℕ) → (output : Output) →
+        (schedules : Schedules parameters claimed output) → schedules.claim.image ≡ image_in bytes → ComesToTold (image_in bytes) parameters searches.told output.journal }
 {}
 
 /// What `dis` writes of an image is a source that `asm` assembles to that image, byte for byte; and no longer than an

@@ -26,3 +26,6 @@ returns-in-Outcomes c = rw c.in-Outcomes.is c.search_bytes.ensures
 
 pub returns-in-Dis : goal.returns-in-Dis
 returns-in-Dis c = rw c.in-Dis.is c.read_back.ensures
+
+pub returns-in-Schedule : goal.returns-in-Schedule
+returns-in-Schedule c = rw c.in-Schedule.is c.schedule_bytes.ensures
