@@ -195,6 +195,33 @@ def of_entry(number, data):
     return f'entry {number} stands on line {start + 1 + number}: {shown(lines[start + number])}' if start and start + number < len(lines) else None
 
 
+# Why a text ends too soon, by what it is.
+UNFINISHED = {'trace': 'the run goes on behind the last entry: run writes whole traces',
+              'claim': 'a context goes on behind the last turn: the claim of a run that ended halted or trapped has all its turns'}
+# Why a turn of a claim isn't taken.
+OF_TURNS = {'not ready': 'a context that has halted takes no turn, and behind a trap none does',
+            'not current': 'a lower slot of its node goes on: here a node changes to its next context where that one has halted'}
+
+
+def of_turn(number, data):
+    """A turn of a claim: whose it is, and on which line."""
+    lines, turns = data.decode(errors='replace').split('\n'), 0
+    start = next((at for at, line in enumerate(lines, 1) if line.startswith('runs ')), len(lines))
+    for at, line in enumerate(lines[start:], start + 1):
+        stretch = re.fullmatch(r'(\d+) (\d+)', line)
+        turns += int(stretch[2]) if stretch else 0
+        if not stretch or number < turns:
+            return f'turn {number} is one of context {stretch[1]}, on line {at}: {line}' if stretch else None
+    return None
+
+
+def of_turn_limit(words):
+    """That the limit is too small for a turn, and which ones there are."""
+    option = next(option for option in COMMANDS[words[0]]['options'] if option['name'] == '--limit')
+    limit = words[words.index('--limit') + 1] if '--limit' in words else option['default']
+    return f'the limit is {limit}, of {option["values"]}: these turns may want a greater one than the run that the claim is of'
+
+
 def of_line(number, data):
     """A line of a text, with its number."""
     lines = data.decode(errors='replace').replace('\r\n', '\n').split('\n')
@@ -295,7 +322,10 @@ def of_input(reason, words, data):
         of, most = int(excess[2]), int(excess[3])
         yield of_limit(of, most, words, data) if excess[1] == 'limit' else f'--workers is at most the number of nodes, {most}'
     elif reason == 'not finished':
-        yield 'the run goes on behind the last entry: run writes whole traces'
+        yield UNFINISHED[COMMANDS[words[0]]['reads']]
+    elif turn := re.fullmatch(r'turn (\d+) (.*)', reason):
+        yield of_turn(number, data) if data else None
+        yield OF_TURNS.get(turn[2]) or of_turn_limit(words)
     elif data is None:
         if reason in AT_THE_START:
             yield taken(words[0])

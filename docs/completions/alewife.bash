@@ -6,7 +6,7 @@ _alewife() {
     case $COMP_CWORD:$before in
     *:[\<\>]*) ;;
     "$at":*)
-        words='asm run replay audit gen route save resume outcomes dis'
+        words='asm run replay audit gen route save resume outcomes schedule dis'
         [ "$at" = 1 ] && words="$words help --unproved --build --which --install --help --version"
         ;;
     *)
@@ -44,6 +44,11 @@ _alewife() {
         outcomes:outcomes) words='--most --help' ;;
         outcomes:--most) compopt +o default ;;
         outcomes:*) words='--most' ;;
+        schedule:schedule) words='--pointers --sets --limit --help' ;;
+        schedule:--pointers) words='1 2 3 4 5 6 7 8' ;;
+        schedule:--sets) words='4 8 16 32 64 128 256 512 1024 2048 4096' ;;
+        schedule:--limit) compopt +o default ;;
+        schedule:*) words='--pointers --sets --limit' ;;
         dis:dis) words='--help' ;;
         esac
         ;;
