@@ -1,16 +1,15 @@
-"""The text of `alewife outcomes`, read; and the claim of the turns that lead to one of its ends."""
+"""The text of `alewife outcomes`, read; and the claim of the turns that lead to one of its ends, and the trace of a run that takes them."""
 import re
 from dataclasses import dataclass, replace
 
 import progress
-from alewife import ProgramError, called, image_of, image_rows
+from alewife import RAN, ProgramError, called, image_of, image_rows
 
 HEAD = re.compile(r'ALEWIFE OUTCOMES 1\nmesh \d+ \d+ contexts \d+ lines \d+\n(?:places (\d+)\n)?search (complete|stopped)\noutcomes (\d+)\n')
 OUTCOME = re.compile(r'outcome (\d+) prints (\d+) memory (\d+)(?: runs (\d+))?')
 TRAP = re.compile(r'trap (\d+) context (\d+) pc 0x([0-9a-f]{8}) tt 0x([0-9a-f]{2})(?: runs (\d+))?')
 STUCK = re.compile(r'stuck (no|yes|unknown)(?: runs (\d+))?')
 VERDICT = re.compile(r'differs (turn|print-count|print-context|print|memory)(?: (\w+))? claimed 0x([0-9a-f]{8}) real 0x([0-9a-f]{8})\n')
-STATUSES = (0, 4, 5)
 MOST_ASKED = 20000
 # The places that the program keeps where no word says how many, and those that a stage of a search keeps.
 MOST, STAGES = '1000000', (10_000, 100_000, 1_000_000)
@@ -135,7 +134,7 @@ def searched(binary, image, *words):
 def searched_once(binary, image, *words):
     """What one search finds."""
     ran = called(binary, ['outcomes', *words], image)
-    if ran.status not in STATUSES:
+    if ran.status not in RAN:
         raise ProgramError(f'{binary}: outcomes: status {ran.status}, {ran.line()}')
     found = found_in(ran.out.decode())
     if ran.status != found.status():
@@ -204,6 +203,23 @@ def completed(binary, image, runs):
             return text
         prints, memory = mended(prints, memory, *differs)
     raise TextError(f'audit says after {MOST_ASKED} calls that something differs still')
+
+
+# ---- runs
+
+
+# Why turns are no run that schedule makes, by how its line ends.
+NO_RUN = {'not current': '; a slot of a node parts with its processor only by halting or waiting, and behind a turn of schedule none waits',
+          'not finished': '; behind these turns there is no end', 'above limit': '; with a greater --limit schedule may take their claim'}
+
+
+def scheduled(binary, image, runs, *words):
+    """The trace of the run of an image's bytes in which the contexts take these turns, with the words of the call. It doesn't depend on prints and memory."""
+    ran = called(binary, ['schedule', *words], claim(image, runs, (), ()).encode())
+    if ran.status in RAN:
+        return ran.out.decode()
+    line = ran.line().partition('\n')[0].removeprefix('alewife: ')
+    raise TextError(f'schedule: {line}' + next((why for end, why in NO_RUN.items() if line.endswith(end)), ''))
 
 
 # ---- whether turns lead to what is told of them

@@ -10,7 +10,7 @@ import machine
 from alewife import RAN, WORD, ProgramError, called, checkpoint_of, image_of
 
 COMPARED = 8
-OF_CLAIM = '. A claim has turns on one memory and no events: audit --write log tells them'
+OF_CLAIM = '. A claim has turns on one memory and no events: audit --write log tells them, and schedule writes the trace of a run that takes them'
 LINE_AT = {'pending': 1, 'cache': 2, 'home': 1, 'packet': 2}
 WORDS = machine.WORDS
 

@@ -115,9 +115,50 @@ def statuses_are_the_searchs(trial):
         expect(said_of(trial, f'{name}.img', *words)[0] == status, f'{name}: the status is {said_of(trial, f"{name}.img", *words)[0]}, and that of outcomes {status}')
         if end:
             expect(said_of(trial, f'{name}.img', *end, '--tell')[0] == status and said_of(trial, f'{name}.img', *end)[0] == 0, f'{name}: of a story and of a claim')
-    for words, line in ((('--tell',), '--tell is of one end: --outcome K, --trap K or --stuck'), (('--never', 'x'), 'names of variables come by --elf')):
+    for words, line in ((('--tell',), '--tell is of one end: --outcome K, --trap K or --stuck'), (('--never', 'x'), 'names of variables come by --elf'),
+                        (('--trace',), '--trace is of one end: --outcome K, --trap K or --stuck'),
+                        (('--tell', '--trap', '0', '--trace'), 'argument --trace: not allowed with argument --tell')):
         status, _, said = said_of(trial, 'spin.img', *words)
         expect((status, said) == (2, f'alewife-outcomes: error: {line}'), said)
+
+
+# Two slots of one node, each of which stores 1 and then prints the other's word: both print 1 where both stores come first.
+SLOTS = """.contexts 2
+set 0x40000000,%g1
+tst %o0
+bne other
+mov 1,%g2
+st %g2,[%g1]
+ld [%g1+4],%o0
+ta 1
+ta 0
+other: st %g2,[%g1+4]
+ld [%g1],%o0
+ta 1
+ta 0
+"""
+
+
+def traces_are_of_claims(trial):
+    """The trace that alewife-outcomes writes is that of schedule for the claim, whose run claims the same; turns that are no such run are refused"""
+    for name, end in (('exchanged', ('--trap', '0')), ('exchanged', ('--outcome', '1')), ('ticket', ('--outcome', '4')), ('wakeup', ('--outcome', '0'))):
+        trial.keep(f'{name}.img', trial.program(['asm'], (OUTCOMES / f'{name}.s').read_bytes()))
+        (_, claim, _), (status, trace, said) = (said_of(trial, f'{name}.img', *end, *more) for more in ((), ('--trace',)))
+        ends = (4,) if end[0] == '--trap' else (0,)
+        text = ''.join(f'{line}\n' for line in trace).encode()
+        made = trial.program(['schedule'], ''.join(f'{line}\n' for line in claim).encode(), ends)
+        expect((status, said, text) == (0, '', made), f'{name}: {status} {said}')
+        expect(trial.program(['replay', '--write', 'claim'], text, ends).decode().splitlines() == claim, f'{name}: its run claims something else')
+    trial.keep('slots.img', trial.program(['asm'], SLOTS.encode()))
+    status, lines, said = said_of(trial, 'slots.img', '--outcome', '2', '--trace')
+    reason = 'a slot of a node parts with its processor only by halting or waiting, and behind a turn of schedule none waits'
+    expect(status == 1 and not lines and re.fullmatch(rf'alewife-outcomes: schedule: input refused: turn \d+ not current; {reason}', said), said)
+    trial.keep('long.img', trial.program(['asm'], b'set 20000,%g1\nl: subcc %g1,1,%g1\nbne l\nnop\nta 0\n'))
+    said = 'alewife-outcomes: schedule: input refused: turn 32768 above limit; with a greater --limit schedule may take their claim'
+    expect(said_of(trial, 'long.img', '--outcome', '0', '--trace') == (1, [], said), 'of more turns than the limit has')
+    trial.keep('deadlock.img', trial.program(['asm'], (OUTCOMES / 'deadlock.s').read_bytes()))
+    wanted = (1, [], 'alewife-outcomes: schedule: input refused: not finished; behind these turns there is no end')
+    expect(said_of(trial, 'deadlock.img', '--stuck', '--trace') == wanted, 'of a place that is stuck')
 
 
 def traps_on_data_are_told(trial):
@@ -149,9 +190,9 @@ def claims_are_named(trial):
     for tool in ('alewife-gdb', 'alewife-view', 'alewife-log', 'alewife-blame'):
         words = ('--bad', '1') if tool == 'alewife-blame' else ()
         ran = subprocess.run([HERE / tool, 'run.claim', *words, '--program', trial.binary], cwd=trial.folder, input='', capture_output=True, text=True)
-        line = f'{tool}: this is a claim, for audit; a trace is wanted: run --write trace writes one. A claim has turns on one memory and no events: .*'
+        line = f'{tool}: this is a claim, for audit and schedule; a trace is wanted: run --write trace writes one. A claim has turns on one memory and no events: .*'
         expect(ran.returncode == 1 and re.fullmatch(line, ran.stderr.strip()), f'{ran.returncode} {ran.stderr}')
 
 
-TRIALS = (stories_are_of_claims, parts_have_names_and_values, statuses_are_the_searchs, traps_on_data_are_told, places_have_names,
+TRIALS = (stories_are_of_claims, parts_have_names_and_values, statuses_are_the_searchs, traces_are_of_claims, traps_on_data_are_told, places_have_names,
           claims_are_named)
