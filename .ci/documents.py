@@ -57,7 +57,7 @@ REFUSAL_TABLE = ['call', 'refuses', 'clause', 'what stands', 'succeeds in']
 OUTSIDE = set('''
     Model Option Some None Result Ok Err Vec String extend_from_slice from_be_bytes strip_prefix split_at where pub mod
     serde serde_json compact_text Appends Consumes IsAtEnd Keeps IsPermutation FinMap take filter eqb-true arith nat_tests yes no
-    auto using unfolding unfoldable abbrev refl sym subst ap rw simp cc elim search omega grind rt plant renice asm gen dis
+    auto using unfolding unfoldable abbrev refl sym subst ap rw simp cc elim search omega grind rt plant renice asm gen dis schedule
     watch reverse-continue rc why nat_lt declared result requires ensures
 '''.split())
 
