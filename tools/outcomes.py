@@ -152,6 +152,12 @@ def claim(image, runs, prints, memory):
     return '\n'.join(['ALEWIFE CLAIM 1', f'image {len(image)}', *image_rows(image), *lists, 'end', ''])
 
 
+def turns_in(text):
+    """The turns of a claim, as (context, count)."""
+    lines = Lines(text[text.index('\nruns ') + 1:])
+    return lines.pairs(lines.take(r'runs (\d+)')[0], NUMBER, NUMBER)
+
+
 def verdict_of(binary, text):
     """What differs in a claim, as the place's name, its number, and what is real there; None where it is sound."""
     ran = called(binary, ['audit'], text.encode())
