@@ -1,3 +1,16 @@
+pub mod Beside
+pub mod Changes
+pub mod Effects
+pub mod Apart
+pub mod Lines
+pub mod Shown
+pub mod Misses
+pub mod Requests
+pub mod Counted
+pub mod Orders
+pub mod Tellings
+pub mod MissOrders
 pub mod Lists
 pub mod Sending
 pub mod Prices
+pub mod Sums
