@@ -1,0 +1,10 @@
+//! The times of a run: its events are taken again with them, and their texts.
+#![tactic(auto)]
+
+mod looks;
+mod tables;
+mod texts;
+mod timing;
+
+pub use texts::{cycles_text, moments_text};
+pub use timing::{RunTimes, TimedRun, Timekeeper, time};
