@@ -1,0 +1,148 @@
+-- The first of some events that are due: of two sets together it is the earlier of both.
+use Rattle.std.proofs.Common.{◌≡◌, ℕ, zero, suc, Bool, true, false, cond, Some, None, Option, List, [], ◌∷◌, ◌⊎◌, inl, inr, refl, sym, ap, subst, ◌∙◌}
+use Rattle.alw_num.specs.declared.addresses.NodeNo.{NodeNo}
+use Rattle.alw_msg.specs.declared.events.Event.{Event}
+use Rattle.alw_msg.specs.declared.events.Event.TheVariants.{Instr, Handle, Deliver, Evict}
+use Rattle.alw_msg.specs.Events.{node_of, is_evict}
+use Rattle.alw_mesh.specs.Histories.{History}
+use Rattle.alw_times.specs.declared.costs.Costs.{Costs}
+use Rattle.alw_times.specs.Times.{Times}
+use Rattle.alw_due.specs.declared.picking.Due.{Due}
+use Rattle.alw_due.specs.Due.{is_due_for, rank_of, sender_of, key_for, is_before}
+use Rattle.alw_due.specs.Picks.{numbers_of, earlier, IsDueOf, IsFirstOf, IsBestOf}
+use Rattle.alw_due.proofs.Before.{before_trans, before_or_same}
+
+-- ---- node, rank and sender decide which main event it is
+
+node_is : (a b : NodeNo) → a.0 ≡ b.0 → a ≡ b
+node_is a b same = λ i. record { 0 = same i }
+
+-- the member of a list at a place
+abbrev at : List ℕ → ℕ → ℕ
+at [] k = 0
+at (x ∷ xs) zero = x
+at (x ∷ xs) (suc k) = at xs k
+
+pub one_key : (one other : Event) → is_evict one ≡ false → is_evict other ≡ false → node_of one ≡ node_of other → rank_of one ≡ rank_of other → sender_of one ≡ sender_of other → one ≡ other
+one_key (Instr a) (Instr b) main also node rank sender = ap Instr (node_is a b node)
+one_key (Instr a) (Handle b) main also node rank sender = absurd (cc)
+one_key (Instr a) (Deliver from b) main also node rank sender = absurd (cc)
+one_key (Instr a) (Evict b set) main also node rank sender = absurd (cc)
+one_key (Handle a) (Instr b) main also node rank sender = absurd (cc)
+one_key (Handle a) (Handle b) main also node rank sender = ap Handle (node_is a b node)
+one_key (Handle a) (Deliver from b) main also node rank sender = absurd (cc)
+one_key (Handle a) (Evict b set) main also node rank sender = absurd (cc)
+one_key (Deliver from a) (Instr b) main also node rank sender = absurd (cc)
+one_key (Deliver from a) (Handle b) main also node rank sender = absurd (cc)
+one_key (Deliver from a) (Deliver other b) main also node rank sender = λ i. Deliver (node_is from other sender i) (node_is a b node i)
+one_key (Deliver from a) (Evict b set) main also node rank sender = absurd (cc)
+one_key (Evict a set) other main also node rank sender = absurd (cc)
+
+module _ (h : History) (costs : Costs) (times : Times) where
+  abbrev key : Event → List ℕ
+  key event = key_for h costs times event
+
+  pub same_event : (one other : Event) → is_evict one ≡ false → is_evict other ≡ false → key one ≡ key other → one ≡ other
+  same_event one other main also same = one_key one other main also (ap (λ ns. at ns 1) same) (ap (λ ns. at ns 2) same) (ap (λ ns. at ns 4) same)
+
+  -- ---- a set of events
+
+  IsFirstBehind : (due : Due) → Event → Type 0
+  IsFirstBehind due other = IsFirstOf h costs times (Some due) other
+
+  -- an event that stands in front of the first of others does so of each of them
+  in_front : (one two : Due) (other : Event) → is_before (key one.event) (key two.event) ≡ true → IsFirstOf h costs times (Some two) other → IsFirstOf h costs times (Some one) other
+  in_front one two other lt (inl same) = inr (subst (λ (e : Event). is_before (key one.event) (key e) ≡ true) (sym same) lt)
+  in_front one two other lt (inr more) = inr (before_trans (key one.event) (key two.event) (key other) lt more)
+
+  -- the same where it isn't behind it
+  not_behind : (one two : Due) (other : Event) → is_evict one.event ≡ false → is_evict two.event ≡ false → is_before (key two.event) (key one.event) ≡ false →
+      IsFirstOf h costs times (Some two) other → IsFirstOf h costs times (Some one) other
+  not_behind one two other main also none first = by_order (before_or_same (key one.event) (key two.event) refl none)
+    where
+      by_order : (key two.event ≡ key one.event) ⊎ (is_before (key one.event) (key two.event) ≡ true) → IsFirstOf h costs times (Some one) other
+      by_order (inl same) = subst (λ (e : Event). (other ≡ e) ⊎ (is_before (key e) (key other) ≡ true)) (same_event two.event one.event also main same) first
+      by_order (inr lt) = in_front one two other lt first
+
+  -- one event alone
+  pub of_one : (event : Event) (due : Option Due) → IsDueOf h costs times event due → IsBestOf h costs times (λ other. other ≡ event) due
+  of_one event None isnt = record {
+    one = tt;
+    first = λ other same is. absurd (cc);
+  }
+  of_one event (Some due) is = record {
+    one = (is.0, is.1);
+    first = λ other same due_too. inl (same ∙ sym is.1);
+  }
+
+  -- no event
+  pub of_none : (In : Event → Type 0) → ((other : Event) → In other → ⊥) → IsBestOf h costs times In None
+  of_none In none = record {
+    one = tt;
+    first = λ other within is. absurd (none other within);
+  }
+
+  -- the same set in other words
+  pub same_set : (In Also : Event → Type 0) → ((e : Event) → In e → Also e) → ((e : Event) → Also e → In e) → (best : Option Due) → IsBestOf h costs times In best → IsBestOf h costs times Also best
+  same_set In Also to back None best = record {
+    one = tt;
+    first = λ other within is. best.first other (back other within) is;
+  }
+  same_set In Also to back (Some due) best = record {
+    one = (best.one.0, to due.event best.one.1);
+    first = λ other within is. best.first other (back other within) is;
+  }
+
+  -- two sets together
+  pub of_both : (A B C : Event → Type 0) (one two : Option Due) → ((e : Event) → C e → is_evict e ≡ false) → ((e : Event) → A e → C e) → ((e : Event) → B e → C e) →
+      ((e : Event) → C e → A e ⊎ B e) → IsBestOf h costs times A one → IsBestOf h costs times B two → IsBestOf h costs times C (earlier one two)
+  of_both A B C None None main left right apart a b = record {
+    one = tt;
+    first = λ other within is. by_side other is (apart other within);
+  }
+    where
+      by_side : (other : Event) → is_due_for h costs times other ≡ true → A other ⊎ B other → ⊥
+      by_side other is (inl here) = a.first other here is
+      by_side other is (inr there) = b.first other there is
+  of_both A B C None (Some two) main left right apart a b = record {
+    one = (b.one.0, right two.event b.one.1);
+    first = λ other within is. by_side other is (apart other within);
+  }
+    where
+      by_side : (other : Event) → is_due_for h costs times other ≡ true → A other ⊎ B other → IsFirstOf h costs times (Some two) other
+      by_side other is (inl here) = absurd (a.first other here is)
+      by_side other is (inr there) = b.first other there is
+  of_both A B C (Some one) None main left right apart a b = record {
+    one = (a.one.0, left one.event a.one.1);
+    first = λ other within is. by_side other is (apart other within);
+  }
+    where
+      by_side : (other : Event) → is_due_for h costs times other ≡ true → A other ⊎ B other → IsFirstOf h costs times (Some one) other
+      by_side other is (inl here) = a.first other here is
+      by_side other is (inr there) = absurd (b.first other there is)
+  of_both A B C (Some one) (Some two) main left right apart a b =
+      by_test (is_before (numbers_of two.key) (numbers_of one.key)) (sym (λ i. is_before (b.one.0.key_is i) (a.one.0.key_is i)))
+    where
+      main_one : is_evict one.event ≡ false
+      main_one = main one.event (left one.event a.one.1)
+
+      main_two : is_evict two.event ≡ false
+      main_two = main two.event (right two.event b.one.1)
+
+      by_test : (t : Bool) → is_before (key two.event) (key one.event) ≡ t → IsBestOf h costs times C (cond t (Some two) (Some one))
+      by_test true lt = record {
+        one = (b.one.0, right two.event b.one.1);
+        first = λ other within is. by_side other is (apart other within);
+      }
+        where
+          by_side : (other : Event) → is_due_for h costs times other ≡ true → A other ⊎ B other → IsFirstOf h costs times (Some two) other
+          by_side other is (inl here) = in_front two one other lt (a.first other here is)
+          by_side other is (inr there) = b.first other there is
+      by_test false none = record {
+        one = (a.one.0, left one.event a.one.1);
+        first = λ other within is. by_side other is (apart other within);
+      }
+        where
+          by_side : (other : Event) → is_due_for h costs times other ≡ true → A other ⊎ B other → IsFirstOf h costs times (Some one) other
+          by_side other is (inl here) = a.first other here is
+          by_side other is (inr there) = not_behind one two other main_one main_two none (b.first other there is)

@@ -1,0 +1,10 @@
+pub mod Before
+pub mod Best
+pub mod Coming
+pub mod Left
+pub mod Mains
+pub mod Members
+pub mod Renewed
+pub mod Sorted
+pub mod Stays
+pub mod Timely

@@ -1,0 +1,3 @@
+pub mod Bests
+pub mod Due
+pub mod Picks

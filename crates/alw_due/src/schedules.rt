@@ -1,0 +1,92 @@
+ghost use Rattle.std.specs.Prelude.{◌≡◌, IfOk, OnOk, IsTrue};
+ghost use Rattle.alw_mesh.specs.Histories.{may_be_next, grown};
+ghost use Rattle.alw_timing.specs.Timing.{TimesAreKept};
+ghost use Rattle.alw_due.specs.Due.{Finishes};
+ghost use Rattle.alw_due.specs.Bests.{AreBests};
+
+use crate::bests::{bests_of, least, renew_all, renew_touched};
+use crate::picking::Due;
+use alw_mesh::{Machine, Watch};
+use alw_model::Ended;
+use alw_msg::{Entry, Event};
+use alw_num::NoMemory;
+use alw_timing::Timekeeper;
+use std::alloc::Global;
+
+/// Takes the events that the timed schedule picks, until an end, and keeps their times.
+pub fn finish_by_time(
+    alloc: Global,
+    machine: &mut Machine,
+    keeper: &mut Timekeeper,
+) -> Result<Ended, NoMemory>
+    requires { TimesAreKept keeper.old.costs machine.old keeper.old.costs keeper.old.times }
+    ensures { Finishes machine.old keeper.old.costs machine.new keeper.new result }
+{
+    let mut bests = first_bests(alloc, machine, keeper)?;
+    loop {
+        if let Some(ended) = machine.ended() {
+            return Ok(ended);
+        }
+        let Some(due) = least(&bests) else {
+            unreachable!();
+        };
+        pass(machine, keeper, &mut bests, due.event)?;
+    }
+}
+
+// Of each node the first of its events that are due, at the beginning.
+fn first_bests(
+    alloc: Global,
+    machine: &Machine,
+    keeper: &Timekeeper,
+) -> Result<Vec<Option<Due>>, NoMemory>
+    requires { TimesAreKept keeper.now.costs machine.now keeper.now.costs keeper.now.times }
+    ensures { IfOk result (λ bests. AreBests machine.now keeper.now.costs keeper.now.times.clocks bests.items) }
+{
+    let _run = machine.journal(); // for its clause
+    bests_of(alloc, machine, &keeper.times.clocks, &keeper.costs)
+}
+
+// An event that may be next happens, its times are kept, and the nodes that it touches are looked at again:
+// all of them, where its node halts with it.
+fn pass(
+    machine: &mut Machine,
+    keeper: &mut Timekeeper,
+    bests: &mut Vec<Option<Due>>,
+    event: Event,
+) -> Result<(), NoMemory>
+    requires may { IsTrue (may_be_next machine.old event) }
+    requires kept { TimesAreKept keeper.old.costs machine.old keeper.old.costs keeper.old.times }
+    requires bests { AreBests machine.old keeper.old.costs keeper.old.times.clocks bests.old.items }
+    ensures machine { OnOk result (machine.new ≡ grown machine.old event) }
+    ensures kept { OnOk result (TimesAreKept keeper.old.costs machine.new keeper.new.costs keeper.new.times) }
+    ensures bests { OnOk result (AreBests machine.new keeper.new.costs keeper.new.times.clocks bests.new.items) }
+{
+    let _before = machine.journal(); // for its clause
+    let was_live = machine.is_live(event.node());
+    take(machine, keeper, event)?;
+    let _after = machine.journal(); // for its clause
+    if machine.is_live(event.node()) == was_live {
+        renew_touched(
+            machine,
+            &keeper.times.clocks,
+            &keeper.costs,
+            bests,
+            event.node(),
+        );
+    } else {
+        renew_all(machine, &keeper.times.clocks, &keeper.costs, bests);
+    }
+    Ok(())
+}
+
+// An event that may be next happens, and its times are kept.
+fn take(machine: &mut Machine, keeper: &mut Timekeeper, event: Event) -> Result<(), NoMemory>
+    requires may { IsTrue (may_be_next machine.old event) }
+    requires kept { TimesAreKept keeper.old.costs machine.old keeper.old.costs keeper.old.times }
+    ensures machine { OnOk result (machine.new ≡ grown machine.old event) }
+    ensures kept { OnOk result (TimesAreKept keeper.old.costs machine.new keeper.new.costs keeper.new.times) }
+{
+    let stamp = machine.stamp(event);
+    keeper.event(machine, Entry { stamp, event })
+}
