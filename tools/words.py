@@ -31,7 +31,7 @@ TABLE = ROOT / 'tools' / 'words.json'
 
 MOST_LISTED = 16
 GREATEST = {'u64::MAX': 2**64 - 1, 'u32::MAX': 2**32 - 1}
-FORMS = {'AsmForm': 'ASM_FORMS', 'AuditForm': 'AUDIT_FORMS', 'Form': 'FORMS'}
+FORMS = {'AsmForm': 'ASM_FORMS', 'AuditForm': 'AUDIT_FORMS', 'TimeForm': 'TIME_FORMS', 'Form': 'FORMS'}
 
 # Of each text that is read or written how it begins, where that tells it from others, what it is called, and how one comes by it where it is read.
 KINDS = {
@@ -50,6 +50,8 @@ KINDS = {
     'checkpoint': ('ALEWIFE SAVE', 'checkpoint', 'save writes one'),
     'route': ('ALEWIFE ROUTE', 'load of wires', ''),
     'outcomes': ('ALEWIFE OUTCOMES', 'list of outcomes', ''),
+    'cycles': ('ALEWIFE CYCLES', 'account of cycles', ''),
+    'moments': ('ALEWIFE MOMENTS', 'list of moments', ''),
 }
 # Of each command what it reads, what it writes where no form is chosen, and what it does, with what comes of it behind a colon.
 COMMANDS = {
@@ -63,6 +65,7 @@ COMMANDS = {
     'resume': ('checkpoint', 'report', 'goes on from a checkpoint: the whole run'),
     'outcomes': ('image', 'outcomes', 'takes turns in every order on one memory: all that an image can come to'),
     'schedule': ('claim', 'trace', 'has contexts take the turns of a claim in their order: the trace of that run'),
+    'time': ('trace', 'cycles', 'takes the events of a trace again, with what each thing costs: how long its run takes'),
     'dis': ('image', 'source', 'writes an image back: its source'),
 }
 # The forms of a command that are other texts than those of their names.
@@ -82,6 +85,11 @@ PHRASES = {
     'outcomes': {'--most': 'the places that are kept at most'},
     'schedule': {'--pointers': 'hardware pointers of a directory entry', '--sets': "sets of a node's cache",
                  '--limit': 'the greatest stamp of an event before all contexts have halted'},
+    'time': {'--seed': 'the number that the waits after a BUSY are drawn from', '--hit': 'cycles of an instruction',
+             '--switch': 'more, where another slot runs than the last', '--hop': 'cycles of a message for each column and row of its way',
+             '--send': 'cycles that a message holds its port', '--data': 'more, with a line', '--home': 'cycles of a delivery to memory',
+             '--fill': 'cycles of a delivery to a cache', '--trap': 'cycles of the handler before it acts',
+             '--inv': 'more, for each message behind the first', '--retry': 'the bound of the waits after a BUSY', '--write': FORM},
     'dis': {},
 }
 OWN = {

@@ -6,7 +6,7 @@ _alewife() {
     case $COMP_CWORD:$before in
     *:[\<\>]*) ;;
     "$at":*)
-        words='asm run replay audit gen route save resume outcomes schedule dis'
+        words='asm run replay audit gen route save resume outcomes schedule time dis'
         [ "$at" = 1 ] && words="$words help --unproved --build --which --install --help --version"
         ;;
     *)
@@ -49,6 +49,10 @@ _alewife() {
         schedule:--sets) words='4 8 16 32 64 128 256 512 1024 2048 4096' ;;
         schedule:--limit) compopt +o default ;;
         schedule:*) words='--pointers --sets --limit' ;;
+        time:time) words='--seed --hit --switch --hop --send --data --home --fill --trap --inv --retry --write --help' ;;
+        time:--write) words='cycles moments' ;;
+        time:--seed | time:--hit | time:--switch | time:--hop | time:--send | time:--data | time:--home | time:--fill | time:--trap | time:--inv | time:--retry) compopt +o default ;;
+        time:*) words='--seed --hit --switch --hop --send --data --home --fill --trap --inv --retry --write' ;;
         dis:dis) words='--help' ;;
         esac
         ;;

@@ -14,7 +14,7 @@ use Rattle.alw_config.specs.declared.rows.Kind.{Kind}
 use Rattle.alw_config.specs.declared.rows.Kind.TheVariants as kinds
 use Rattle.alw_config.specs.declared.rows.Value.{Value}
 use Rattle.alw_config.specs.declared.rows.Value.TheVariants as values
-use Rattle.alw_config.specs.Values.{row_of, asm_forms, audit_forms, forms, number_if, value_of}
+use Rattle.alw_config.specs.Values.{row_of, asm_forms, audit_forms, time_forms, forms, number_if, value_of}
 use Rattle.alw_config.specs.Table.{Options, options_of, defaults_of, rule_of, made_from, made}
 use Rattle.alw_config.specs.Choices.{ChoicesAreMade, HasChoices, is_of, is_allowed, ValuesAreAllowed, value_by}
 use Rattle.alw_config.proofs.Made.{made_at}
@@ -43,6 +43,7 @@ value_of_kind (kinds.Between least most) word v found =
 value_of_kind kinds.SetCount word v found = number_of_kind values.Number (λ n. list_any (λ count. n == count) set_counts) word v (is_of kinds.SetCount) (λ n. refl) found
 value_of_kind kinds.AsmForm word v found = mapped values.AsmForm (row_of asm_forms word) v (is_of kinds.AsmForm) (λ a. refl) found
 value_of_kind kinds.AuditForm word v found = mapped values.AuditForm (row_of audit_forms word) v (is_of kinds.AuditForm) (λ a. refl) found
+value_of_kind kinds.TimeForm word v found = mapped values.TimeForm (row_of time_forms word) v (is_of kinds.TimeForm) (λ a. refl) found
 value_of_kind kinds.Form word v found = mapped values.Form (row_of forms word) v (is_of kinds.Form) (λ a. refl) found
 
 -- ---- of a choice
@@ -131,8 +132,21 @@ defaults_allowed names.Schedule zero l = refl
 defaults_allowed names.Schedule (suc zero) l = refl
 defaults_allowed names.Schedule (suc (suc zero)) l = refl
 defaults_allowed names.Schedule (suc (suc (suc k))) l = absurd (omega arith)
+defaults_allowed names.Time zero l = refl
+defaults_allowed names.Time (suc zero) l = refl
+defaults_allowed names.Time (suc (suc zero)) l = refl
+defaults_allowed names.Time (suc (suc (suc zero))) l = refl
+defaults_allowed names.Time (suc (suc (suc (suc zero)))) l = refl
+defaults_allowed names.Time (suc (suc (suc (suc (suc zero))))) l = refl
+defaults_allowed names.Time (suc (suc (suc (suc (suc (suc zero)))))) l = refl
+defaults_allowed names.Time (suc (suc (suc (suc (suc (suc (suc zero))))))) l = refl
+defaults_allowed names.Time (suc (suc (suc (suc (suc (suc (suc (suc zero)))))))) l = refl
+defaults_allowed names.Time (suc (suc (suc (suc (suc (suc (suc (suc (suc zero))))))))) l = refl
+defaults_allowed names.Time (suc (suc (suc (suc (suc (suc (suc (suc (suc (suc zero)))))))))) l = refl
+defaults_allowed names.Time (suc (suc (suc (suc (suc (suc (suc (suc (suc (suc (suc zero))))))))))) l = refl
+defaults_allowed names.Time (suc (suc (suc (suc (suc (suc (suc (suc (suc (suc (suc (suc k)))))))))))) l = absurd (omega arith)
 
-pub few_defaults : (name : Name) → length (defaults_of name) ≤ 6
+pub few_defaults : (name : Name) → length (defaults_of name) ≤ 12
 few_defaults names.Asm = omega arith
 few_defaults names.Run = omega arith
 few_defaults names.Replay = omega arith
@@ -144,6 +158,7 @@ few_defaults names.Save = omega arith
 few_defaults names.Resume = omega arith
 few_defaults names.Outcomes = omega arith
 few_defaults names.Schedule = omega arith
+few_defaults names.Time = omega arith
 
 pub value_allowed : (name : Name) (chosen : List (Option Made)) (k : ℕ) → ValuesAreAllowed (options_of name) chosen → k < length (defaults_of name)
     → IsTrue (is_allowed (options_of name) k (value_by chosen (defaults_of name) k))

@@ -2,10 +2,11 @@
 use Rattle.std.proofs.Common.{◌≡◌, ℕ, zero, suc, ◌<◌, Bool, true, false, List, [], ◌∷◌, codes, refl, inl, arith}
 use Rattle.std.specs.Prelude.{None, Some}
 use Rattle.std.specs.Fmt.{digits}
-use Rattle.alw_config.specs.declared.commands.Command.TheVariants.{Asm, Run, Replay, Audit, Gen, Route, Save, Resume, Outcomes, Dis, Schedule}
+use Rattle.alw_config.specs.declared.commands.Command.TheVariants.{Asm, Run, Replay, Audit, Gen, Route, Save, Resume, Outcomes, Dis, Schedule, Time}
 use Rattle.alw_config.specs.declared.commands.How.TheVariants.{Seed, Workers}
 use Rattle.alw_config.specs.declared.commands.AsmForm.TheVariants.{Image, Listing}
 use Rattle.alw_config.specs.declared.commands.AuditForm.TheVariants as audits
+use Rattle.alw_config.specs.declared.commands.TimeForm.TheVariants.{Cycles, Moments}
 use Rattle.alw_config.specs.declared.commands.Form.TheVariants.{Report, Claim, Log, Profile}
 use Rattle.alw_config.specs.Places.{IsFirstPlace, IsRefusedAt, is_bad, asked, misfit_in}
 
@@ -124,6 +125,26 @@ searched = refl
 
 scheduled : asked (codes "schedule" ∷ []) ≡ Some (Schedule (record { pointers = 4; sets = 256; limit = 32768; evict = 0 }))
 scheduled = refl
+
+timed : asked (codes "time" ∷ []) ≡ Some (Time
+    (record { hit = 1; switch = 11; hop = 1; send = 6; «data» = 4; home = 7; fill = 3; trap = 50; inv = 2; retry = 16; seed = 0 }) Cycles)
+timed = refl
+
+all_costs : asked (codes "time" ∷ codes "--seed" ∷ codes "1" ∷ codes "--hit" ∷ codes "2" ∷ codes "--switch" ∷ codes "3" ∷ codes "--hop" ∷ codes "4" ∷
+    codes "--send" ∷ codes "5" ∷ codes "--data" ∷ codes "6" ∷ codes "--home" ∷ codes "7" ∷ codes "--fill" ∷ codes "8" ∷ codes "--trap" ∷ codes "9" ∷
+    codes "--inv" ∷ codes "10" ∷ codes "--retry" ∷ codes "65535" ∷ codes "--write" ∷ codes "moments" ∷ [])
+    ≡ Some (Time (record { hit = 2; switch = 3; hop = 4; send = 5; «data» = 6; home = 7; fill = 8; trap = 9; inv = 10; retry = 65535; seed = 1 }) Moments)
+unfolding digits
+all_costs = refl
+
+abbrev is_bad_cost : List ℕ → List ℕ → Bool
+is_bad_cost option value = is_bad (codes "time" ∷ option ∷ value ∷ []) 2
+
+costs : (is_bad_cost (codes "--hit") (codes "0") ≡ true) × (is_bad_cost (codes "--home") (codes "0") ≡ true)
+    × (is_bad_cost (codes "--fill") (codes "0") ≡ true) × (is_bad_cost (codes "--trap") (codes "0") ≡ true)
+    × (is_bad_cost (codes "--inv") (codes "0") ≡ false) × (is_bad_cost (codes "--trap") (codes "65536") ≡ true)
+unfolding digits
+costs = (refl, refl, refl, refl, refl, refl)
 
 abbrev is_bad_most : List ℕ → Bool
 is_bad_most value = is_bad (codes "outcomes" ∷ codes "--most" ∷ value ∷ []) 2

@@ -23,12 +23,12 @@ pub record IsUnderWay (options : Options) (words left : List (List ℕ)) (chosen
   pub place : at ≡ length done + 1
   pub pairs : length done ≡ 2 * count chosen
   pub right : (i : ℕ) → i < length done → is_bad_option options words i ≡ false
-  pub sized : length chosen ≡ 6
-  pub made_so : (k : ℕ) → k < 6 → slice_index_or chosen k None ≡ made options k done
-  pub is_made_so : (k : ℕ) → k < 6 → is_some (slice_index_or chosen k None) ≡ is_made options k done
+  pub sized : length chosen ≡ 12
+  pub made_so : (k : ℕ) → k < 12 → slice_index_or chosen k None ≡ made options k done
+  pub is_made_so : (k : ℕ) → k < 12 → is_some (slice_index_or chosen k None) ≡ is_made options k done
 
-pub begins : (options : Options) (words : List (List ℕ)) (chosen : List (Option Made)) → length chosen ≡ 6 → count chosen ≡ 0
-    → ((k : ℕ) → k < 6 → slice_index_or chosen k None ≡ None) → IsUnderWay options words words chosen 1
+pub begins : (options : Options) (words : List (List ℕ)) (chosen : List (Option Made)) → length chosen ≡ 12 → count chosen ≡ 0
+    → ((k : ℕ) → k < 12 → slice_index_or chosen k None ≡ None) → IsUnderWay options words words chosen 1
 begins options words chosen sized none each = record {
   done = [];
   parts = refl;
@@ -42,7 +42,7 @@ begins options words chosen sized none each = record {
 
 -- no place is far, since few choices are left
 pub near : (options : Options) (words left : List (List ℕ)) (chosen : List (Option Made)) (at : ℕ) → IsUnderWay options words left chosen at →
-    at ≤ 2 * 6 + 1
+    at ≤ 2 * 12 + 1
 near options words left chosen at way = omega (arith, way.place, way.pairs, way.sized, count-le chosen)
 
 -- what a value behind a known option is
@@ -67,7 +67,7 @@ module _ (options : Options) (words : List (List ℕ)) (word : List ℕ) (left :
   pub unknown : row_of options word ≡ None → IsRefusedBehind options words at
   unknown none = stops (ap (λ (row : Option Meaning). option_map_or (λ (meaning : Meaning). is_made options meaning.choice way.done) row true) none)
 
-  module _ (meaning : Meaning) (known : row_of options word ≡ Some meaning) (within : meaning.choice < 6) where
+  module _ (meaning : Meaning) (known : row_of options word ≡ Some meaning) (within : meaning.choice < 12) where
     -- a name is bad where its choice is made
     name_is : is_bad_name options way.done word ≡ is_some (slice_index_or chosen meaning.choice None)
     name_is = ap (λ (row : Option Meaning). option_map_or (λ (m : Meaning). is_made options m.choice way.done) row true) known
@@ -120,7 +120,7 @@ set_sized chosen k o = grind (arith, common_steps)
 
 pub goes_on : (options : Options) (words : List (List ℕ)) (word value : List ℕ) (left : List (List ℕ)) (chosen : List (Option Made)) (at : ℕ) →
     IsUnderWay options words (word ∷ value ∷ left) chosen at
-    → (meaning : Meaning) → row_of options word ≡ Some meaning → meaning.choice < 6 →
+    → (meaning : Meaning) → row_of options word ≡ Some meaning → meaning.choice < 12 →
     is_some (slice_index_or chosen meaning.choice None) ≡ false → (v : Value) → value_of meaning.kind value ≡ Some v
     → IsUnderWay options words left (slice_set chosen meaning.choice (Some (made_at (at + 1) v))) (at + 2)
 goes_on options words word value left chosen at way meaning known within fresh v allowed = record {
@@ -171,7 +171,7 @@ goes_on options words word value left chosen at way meaning known within fresh v
     makes_there : (k : ℕ) → k ≢ meaning.choice → makes options k word ≡ false
     makes_there k other = makes_is options k word meaning known ∙ ne_eqb meaning.choice k (λ same. other (sym same))
 
-    made_there : (k : ℕ) → k < 6 → k ≢ meaning.choice → slice_index_or now k None ≡ made options k more
+    made_there : (k : ℕ) → k < 12 → k ≢ meaning.choice → slice_index_or now k None ≡ made options k more
     made_there k l other = set_other chosen meaning.choice k (Some (made_at (at + 1) v)) other ∙ way.made_so k l
         ∙ sym (made-before options k word value 1 way.done (count chosen) way.pairs (makes_there k other))
 
@@ -179,7 +179,7 @@ goes_on options words word value left chosen at way meaning known within fresh v
     or_false true = refl
     or_false false = refl
 
-    is_made_there : (k : ℕ) → k < 6 → k ≢ meaning.choice → is_some (slice_index_or now k None) ≡ is_made options k more
+    is_made_there : (k : ℕ) → k < 12 → k ≢ meaning.choice → is_some (slice_index_or now k None) ≡ is_made options k more
     is_made_there k l other =
         ap is_some (set_other chosen meaning.choice k (Some (made_at (at + 1) v)) other) ∙ way.is_made_so k l
         ∙ sym (is_made-more options k word value way.done (count chosen) way.pairs
@@ -201,13 +201,13 @@ ends options words chosen at way = record {
 
 -- each option that is found has a place
 pub place_within : (options : Options) (word : List ℕ) (meaning : Meaning) → HavePlaces options → row_of options word ≡ Some meaning →
-    meaning.choice < 6
+    meaning.choice < 12
 place_within [] word meaning places known = absurd (cc)
 place_within (row ∷ rest) word meaning places known = go (bytes_eq row.0 word) known (place_within rest word meaning places.1)
   where
     go : (b : Bool) → cond b (Some row.1) (row_of rest word) ≡ Some meaning →
-        (row_of rest word ≡ Some meaning → meaning.choice < 6) → meaning.choice < 6
-    go true found later = let same : row.1 ≡ meaning = cc in subst (λ (m : Meaning). m.choice < 6) same places.0
+        (row_of rest word ≡ Some meaning → meaning.choice < 12) → meaning.choice < 12
+    go true found later = let same : row.1 ≡ meaning = cc in subst (λ (m : Meaning). m.choice < 12) same places.0
     go false found later = later found
 
 -- no word is left, or a first one

@@ -50,7 +50,7 @@ module _ (word : List ℕ) (rest : List (List ℕ)) (name : Name) (known : row_o
 
 -- the choices as the program holds them are those of the words
 values_are : (options : Options) (words : List (List ℕ)) (chosen : List (Option Made)) (k : ℕ) (defaults : List Value) → ChoicesAreMade options words chosen →
-    k + length defaults ≤ 6
+    k + length defaults ≤ 12
     → values_from k options defaults words ≡ values_by k chosen defaults
 values_are options words chosen k [] all few = refl
 values_are options words chosen k (default ∷ rest) all few =

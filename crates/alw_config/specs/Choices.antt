@@ -13,18 +13,18 @@ use Rattle.alw_config.specs.declared.rows.Rule.{Rule}
 use Rattle.alw_config.specs.declared.rows.Value.{Value}
 use Rattle.alw_config.specs.declared.rows.Value.TheVariants as values
 use Rattle.alw_config.specs.declared.rows.Kind.{Kind}
-use Rattle.alw_config.specs.declared.rows.Kind.TheVariants.{Seed, Workers, Between, SetCount, AsmForm, AuditForm, Form}
+use Rattle.alw_config.specs.declared.rows.Kind.TheVariants.{Seed, Workers, Between, SetCount, AsmForm, AuditForm, TimeForm, Form}
 use Rattle.alw_config.specs.Table.{Options, made, breaks}
 use Rattle.alw_config.specs.Places.{is_bad_option}
 
--- each option's choice has one of six places
+-- each option's choice has one of twelve places
 abbrev pub HavePlaces : Options → Type 0
-HavePlaces options = AllByRecursion (λ row. row.1.choice < 6) options
+HavePlaces options = AllByRecursion (λ row. row.1.choice < 12) options
 
 -- no place behind the name is bad, and the choices are made so
 pub record ChoicesAreMade (options : Options) (words : List (List ℕ)) (chosen : List (Option Made)) : Type 0 where
   pub right : (i : ℕ) → is_bad_option options words i ≡ false
-  pub made_so : (k : ℕ) → k < 6 → slice_index_or chosen k None ≡ made options k words
+  pub made_so : (k : ℕ) → k < 12 → slice_index_or chosen k None ≡ made options k words
 
 -- a value is of a kind
 abbrev pub is_of : Kind → Value → Bool
@@ -34,6 +34,7 @@ is_of (Between least most) (values.Number n) = nat_le least n && nat_le n most
 is_of SetCount (values.Number n) = list_any (λ count. n == count) set_counts
 is_of AsmForm (values.AsmForm form) = true
 is_of AuditForm (values.AuditForm form) = true
+is_of TimeForm (values.TimeForm form) = true
 is_of Form (values.Form form) = true
 is_of _ _ = false
 
@@ -43,7 +44,7 @@ is_allowed options choice value = list_any (λ row. row.1.choice == choice && is
 
 -- so is each value that makes a choice
 abbrev pub ValuesAreAllowed : Options → List (Option Made) → Type 0
-ValuesAreAllowed options chosen = (k : ℕ) → k < 6 → IfSome (slice_index_or chosen k None) (λ m. IsTrue (is_allowed options k m.value))
+ValuesAreAllowed options chosen = (k : ℕ) → k < 12 → IfSome (slice_index_or chosen k None) (λ m. IsTrue (is_allowed options k m.value))
 
 -- the choices from one on, each as it is made, or else its default
 abbrev pub values_by : ℕ → List (Option Made) → List Value → List Value
@@ -56,9 +57,9 @@ value_by chosen defaults k = option_map_or (λ m. m.value) (slice_index_or chose
 
 -- the choices of a rule have places
 pub record HasChoices (rule : Rule) : Type 0 where
-  pub one : rule.one < 6
-  pub other : rule.other < 6
-  pub third : rule.third < 6
+  pub one : rule.one < 12
+  pub other : rule.other < 12
+  pub third : rule.third < 12
 
 -- the place of a third number that a rule doesn't allow
 abbrev pub misfit_by : Rule → List (Option Made) → List Value → Option ℕ
@@ -80,6 +81,10 @@ IsAsmForm _ = ⊥
 abbrev pub IsAuditForm : Value → Type 0
 IsAuditForm (values.AuditForm form) = ⊤
 IsAuditForm _ = ⊥
+
+abbrev pub IsTimeForm : Value → Type 0
+IsTimeForm (values.TimeForm form) = ⊤
+IsTimeForm _ = ⊥
 
 abbrev pub IsForm : Value → Type 0
 IsForm (values.Form form) = ⊤

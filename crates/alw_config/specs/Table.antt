@@ -6,14 +6,15 @@ use Rattle.std.specs.Option.{option_map_or}
 use Rattle.alw_config.specs.declared.commands.Command.{Command}
 use Rattle.alw_config.specs.declared.commands.Command.TheVariants as command
 use Rattle.alw_config.specs.declared.rows.Value.{Value}
-use Rattle.alw_config.specs.declared.rows.Value.TheVariants.{Number, How, AsmForm, AuditForm, Form}
+use Rattle.alw_config.specs.declared.rows.Value.TheVariants.{Number, How, AsmForm, AuditForm, TimeForm, Form}
 use Rattle.alw_config.specs.declared.rows.Name.{Name}
-use Rattle.alw_config.specs.declared.rows.Name.TheVariants.{Asm, Run, Replay, Audit, Gen, Route, Save, Resume, Outcomes, Dis, Schedule}
+use Rattle.alw_config.specs.declared.rows.Name.TheVariants.{Asm, Run, Replay, Audit, Gen, Route, Save, Resume, Outcomes, Dis, Schedule, Time}
 use Rattle.alw_config.specs.declared.rows.Kind.{Kind}
 use Rattle.alw_config.specs.declared.rows.Kind.TheVariants as kinds
 use Rattle.alw_config.specs.declared.commands.How.TheVariants as hows
 use Rattle.alw_config.specs.declared.commands.AsmForm.TheVariants as asms
 use Rattle.alw_config.specs.declared.commands.AuditForm.TheVariants as audits
+use Rattle.alw_config.specs.declared.commands.TimeForm.TheVariants as times
 use Rattle.alw_config.specs.declared.commands.Form.TheVariants as forms
 use Rattle.alw_config.specs.declared.rows.Meaning.{Meaning}
 use Rattle.alw_config.specs.declared.rows.Made.{Made}
@@ -24,7 +25,7 @@ use Rattle.alw_config.specs.Values.{row_of, value_of}
 abbrev pub commands : List (List ℕ × Name)
 commands =
     (codes "asm", Asm) ∷ (codes "run", Run) ∷ (codes "replay", Replay) ∷ (codes "audit", Audit) ∷ (codes "gen", Gen) ∷ (codes "route", Route) ∷ (codes "save", Save) ∷
-    (codes "resume", Resume) ∷ (codes "outcomes", Outcomes) ∷ (codes "schedule", Schedule) ∷ (codes "dis", Dis) ∷ []
+    (codes "resume", Resume) ∷ (codes "outcomes", Outcomes) ∷ (codes "schedule", Schedule) ∷ (codes "time", Time) ∷ (codes "dis", Dis) ∷ []
 
 -- options, by their names
 abbrev pub Options : Type 0
@@ -54,6 +55,12 @@ options_of Resume =
 options_of Outcomes = (codes "--most", makes_by 0 (kinds.Between 1 16777216)) ∷ []
 options_of Schedule =
     (codes "--pointers", makes_by 0 (kinds.Between 1 8)) ∷ (codes "--sets", makes_by 1 kinds.SetCount) ∷ (codes "--limit", makes_by 2 (kinds.Between 1 1048576)) ∷ []
+options_of Time =
+    (codes "--seed", makes_by 0 (kinds.Between 0 18446744073709551615)) ∷ (codes "--hit", makes_by 1 (kinds.Between 1 65535)) ∷
+    (codes "--switch", makes_by 2 (kinds.Between 0 65535)) ∷ (codes "--hop", makes_by 3 (kinds.Between 0 65535)) ∷ (codes "--send", makes_by 4 (kinds.Between 0 65535)) ∷
+    (codes "--data", makes_by 5 (kinds.Between 0 65535)) ∷ (codes "--home", makes_by 6 (kinds.Between 1 65535)) ∷ (codes "--fill", makes_by 7 (kinds.Between 1 65535)) ∷
+    (codes "--trap", makes_by 8 (kinds.Between 1 65535)) ∷ (codes "--inv", makes_by 9 (kinds.Between 0 65535)) ∷ (codes "--retry", makes_by 10 (kinds.Between 0 65535)) ∷
+    (codes "--write", makes_by 11 kinds.TimeForm) ∷ []
 
 abbrev pub defaults_of : Name → List Value
 defaults_of Asm = AsmForm asms.Image ∷ []
@@ -67,6 +74,8 @@ defaults_of Save = Number 4294967295 ∷ []
 defaults_of Resume = Number 0 ∷ Number 0 ∷ Form forms.Report ∷ []
 defaults_of Outcomes = Number 1000000 ∷ []
 defaults_of Schedule = Number 4 ∷ Number 256 ∷ Number 32768 ∷ []
+defaults_of Time =
+    Number 0 ∷ Number 1 ∷ Number 11 ∷ Number 1 ∷ Number 6 ∷ Number 4 ∷ Number 7 ∷ Number 3 ∷ Number 50 ∷ Number 2 ∷ Number 16 ∷ TimeForm times.Cycles ∷ []
 
 -- a word is an option that makes this choice
 abbrev pub makes : Options → ℕ → List ℕ → Bool
@@ -141,4 +150,7 @@ command_of Save (Number at ∷ []) = Some (command.Save at)
 command_of Resume (Number seed ∷ Number evict ∷ Form write ∷ []) = Some (command.Resume seed evict write)
 command_of Outcomes (Number most ∷ []) = Some (command.Outcomes most)
 command_of Schedule (Number pointers ∷ Number sets ∷ Number limit ∷ []) = Some (command.Schedule (record { pointers = pointers; sets = sets; limit = limit; evict = 0 }))
+command_of Time (Number seed ∷ Number hit ∷ Number switch ∷ Number hop ∷ Number send ∷ Number body ∷ Number home ∷ Number fill ∷ Number trap ∷ Number inv ∷
+    Number retry ∷ TimeForm write ∷ []) =
+    Some (command.Time (record { hit = hit; switch = switch; hop = hop; send = send; «data» = body; home = home; fill = fill; trap = trap; inv = inv; retry = retry; seed = seed }) write)
 command_of _ _ = None

@@ -5,6 +5,7 @@ use Rattle.std.specs.Str.Parse.{digits_value}
 use Rattle.alw_image.specs.Parameters.{set_counts}
 use Rattle.alw_config.specs.declared.commands.AsmForm.{AsmForm}
 use Rattle.alw_config.specs.declared.commands.AuditForm.{AuditForm}
+use Rattle.alw_config.specs.declared.commands.TimeForm.{TimeForm}
 use Rattle.alw_config.specs.declared.commands.Form.{Form}
 use Rattle.alw_config.specs.declared.commands.How.TheVariants as hows
 use Rattle.alw_config.specs.declared.rows.Value.{Value}
@@ -13,6 +14,7 @@ use Rattle.alw_config.specs.declared.rows.Kind.{Kind}
 use Rattle.alw_config.specs.declared.rows.Kind.TheVariants as kinds
 use Rattle.alw_config.specs.declared.commands.AsmForm.TheVariants as asms
 use Rattle.alw_config.specs.declared.commands.AuditForm.TheVariants as audits
+use Rattle.alw_config.specs.declared.commands.TimeForm.TheVariants as times
 use Rattle.alw_config.specs.declared.commands.Form.TheVariants as runs
 
 -- what a name stands for in a table: by the first row that has it
@@ -26,6 +28,9 @@ asm_forms = (codes "image", asms.Image) ∷ (codes "listing", asms.Listing) ∷ 
 
 abbrev pub audit_forms : List (List ℕ × AuditForm)
 audit_forms = (codes "verdict", audits.Verdict) ∷ (codes "log", audits.Log) ∷ []
+
+abbrev pub time_forms : List (List ℕ × TimeForm)
+time_forms = (codes "cycles", times.Cycles) ∷ (codes "moments", times.Moments) ∷ []
 
 abbrev pub forms : List (List ℕ × Form)
 forms = (codes "report", runs.Report) ∷ (codes "json", runs.Json) ∷ (codes "trace", runs.Trace) ∷ (codes "claim", runs.Claim) ∷ (codes "summary", runs.Summary) ∷ (codes "log", runs.Log) ∷ (codes "profile", runs.Profile) ∷ []
@@ -50,4 +55,5 @@ value_of (kinds.Between least most) word = option_map values.Number (number_if (
 value_of kinds.SetCount word = option_map values.Number (number_if (λ n. list_any (λ count. n == count) set_counts) word)
 value_of kinds.AsmForm word = option_map values.AsmForm (row_of asm_forms word)
 value_of kinds.AuditForm word = option_map values.AuditForm (row_of audit_forms word)
+value_of kinds.TimeForm word = option_map values.TimeForm (row_of time_forms word)
 value_of kinds.Form word = option_map values.Form (row_of forms word)

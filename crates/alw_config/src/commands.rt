@@ -1,6 +1,7 @@
 //! What the command words ask for.
 
 use alw_image::Params;
+use alw_times::Costs;
 
 /// What the simulator is asked to do.
 #[derive(Clone, Copy, PartialEq, Eq)]
@@ -50,6 +51,11 @@ pub enum Command {
     },
     /// Writes the source of an image.
     Dis,
+    /// Tells the times of a trace's run, by these costs.
+    Time {
+        costs: Costs,
+        write: TimeForm,
+    },
     /// Takes the turns of a claim, in their order, on a machine with these parameters.
     Schedule {
         params: Params,
@@ -70,6 +76,15 @@ pub enum AuditForm {
     Verdict,
     /// What each turn did, a line a turn, and then the verdict.
     Log,
+}
+
+/// What the times of a run are written as.
+#[derive(Clone, Copy, PartialEq, Eq)]
+pub enum TimeForm {
+    /// How long accesses, misses and messages waited, and what each node's cycles went to.
+    Cycles,
+    /// When each event started and finished.
+    Moments,
 }
 
 /// What the order of a run's events is chosen by.

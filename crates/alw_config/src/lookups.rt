@@ -3,10 +3,10 @@ ghost use Rattle.std.specs.List.{list_any};
 ghost use Rattle.alw_image.specs.Parameters.{set_counts};
 ghost use Rattle.alw_config.specs.declared.rows.Value.TheVariants as values;
 ghost use Rattle.alw_config.specs.declared.commands.How.TheVariants as hows;
-ghost use Rattle.alw_config.specs.Values.{row_of, number_if, value_of, asm_forms, audit_forms, forms};
+ghost use Rattle.alw_config.specs.Values.{row_of, number_if, value_of, asm_forms, audit_forms, time_forms, forms};
 
 use crate::commands::How;
-use crate::rows::{ASM_FORMS, AUDIT_FORMS, FORMS, Kind, Row, Value};
+use crate::rows::{ASM_FORMS, AUDIT_FORMS, FORMS, Kind, Row, TIME_FORMS, Value};
 use alw_image::SET_COUNTS;
 use alw_num::MOST_NODES;
 use alw_text::decimal;
@@ -37,6 +37,7 @@ impl Kind {
             Kind::SetCount => Some(Value::Number(set_count(word)?)),
             Kind::AsmForm => Some(Value::AsmForm(row_of(&ASM_FORMS, word)?)),
             Kind::AuditForm => Some(Value::AuditForm(row_of(&AUDIT_FORMS, word)?)),
+            Kind::TimeForm => Some(Value::TimeForm(row_of(&TIME_FORMS, word)?)),
             Kind::Form => Some(Value::Form(row_of(&FORMS, word)?)),
         }
     }

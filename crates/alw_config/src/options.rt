@@ -2,18 +2,19 @@ ghost use Rattle.std.specs.Prelude.{◌≡◌, ◌<◌, ◌≤◌, length, map, 
 ghost use Rattle.alw_config.specs.declared.rows.Value.TheVariants as values;
 ghost use Rattle.alw_config.specs.Table.{options_of, defaults_of, rule_of, number_in, command_of};
 ghost use Rattle.alw_config.specs.Places.{IsRefusedBehind};
-ghost use Rattle.alw_config.specs.Choices.{HavePlaces, ChoicesAreMade, ValuesAreAllowed, CommandIsWithin, is_allowed, value_by, values_by, misfit_by, IsNumber, IsHow, IsAsmForm, IsAuditForm, IsForm};
+ghost use Rattle.alw_config.specs.Choices.{HavePlaces, ChoicesAreMade, ValuesAreAllowed, CommandIsWithin, is_allowed, value_by, values_by, misfit_by, IsNumber, IsHow, IsAsmForm, IsAuditForm, IsTimeForm, IsForm};
 
-use crate::commands::{AsmForm, AuditForm, Command, Form, How, WordErr};
+use crate::commands::{AsmForm, AuditForm, Command, Form, How, TimeForm, WordErr};
 use crate::lookups::row_of;
 use crate::rows::{
     ASM_DEFAULTS, ASM_OPTIONS, AUDIT_DEFAULTS, AUDIT_OPTIONS, GEN_DEFAULTS, GEN_OPTIONS, GEN_RULE,
     MOST_CHOICES, Made, Meaning, NO_DEFAULTS, NO_OPTIONS, Name, OUTCOMES_DEFAULTS,
     OUTCOMES_OPTIONS, REPLAY_DEFAULTS, REPLAY_OPTIONS, RESUME_DEFAULTS, RESUME_OPTIONS,
     ROUTE_DEFAULTS, ROUTE_OPTIONS, RUN_DEFAULTS, RUN_OPTIONS, Row, Rule, SAVE_DEFAULTS,
-    SAVE_OPTIONS, SCHEDULE_DEFAULTS, SCHEDULE_OPTIONS, Value,
+    SAVE_OPTIONS, SCHEDULE_DEFAULTS, SCHEDULE_OPTIONS, TIME_DEFAULTS, TIME_OPTIONS, Value,
 };
 use alw_image::Params;
+use alw_times::Costs;
 
 // What each choice of a command is made by.
 pub(crate) type Chosen = [Option<Made>; MOST_CHOICES];
@@ -54,7 +55,7 @@ pub(crate) fn chosen(options: &[Row<Meaning>], words: &[String]) -> Result<Chose
 // What makes a choice: an option's value, or else the default.
 fn value_of(chosen: &Chosen, defaults: &[Value], choice: usize) -> Value
     requires choice { choice < length defaults.now }
-    requires few { length defaults.now ≤ 6 }
+    requires few { length defaults.now ≤ 12 }
     ensures { result ≡ value_by chosen.now defaults.now choice }
 {
     match chosen[choice] {
@@ -69,7 +70,7 @@ impl Rule {
         requires one { self.one < length defaults.now }
         requires other { self.other < length defaults.now }
         requires third { self.third < length defaults.now }
-        requires few { length defaults.now ≤ 6 }
+        requires few { length defaults.now ≤ 12 }
         ensures { result ≡ misfit_by self chosen.now defaults.now }
     {
         let one = value_of(chosen, defaults, self.one).number_or_zero();
@@ -100,13 +101,14 @@ impl Name {
             Name::Outcomes => &OUTCOMES_OPTIONS,
             Name::Dis => &NO_OPTIONS,
             Name::Schedule => &SCHEDULE_OPTIONS,
+            Name::Time => &TIME_OPTIONS,
         }
     }
 
     // The command's choices where no option makes them.
     pub(crate) fn defaults(self) -> &'static [Value]
         ensures defaults { result.now ≡ defaults_of self }
-        ensures few { length result.now ≤ 6 }
+        ensures few { length result.now ≤ 12 }
     {
         match self {
             Name::Asm => &ASM_DEFAULTS,
@@ -120,6 +122,7 @@ impl Name {
             Name::Outcomes => &OUTCOMES_DEFAULTS,
             Name::Dis => &NO_DEFAULTS,
             Name::Schedule => &SCHEDULE_DEFAULTS,
+            Name::Time => &TIME_DEFAULTS,
         }
     }
 
@@ -206,6 +209,22 @@ impl Name {
                     0,
                 ),
             },
+            Name::Time => Command::Time {
+                costs: Costs {
+                    hit: self.value(chosen, 1).number() as u16,
+                    switch: self.value(chosen, 2).number() as u16,
+                    hop: self.value(chosen, 3).number() as u16,
+                    send: self.value(chosen, 4).number() as u16,
+                    data: self.value(chosen, 5).number() as u16,
+                    home: self.value(chosen, 6).number() as u16,
+                    fill: self.value(chosen, 7).number() as u16,
+                    trap: self.value(chosen, 8).number() as u16,
+                    inv: self.value(chosen, 9).number() as u16,
+                    retry: self.value(chosen, 10).number() as u16,
+                    seed: self.value(chosen, 0).number(),
+                },
+                write: self.value(chosen, 11).time_form(),
+            },
         }
     }
 }
@@ -261,6 +280,17 @@ impl Value {
     {
         match self {
             Value::AuditForm(form) => form,
+            _ => unreachable!(),
+        }
+    }
+
+    // The form of a run's times that it is.
+    fn time_form(self) -> TimeForm
+        requires { IsTimeForm self }
+        ensures { self ≡ values.TimeForm result }
+    {
+        match self {
+            Value::TimeForm(form) => form,
             _ => unreachable!(),
         }
     }

@@ -1,6 +1,6 @@
 //! The tables of command words: each row is a name, and what it stands for. The definitions have them as literals.
 
-use crate::commands::{AsmForm, AuditForm, Form, How};
+use crate::commands::{AsmForm, AuditForm, Form, How, TimeForm};
 use alw_image::{MOST_LIMIT, MOST_POINTERS};
 
 // A row of a table: a name, and what it stands for.
@@ -19,6 +19,7 @@ pub(crate) enum Name {
     Resume,
     Outcomes,
     Schedule,
+    Time,
     Dis,
 }
 
@@ -45,6 +46,8 @@ pub(crate) enum Kind {
     AsmForm,
     // The names of `AUDIT_FORMS`.
     AuditForm,
+    // The names of `TIME_FORMS`.
+    TimeForm,
     // The names of `FORMS`.
     Form,
 }
@@ -56,6 +59,7 @@ pub(crate) enum Value {
     How(How),
     AsmForm(AsmForm),
     AuditForm(AuditForm),
+    TimeForm(TimeForm),
     Form(Form),
 }
 
@@ -78,7 +82,7 @@ pub(crate) struct Rule {
 }
 
 // The most choices that a command leaves.
-pub(crate) const MOST_CHOICES: usize = 6;
+pub(crate) const MOST_CHOICES: usize = 12;
 
 // The parameters of a machine where no option gives them.
 const DEFAULT_POINTERS: u64 = 4;
@@ -87,8 +91,11 @@ const DEFAULT_SETS: u64 = 256;
 
 const DEFAULT_LIMIT: u64 = 32_768;
 
+// The most that a thing may cost, in cycles.
+const MOST_COST: u64 = 65_535;
+
 // The commands, by their names.
-pub(crate) const COMMANDS: [Row<Name>; 11] = [
+pub(crate) const COMMANDS: [Row<Name>; 12] = [
     (b"asm", Name::Asm),
     (b"run", Name::Run),
     (b"replay", Name::Replay),
@@ -99,6 +106,7 @@ pub(crate) const COMMANDS: [Row<Name>; 11] = [
     (b"resume", Name::Resume),
     (b"outcomes", Name::Outcomes),
     (b"schedule", Name::Schedule),
+    (b"time", Name::Time),
     (b"dis", Name::Dis),
 ];
 
@@ -112,6 +120,12 @@ pub(crate) const ASM_FORMS: [Row<AsmForm>; 2] = [
 pub(crate) const AUDIT_FORMS: [Row<AuditForm>; 2] = [
     (b"verdict", AuditForm::Verdict),
     (b"log", AuditForm::Log),
+];
+
+// What the times of a run are written as.
+pub(crate) const TIME_FORMS: [Row<TimeForm>; 2] = [
+    (b"cycles", TimeForm::Cycles),
+    (b"moments", TimeForm::Moments),
 ];
 
 // What a run is written as.
@@ -372,4 +386,108 @@ pub(crate) const SCHEDULE_DEFAULTS: [Value; 3] = [
     Value::Number(DEFAULT_POINTERS),
     Value::Number(DEFAULT_SETS),
     Value::Number(DEFAULT_LIMIT),
+];
+
+// The options of `time`: what each thing costs, in cycles.
+pub(crate) const TIME_OPTIONS: [Row<Meaning>; 12] = [
+    (
+        b"--seed",
+        Meaning {
+            choice: 0,
+            kind: Kind::Between(0, u64::MAX),
+        },
+    ),
+    (
+        b"--hit",
+        Meaning {
+            choice: 1,
+            kind: Kind::Between(1, MOST_COST),
+        },
+    ),
+    (
+        b"--switch",
+        Meaning {
+            choice: 2,
+            kind: Kind::Between(0, MOST_COST),
+        },
+    ),
+    (
+        b"--hop",
+        Meaning {
+            choice: 3,
+            kind: Kind::Between(0, MOST_COST),
+        },
+    ),
+    (
+        b"--send",
+        Meaning {
+            choice: 4,
+            kind: Kind::Between(0, MOST_COST),
+        },
+    ),
+    (
+        b"--data",
+        Meaning {
+            choice: 5,
+            kind: Kind::Between(0, MOST_COST),
+        },
+    ),
+    (
+        b"--home",
+        Meaning {
+            choice: 6,
+            kind: Kind::Between(1, MOST_COST),
+        },
+    ),
+    (
+        b"--fill",
+        Meaning {
+            choice: 7,
+            kind: Kind::Between(1, MOST_COST),
+        },
+    ),
+    (
+        b"--trap",
+        Meaning {
+            choice: 8,
+            kind: Kind::Between(1, MOST_COST),
+        },
+    ),
+    (
+        b"--inv",
+        Meaning {
+            choice: 9,
+            kind: Kind::Between(0, MOST_COST),
+        },
+    ),
+    (
+        b"--retry",
+        Meaning {
+            choice: 10,
+            kind: Kind::Between(0, MOST_COST),
+        },
+    ),
+    (
+        b"--write",
+        Meaning {
+            choice: 11,
+            kind: Kind::TimeForm,
+        },
+    ),
+];
+
+// What `time` chooses where no option does.
+pub(crate) const TIME_DEFAULTS: [Value; 12] = [
+    Value::Number(0),
+    Value::Number(1),
+    Value::Number(11),
+    Value::Number(1),
+    Value::Number(6),
+    Value::Number(4),
+    Value::Number(7),
+    Value::Number(3),
+    Value::Number(50),
+    Value::Number(2),
+    Value::Number(16),
+    Value::TimeForm(TimeForm::Cycles),
 ];
