@@ -25,13 +25,17 @@ use Rattle.alw_answers.specs.declared.outputs.Output.{Output}
 use Rattle.alw_answers.specs.declared.outputs.Refusal.{Refusal}
 use Rattle.alw_answers.specs.declared.outputs.Refusal.TheVariants as refusal
 use Rattle.alw_answers.specs.Outputs.{Gives}
-use Rattle.alw_runs.specs.Forms.{IsTold, output_of}
+use Rattle.alw_runs.specs.Forms.{TextOf, IsTold, IsToldBy, output_of, output_with, run_text}
 use Rattle.alw_runs.specs.Running.{Runs}
-use Rattle.alw_runs.specs.Replaying.{Spells, IsFit, IsFirstIllegal, IsUnfinished, IsFinishedTrace, IsNotTaken, EndsTrace, Replays, IsNoReplay}
+use Rattle.alw_runs.specs.Replaying.{Spells, IsFit, IsFirstIllegal, IsUnfinished, IsFinishedTrace, IsNotTaken, EndsTrace, TakesAgain, Replays, IsNoReplay}
 use Rattle.alw_runs.proofs.NoEvict.{some_end}
 
-pub told_of_run : (h : History) (e : Ended) (form : Form) → IsRun h → IsEnd h.image h.parameters h.journal e → IsTold h.image h.parameters form (output_of h e form)
-told_of_run h e form is end = record {
+-- this text of a machine at an end, as an output
+abbrev pub output_by : TextOf → History → Ended → Output
+output_by text_of h e = output_with h e (text_of h.image h.parameters h.journal e)
+
+pub told_by : (text_of : TextOf) (h : History) (e : Ended) → IsRun h → IsEnd h.image h.parameters h.journal e → IsToldBy text_of h.image h.parameters (output_by text_of h e)
+told_by text_of h e is end = record {
   image_is = is.image;
   parameters_are = is.parameters;
   fits = is.fits;
@@ -40,6 +44,9 @@ told_of_run h e form is end = record {
   ending = refl;
   text = refl;
 }
+
+pub told_of_run : (h : History) (e : Ended) (form : Form) → IsRun h → IsEnd h.image h.parameters h.journal e → IsTold h.image h.parameters form (output_of h e form)
+told_of_run h e form is end = told_by (run_text form) h e is end
 
 -- ---- by a seed
 
@@ -103,14 +110,17 @@ module _ (trace : Trace) (after : History) (kept : ℕ) (replayed : IsReplayed t
       ended = some_end trace.image trace.params trace.journal e (subst (λ (h : History). IsEnd h.image h.parameters h.journal e) ends.0 ends.1);
     }
 
-    pub replays : (form : Form) (bytes : List ℕ) → Spells bytes trace → Replays form bytes (output_of after e form)
-    replays form bytes spells = record {
+    pub taken_again : (text_of : TextOf) (bytes : List ℕ) → Spells bytes trace → TakesAgain text_of bytes (output_by text_of after e)
+    taken_again text_of bytes spells = record {
       trace = trace;
       spelled = spells;
       same = ap (λ (h : History). h.journal) ends.0;
-      told = subst (λ (h : History). IsTold h.image h.parameters form (output_of after e form)) replayed.is (told_of_run after e form replayed.run ends.1);
+      told = subst (λ (h : History). IsToldBy text_of h.image h.parameters (output_by text_of after e)) replayed.is (told_by text_of after e replayed.run ends.1);
       merged = refl;
     }
+
+    pub replays : (form : Form) (bytes : List ℕ) → Spells bytes trace → Replays form bytes (output_of after e form)
+    replays form bytes spells = taken_again (run_text form) bytes spells
 
 -- a fault of a trace is one of the bytes that spell it
 pub not_taken : (bytes : List ℕ) (trace : Trace) → Spells bytes trace → (fault : InputErr) → IsNotTaken trace fault → IsNoReplay bytes fault

@@ -35,15 +35,23 @@ output_with machine ended text = record { text = text; ending = ending_of ended;
 abbrev pub output_of : History → Ended → Form → Output
 output_of machine ended form = output_with machine ended (run_text form machine.image machine.parameters machine.journal ended)
 
--- the headline, of an output: its journal is a coherent run of an image that fits, up to the end that it tells, and its text tells that run in a form
-pub record IsTold (image : Parts) (parameters : Parameters) (form : Form) (output : Output) : Type 0 where
+-- a text of a run, by its image, its parameters, its journal and its end
+abbrev pub TextOf : Type 0
+TextOf = Parts → Parameters → List Entry → Ended → List ℕ
+
+-- the headline, of an output: its journal is a coherent run of an image that fits, up to the end that it tells, and its text is this one of that run
+pub record IsToldBy (text_of : TextOf) (image : Parts) (parameters : Parameters) (output : Output) : Type 0 where
   pub image_is : IsImage image
   pub parameters_are : AreParameters parameters
   pub fits : stamps_of image parameters ≤ most_steps
   pub ended : Ended
   pub run : IsCoherentRun image parameters output.journal ended
   pub ending : output.ending ≡ ending_of ended
-  pub text : output.text ≡ run_text form image parameters output.journal ended
+  pub text : output.text ≡ text_of image parameters output.journal ended
+
+-- that in a form
+abbrev pub IsTold : Parts → Parameters → Form → Output → Type 0
+IsTold image parameters form output = IsToldBy (run_text form) image parameters output
 
 -- the image doesn't fit, by these numbers
 pub record IsTooMuch (image : Parts) (parameters : Parameters) (number most : ℕ) : Type 0 where

@@ -24,7 +24,7 @@ use Rattle.alw_answers.specs.declared.outputs.Output.{Output}
 use Rattle.alw_answers.specs.declared.outputs.Refusal.{Refusal}
 use Rattle.alw_answers.specs.declared.outputs.Refusal.TheVariants as refusal
 use Rattle.alw_answers.specs.Outputs.{ending_of, is_run}
-use Rattle.alw_runs.specs.Forms.{IsTold, IsTooMuch}
+use Rattle.alw_runs.specs.Forms.{TextOf, IsToldBy, IsTooMuch, run_text}
 use Rattle.alw_answers.specs.Tasks.{Task}
 
 -- ---- the trace that bytes spell
@@ -76,13 +76,16 @@ EndsTrace trace machine (Err refusal.NoMemory) = ⊥
 
 -- ---- the command
 
--- the bytes are the text of a trace, whose journal was answered
-pub record Replays (form : Form) (bytes : List ℕ) (output : Output) : Type 0 where
+-- the bytes are the text of a trace, whose journal was answered, and the text is this one of its run
+pub record TakesAgain (text_of : TextOf) (bytes : List ℕ) (output : Output) : Type 0 where
   pub trace : Trace
   pub spelled : Spells bytes trace
   pub same : output.journal ≡ trace.journal
-  pub told : IsTold trace.image trace.params form output
+  pub told : IsToldBy text_of trace.image trace.params output
   pub merged : output.merged ≡ 0
+
+abbrev pub Replays : Form → List ℕ → Output → Type 0
+Replays form bytes output = TakesAgain (run_text form) bytes output
 
 -- the bytes are no trace, or one that isn't taken again
 abbrev pub IsNoReplay : List ℕ → InputErr → Type 0
@@ -109,8 +112,12 @@ pub record IsRunThatFits (image : Parts) (parameters : Parameters) (journal : Li
   pub fits : stamps_of image parameters ≤ most_steps
   pub run : IsCoherentRun image parameters journal ended
 
--- an output that tells the same as this run does, as a report
-pub record ReportsTheSame (image : Parts) (parameters : Parameters) (journal : List Entry) (ended : Ended) (output : Output) : Type 0 where
+-- an output that tells the same as this run does, by a text of it
+pub record TellsTheSame (text_of : TextOf) (image : Parts) (parameters : Parameters) (journal : List Entry) (ended : Ended) (output : Output) : Type 0 where
   pub same : output.journal ≡ journal
   pub end : output.ending ≡ ending_of ended
-  pub text : output.text ≡ report_of image parameters journal ended
+  pub text : output.text ≡ text_of image parameters journal ended
+
+-- by its report
+abbrev pub ReportsTheSame : Parts → Parameters → List Entry → Ended → Output → Type 0
+ReportsTheSame image parameters journal ended output = TellsTheSame report_of image parameters journal ended output

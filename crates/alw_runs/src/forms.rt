@@ -70,8 +70,8 @@ fn profiled(alloc: Global, machine: Machine, ended: Ended) -> Result<Output, NoM
     Ok(output_with(machine, ended, text))
 }
 
-// The output of a machine's run, with its text.
-fn output_with(machine: Machine, ended: Ended, text: Text) -> Output
+/// The output of a machine's run, with its text.
+pub fn output_with(machine: Machine, ended: Ended, text: Text) -> Output
     ensures { result ≡ output_with machine ended text }
 {
     let MachineParts { journal, .. } = machine.into_parts();

@@ -6,6 +6,6 @@ mod forms;
 mod replaying;
 mod running;
 
-pub use forms::told;
+pub use forms::{output_with, told};
 pub use replaying::{end_of_trace, replay_bytes};
 pub use running::run_bytes;
