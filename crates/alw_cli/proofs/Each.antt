@@ -10,6 +10,7 @@ use Rattle.alw_runs.proofs.Kept.{run_kept, replay_kept}
 use Rattle.alw_threads.proofs.Kept.{work_kept}
 use Rattle.alw_cuts.proofs.Kept.{route_kept, save_kept, resume_kept}
 use Rattle.alw_orders.proofs.Kept.{schedule_kept}
+use Rattle.alw_cycles.proofs.Kept.{time_kept}
 
 pub each_kept : (command : Command) → IsKept (task_of command)
 each_kept (commands.Asm form) = asm_kept form
@@ -23,4 +24,5 @@ each_kept (commands.Save at) = save_kept at
 each_kept (commands.Resume seed evict form) = resume_kept seed evict form
 each_kept (commands.Outcomes most) = search_kept most
 each_kept (commands.Schedule params) = schedule_kept params
+each_kept (commands.Time costs form) = time_kept costs form
 each_kept commands.Dis = dis_kept

@@ -10,7 +10,6 @@ use Rattle.alw_model.specs.Headline.{IsCoherentRun, IsScheduled}
 use Rattle.law_machine.proofs.RunFacts.{always_bounded}
 use Rattle.alw_sched.specs.Schedules.{IsSeededRun}
 use Rattle.alw_sched.proofs.Bounded.{seeded_bounded}
-use Rattle.alw_config.specs.declared.commands.Form.{Form}
 use Rattle.alw_config.specs.declared.commands.Form.TheVariants.{Trace}
 use Rattle.alw_config.specs.declared.commands.Command.{Command}
 use Rattle.alw_config.specs.declared.commands.Command.TheVariants as commands
@@ -22,12 +21,13 @@ use Rattle.alw_answers.specs.Outputs.{cause_of, ending_of}
 use Rattle.alw_cli.specs.Streams.{Stream}
 use Rattle.alw_answers.specs.Tasks.{Task}
 use Rattle.alw_cli.specs.Answered.{Reads, Answered}
-use Rattle.alw_runs.specs.Forms.{IsTold}
+use Rattle.alw_runs.specs.Forms.{TextOf, IsToldBy, run_text}
 use Rattle.alw_runs.specs.Running.{run_task}
 use Rattle.alw_threads.specs.Working.{work_task}
 use Rattle.alw_runs.specs.Replaying.{replay_task}
 use Rattle.alw_cuts.specs.Resuming.{resume_task}
 use Rattle.alw_orders.specs.Scheduling.{schedule_task}
+use Rattle.alw_cycles.specs.Timing.{time_text, time_task}
 use Rattle.alw_cli.specs.Answers.{task_of, Answers}
 use Rattle.alw_cli.specs.Headline.{has_journal, IsCoherent, Promised, Headline}
 use Rattle.alw_cli.proofs.Completing.{answered_to}
@@ -52,7 +52,7 @@ has_output task input input' out out' cause.WriteFault journal merged made has =
 has_output task input input' out out' _ journal merged made has = absurd (false≢true has)
 
 -- what is told of a run is coherent
-module _ (image : Parts) (parameters : Parameters) (form : Form) (output : Output) (told : IsTold image parameters form output) (c : Cause) (journal : List Entry)
+module _ (text_of : TextOf) (image : Parts) (parameters : Parameters) (output : Output) (told : IsToldBy text_of image parameters output) (c : Cause) (journal : List Entry)
     (same : journal ≡ output.journal) where
   end_of : (c ≡ cause_of output.ending) ⊎ (c ≡ cause.WriteFault) → (c ≡ cause_of (ending_of told.ended)) ⊎ (c ≡ cause.WriteFault)
   end_of (inl whole) = inl (whole ∙ ap cause_of told.ending)
@@ -82,7 +82,7 @@ promised (commands.Run (hows.Seed seed) parameters form) input input' out out' c
       accepted = runs.accepted;
       spelled = runs.spelled;
       holds = record {
-        coherent = coherent image parameters form made.output runs.told c journal made.journal_is made.told;
+        coherent = coherent (run_text form) image parameters made.output runs.told c journal made.journal_is made.told;
         scheduled = subst (λ (j : List Entry). IsScheduled image parameters j) (sym made.journal_is) runs.scheduled;
         seeded = subst (λ (j : List Entry). IsSeededRun image parameters seed j) (sym made.journal_is) runs.seeded;
         fewer = subst (λ (j : List Entry). length j ≤ node_count image * parameters.limit + 2 * (node_count image * image.per_node)) (sym made.journal_is)
@@ -97,7 +97,7 @@ promised (commands.Run (hows.Workers n) parameters form) input input' out out' c
       read = made.reads.read;
       accepted = works.accepted;
       spelled = works.spelled;
-      holds = coherent (image_in made.reads.bytes) parameters form made.output works.told c journal made.journal_is made.told;
+      holds = coherent (run_text form) (image_in made.reads.bytes) parameters made.output works.told c journal made.journal_is made.told;
     }
 promised (commands.Replay form) input input' out out' c journal merged answer has =
     let made = has_output (replay_task form) input input' out out' c journal merged answer has in
@@ -105,7 +105,7 @@ promised (commands.Replay form) input input' out out' c journal merged answer ha
     record {
       image = replays.trace.image;
       parameters = replays.trace.params;
-      coherent = coherent replays.trace.image replays.trace.params form made.output replays.told c journal made.journal_is made.told;
+      coherent = coherent (run_text form) replays.trace.image replays.trace.params made.output replays.told c journal made.journal_is made.told;
     }
 promised (commands.Resume seed evict form) input input' out out' c journal merged answer has =
     let made = has_output (resume_task seed evict form) input input' out out' c journal merged answer has in
@@ -113,14 +113,22 @@ promised (commands.Resume seed evict form) input input' out out' c journal merge
     record {
       image = resumes.machine.image;
       parameters = resumes.machine.parameters;
-      coherent = coherent resumes.machine.image resumes.machine.parameters form made.output resumes.told c journal made.journal_is made.told;
+      coherent = coherent (run_text form) resumes.machine.image resumes.machine.parameters made.output resumes.told c journal made.journal_is made.told;
+    }
+promised (commands.Time costs form) input input' out out' c journal merged answer has =
+    let made = has_output (time_task costs form) input input' out out' c journal merged answer has in
+    let takes = made.reads.holds in
+    record {
+      image = takes.trace.image;
+      parameters = takes.trace.params;
+      coherent = coherent (time_text costs form) takes.trace.image takes.trace.params made.output takes.told c journal made.journal_is made.told;
     }
 promised (commands.Schedule parameters) input input' out out' c journal merged answer has =
     let made = has_output (schedule_task parameters) input input' out out' c journal merged answer has in
     let schedules = made.reads.holds in
     record {
       image = schedules.claim.image;
-      coherent = coherent schedules.claim.image parameters Trace made.output schedules.told c journal made.journal_is made.told;
+      coherent = coherent (run_text Trace) schedules.claim.image parameters made.output schedules.told c journal made.journal_is made.told;
     }
 promised _ input input' out out' c journal merged answer has = tt
 

@@ -23,6 +23,7 @@ use Rattle.alw_cuts.specs.Saving.{save_task}
 use Rattle.alw_cuts.specs.Resuming.{resume_task}
 use Rattle.alw_checks.specs.Searching.{search_task}
 use Rattle.alw_orders.specs.Scheduling.{schedule_task}
+use Rattle.alw_cycles.specs.Timing.{time_task}
 use Rattle.alw_answers.specs.ErrLines.{err_line}
 
 -- ---- the answers
@@ -40,6 +41,7 @@ task_of (commands.Save at) = save_task at
 task_of (commands.Resume seed evict form) = resume_task seed evict form
 task_of (commands.Outcomes most) = search_task most
 task_of (commands.Schedule params) = schedule_task params
+task_of (commands.Time costs form) = time_task costs form
 task_of commands.Dis = dis_task
 
 -- a command asks for no workers

@@ -71,6 +71,7 @@ Promised (commands.Run (hows.Workers workers) parameters form) input input' answ
     IsOfImage input input' (λ image. IsCoherent image parameters answered journal)
 Promised (commands.Replay form) input input' answered journal = IsSomeCoherent answered journal
 Promised (commands.Resume seed evict form) input input' answered journal = IsSomeCoherent answered journal
+Promised (commands.Time costs form) input input' answered journal = IsSomeCoherent answered journal
 Promised (commands.Schedule parameters) input input' answered journal = IsCoherentUnder parameters answered journal
 Promised _ input input' answered journal = ⊤
 

@@ -15,6 +15,7 @@ use alw_builds::{assemble_source, make_workload, read_back};
 use alw_checks::{audit_bytes, search_bytes};
 use alw_config::{Command, Form, How};
 use alw_cuts::{resume, route_bytes, save_bytes};
+use alw_cycles::time_bytes;
 use alw_image::Params;
 use alw_io::{Sink, Source};
 use alw_orders::schedule_bytes;
@@ -79,6 +80,7 @@ fn make(alloc: Global, command: Command, bytes: &[u8]) -> Result<Output, Refusal
         Command::Outcomes { most } => search_bytes(alloc, most, bytes),
         Command::Dis => read_back(alloc, bytes),
         Command::Schedule { params } => schedule_bytes(alloc, &params, bytes),
+        Command::Time { costs, write } => time_bytes(alloc, &costs, write, bytes),
     }
 }
 

@@ -1,22 +1,31 @@
 -- The trace of a run is accepted by `replay`, which answers and writes the same as a report.
-use Rattle.std.proofs.Common.{◌≡◌, ℕ, List, refl, sym, ap, subst, ◌∙◌, arith}
+use Rattle.std.proofs.Common.{◌≡◌, ℕ, List, ◌++◌, codes, refl, sym, ap, subst, ◌∙◌, arith}
 use Rattle.alw_msg.specs.declared.events.Entry.{Entry}
 use Rattle.alw_image.specs.declared.parts.Parts.{Parts}
+use Rattle.alw_image.specs.Images.{node_count}
 use Rattle.alw_image.specs.Parameters.{Parameters}
 use Rattle.alw_model.specs.declared.ends.Ended.{Ended}
 use Rattle.alw_model.specs.Headline.{IsCoherentRun}
 use Rattle.alw_mesh.proofs.Journals.{journal_fits}
 use Rattle.alw_report.specs.Reports.{report_of}
+use Rattle.alw_report.specs.Reports.{params_line, ended_line}
+use Rattle.alw_times.specs.declared.costs.Costs.{Costs}
+use Rattle.alw_times.specs.Times.{times_start, timed_all, times_of}
+use Rattle.alw_waits.specs.Waits.{waits_start, waited_all, waits_of, spans_all, spans_of}
+use Rattle.alw_timing.specs.Texts.{head_text, cycles_title, cycles_line, totals_text, nodes_text, cycles_text, moments_title, entries_text, moments_text}
 use Rattle.alw_trace.specs.declared.values.Trace.{Trace}
 use Rattle.alw_trace.specs.Texts.{trace_text}
 use Rattle.alw_trace.specs.Readings.{without_evict}
 use Rattle.alw_trace.proofs.OneTrace.{no_evict}
 use Rattle.alw_config.specs.declared.commands.Form.TheVariants as forms
+use Rattle.alw_config.specs.declared.commands.TimeForm.{TimeForm}
+use Rattle.alw_config.specs.declared.commands.TimeForm.TheVariants.{Cycles, Moments}
+use Rattle.alw_cycles.specs.Timing.{time_text}
 use Rattle.alw_answers.specs.declared.outputs.Output.{Output}
 use Rattle.alw_answers.specs.Outputs.{ending_of}
-use Rattle.alw_runs.specs.Forms.{run_text, IsTold}
-use Rattle.alw_runs.specs.Replaying.{Spells, Replays, IsFinishedTrace, IsFinishedText, IsRunThatFits, ReportsTheSame, trace_of}
-use Rattle.alw_runs.proofs.NoEvict.{calm, legal_same, end_after_same, ends_so, one_end, some_end, report_same, stamped}
+use Rattle.alw_runs.specs.Forms.{TextOf, run_text, IsToldBy}
+use Rattle.alw_runs.specs.Replaying.{Spells, TakesAgain, Replays, IsFinishedTrace, IsFinishedText, IsRunThatFits, TellsTheSame, ReportsTheSame, trace_of}
+use Rattle.alw_runs.proofs.NoEvict.{calm, legal_same, end_after_same, ends_so, one_end, some_end, moments_same, report_same, stamped}
 use Rattle.alw_runs.proofs.Kept.{one_spelled}
 
 module _ (image : Parts) (p : Parameters) (journal : List Entry) (e : Ended) (is : IsRunThatFits image p journal e) where
@@ -63,16 +72,49 @@ module _ (image : Parts) (p : Parameters) (journal : List Entry) (e : Ended) (is
   pub accepted : IsFinishedText text
   accepted = record { trace = read; spelled = spelled; holds = finished }
 
-  pub reports_the_same : (output : Output) → Replays forms.Report text output → ReportsTheSame image p journal e output
-  unfolding run_text
-  reports_the_same output replays =
-      let one : replays.trace ≡ read = one_spelled text replays.trace read replays.spelled spelled in
-      let same : output.journal ≡ journal = replays.same ∙ ap (λ (t : Trace). t.journal) one in
-      let told : IsTold image (calm p) forms.Report output = subst (λ (t : Trace). IsTold t.image t.params forms.Report output) one replays.told in
+  -- what is told of the run again, where the text doesn't depend on how often evictions are tried
+  pub tells_the_same : (text_of : TextOf) → ((ended : Ended) → text_of image (calm p) journal ended ≡ text_of image p journal ended) → (output : Output) →
+      TakesAgain text_of text output → TellsTheSame text_of image p journal e output
+  tells_the_same text_of calmly output takes =
+      let one : takes.trace ≡ read = one_spelled text takes.trace read takes.spelled spelled in
+      let same : output.journal ≡ journal = takes.same ∙ ap (λ (t : Trace). t.journal) one in
+      let told : IsToldBy text_of image (calm p) output = subst (λ (t : Trace). IsToldBy text_of t.image t.params output) one takes.told in
       let run : IsCoherentRun image (calm p) journal told.ended = subst (λ (j : List Entry). IsCoherentRun image (calm p) j told.ended) same told.run in
       let end_is : told.ended ≡ e = one_end image p journal told.ended e (ends_so image p journal told.ended run.end) is.run.end in
       record {
         same = same;
         end = told.ending ∙ ap ending_of end_is;
-        text = told.text ∙ ap (λ (j : List Entry). report_of image (calm p) j told.ended) same ∙ report_same image p journal told.ended ∙ ap (report_of image p journal) end_is;
+        text = told.text ∙ ap (λ (j : List Entry). text_of image (calm p) j told.ended) same ∙ calmly told.ended ∙ ap (text_of image p journal) end_is;
       }
+
+  pub reports_the_same : (output : Output) → Replays forms.Report text output → ReportsTheSame image p journal e output
+  unfolding run_text
+  reports_the_same output replays = tells_the_same report_of (report_same image p journal) output replays
+
+  -- ---- its times
+
+  times_same : (costs : Costs) → times_of image (calm p) costs journal ≡ times_of image p costs journal
+  unfolding times_of
+  times_same costs = ap (timed_all image costs (times_start image costs)) (moments_same image p journal)
+
+  waits_same : (costs : Costs) → waits_of image (calm p) costs journal ≡ waits_of image p costs journal
+  unfolding waits_of
+  waits_same costs = ap (waited_all image costs (times_start image costs) (waits_start image)) (moments_same image p journal)
+
+  spans_same : (costs : Costs) → spans_of image (calm p) costs journal ≡ spans_of image p costs journal
+  unfolding spans_of
+  spans_same costs = ap (spans_all image costs (times_start image costs)) (moments_same image p journal)
+
+  head_same : (costs : Costs) → head_text image (calm p) costs ≡ head_text image p costs
+  unfolding head_text params_line
+  head_same costs = refl
+
+  time_same : (costs : Costs) (form : TimeForm) (ended : Ended) → time_text costs form image (calm p) journal ended ≡ time_text costs form image p journal ended
+  unfolding time_text cycles_text moments_text
+  time_same costs Cycles ended = λ i.
+      cycles_title ++ (head_same costs i ++ (ended_line ended ++ (cycles_line (times_same costs i).latest ++ (totals_text (waits_same costs i)
+      ++ (nodes_text (node_count image) (times_same costs i).latest (waits_same costs i).spent ++ codes "end\n")))))
+  time_same costs Moments ended = λ i. moments_title ++ (head_same costs i ++ (entries_text journal (spans_same costs i) ++ codes "end\n"))
+
+  pub times_the_same : (costs : Costs) (form : TimeForm) (output : Output) → TakesAgain (time_text costs form) text output → TellsTheSame (time_text costs form) image p journal e output
+  times_the_same costs form output takes = tells_the_same (time_text costs form) (time_same costs form) output takes

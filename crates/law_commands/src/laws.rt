@@ -24,7 +24,10 @@ ghost use Rattle.alw_builds.specs.Assembling.{Assembles, asm_task};
 ghost use Rattle.alw_builds.specs.ReadingBack.{ReadsBack};
 ghost use Rattle.alw_checks.specs.Auditing.{Audits, IsNoClaim, FindsSound, IsSoundText, told_before};
 ghost use Rattle.alw_runs.specs.Forms.{run_text, IsTold};
-ghost use Rattle.alw_runs.specs.Replaying.{IsFinishedText, IsRunThatFits, Replays, ReportsTheSame, trace_of};
+ghost use Rattle.alw_runs.specs.Replaying.{IsFinishedText, IsRunThatFits, TakesAgain, Replays, TellsTheSame, ReportsTheSame, trace_of};
+ghost use Rattle.alw_times.specs.declared.costs.Costs.{Costs};
+ghost use Rattle.alw_config.specs.declared.commands.TimeForm.{TimeForm};
+ghost use Rattle.alw_cycles.specs.Timing.{time_text};
 ghost use Rattle.alw_cuts.specs.Resuming.{IsSomeCheckpoint};
 ghost use Rattle.alw_image.specs.Faults.{image_in};
 ghost use Rattle.alw_model.specs.declared.ends.Ended.TheVariants.{Halted};
@@ -48,6 +51,14 @@ pub fn traces_report_the_same()
         IsFinishedText (trace_text (trace_of image parameters journal)) }
     ensures same { (image : Parts) → (parameters : Parameters) → (journal : List Entry) → (ended : Ended) → IsRunThatFits image parameters journal ended →
         (output : Output) → Replays forms.Report (trace_text (trace_of image parameters journal)) output → ReportsTheSame image parameters journal ended output }
+{}
+
+/// The times that `time` tells of the trace of a run are those of the run, by whatever costs: the text of a trace doesn't
+/// say how often evictions are tried, and no time depends on it.
+pub fn traces_tell_their_times()
+    ensures { (image : Parts) → (parameters : Parameters) → (journal : List Entry) → (ended : Ended) → IsRunThatFits image parameters journal ended →
+        (costs : Costs) → (form : TimeForm) → (output : Output) → TakesAgain (time_text costs form) (trace_text (trace_of image parameters journal)) output →
+        TellsTheSame (time_text costs form) image parameters journal ended output }
 {}
 
 /// What a run claims is found sound. The claim that `run` or `replay` writes of a run of an image that fits

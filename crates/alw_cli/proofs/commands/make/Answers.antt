@@ -29,3 +29,6 @@ returns-in-Dis c = rw c.in-Dis.is c.read_back.ensures
 
 pub returns-in-Schedule : goal.returns-in-Schedule
 returns-in-Schedule c = rw c.in-Schedule.is c.schedule_bytes.ensures
+
+pub returns-in-Time : goal.returns-in-Time
+returns-in-Time c = rw c.in-Time.is c.time_bytes.ensures
