@@ -37,14 +37,14 @@ thread_stays parts before after at context thread stored within go width memorie
 
 -- once a lead is remembered, all is stored still
 pub known_stored : (parts : Parts) (before after : Explored) (known : Known) → IsStored parts before → GoOn parts before.pools after.pools
-    → after.width ≡ before.width → after.classes.items ≡ before.classes.items → after.memories.items ≡ before.memories.items → after.rows.items ≡ before.rows.items → after.broken.items ≡ before.broken.items
+    → after.width ≡ before.width → after.classes.items ≡ before.classes.items → after.memories.items ≡ before.memories.items → after.rows.items ≡ before.rows.items → after.broken.items ≡ before.broken.items → after.by_row ≡ before.by_row
     → AreIn before.pools known.at → IsLead parts before.classes.items known.context (thread_in before.pools known.at) after.pools known.lead
     → NotesOne before.leads.slots.items after.leads.slots.items known → IsStored parts after
-known_stored parts before after known stored go width classes memories rows broken inside lead noted =
+known_stored parts before after known stored go width classes memories rows broken by_row inside lead noted =
     let same = thread_grows parts before.pools after.pools known.at stored.pools go.grow inside in
     let one : IsLeadOf parts before.classes.items after.pools known = record { inside = inside_grows before.pools after.pools known.at go.grow inside; lead = subst (λ (t : Thread). IsLead parts before.classes.items known.context t after.pools known.lead) (sym same) lead } in
     let all = lead_noted parts before.classes.items after.pools before.leads.slots.items after.leads.slots.items known (leads_grow parts before.classes.items before.pools after.pools stored.pools go.grow before.leads.slots.items stored.leads) one noted in
-    stored_grows parts before after stored go width memories rows classes broken (subst (λ (l : List Class). AreLeads parts l after.pools after.leads.slots.items) (sym classes) all)
+    stored_grows parts before after stored go width memories rows classes broken by_row (subst (λ (l : List Class). AreLeads parts l after.pools after.leads.slots.items) (sym classes) all)
 
 pub record IsDone (parts : Parts) (classes : List Class) (one three : Found) (at context : ℕ) : Type 0 where
   pub goes : GoesTo parts one three

@@ -9,6 +9,9 @@ pub mod EveryTrap
 pub mod Comparing
 pub mod Lefts
 pub mod Pooling
+pub mod Chaining
+pub mod Indexing
+pub mod Rows
 pub mod Leading
 pub mod Threading
 pub mod Storing
@@ -22,6 +25,7 @@ pub mod Sorting
 pub mod MemoryWords
 pub mod Keying
 pub mod Spelling
+pub mod Apart
 pub mod Ordered
 pub mod Telling
 pub mod Reaching

@@ -14,9 +14,10 @@ use Rattle.alw_outcomes.specs.declared.pools.Link.{Link}
 use Rattle.alw_outcomes.specs.declared.pools.Numbers.{Numbers}
 use Rattle.alw_outcomes.specs.declared.pools.Pools.{Pools}
 use Rattle.alw_outcomes.specs.declared.turns.Left.{Left}
+use Rattle.alw_outcomes.specs.Digests.{seat_digest, link_digest, memory_digest}
 use Rattle.alw_outcomes.specs.Effects.{Effect, effect_of, written}
 use Rattle.alw_outcomes.specs.Threads.{effect_in, thread_turn, words_after}
-use Rattle.alw_outcomes.specs.Pools.{IsFront, Numbered, LinksGoOn, HasWords, AreIn, ArePools, GoOn, with_links, lists_of, no_seat, seat_in, memory_in, thread_in}
+use Rattle.alw_outcomes.specs.Pools.{IsFront, Numbered, IsIndexed, LinksGoOn, HasWords, AreIn, ArePools, GoOn, with_links, lists_of, no_seat, seat_in, memory_in, thread_in}
 
 -- ---- members of a list that grows at its end
 
@@ -190,7 +191,8 @@ module _ (parts : Parts) (before after : Pools) (at : Numbers) (seat : Seat) (le
     (words : HasWords after.links.items list (words_after (slice_index_or (lists_of before.links.items) seat.list []) left.outcome))
     (status_is : status ≡ status_after left.regs left.outcome)
     (seats : Numbered before.seats.items after.seats.items (record { regs = left.regs; status = status; list = list }) number)
-    (memories : Numbered before.memories.items after.memories.items (written (memory_in before at.memory) left.wrote) memory) where
+    (memories : Numbered before.memories.items after.memories.items (written (memory_in before at.memory) left.wrote) memory)
+    (by_seat : IsIndexed seat_digest after.seats.items after.by_seat) (by_link : IsIndexed link_digest after.links.items after.by_link) (by_memory : IsIndexed memory_digest after.memories.items after.by_memory) where
   new_seat : Seat
   new_seat = record { regs = left.regs; status = status; list = list }
 
@@ -205,6 +207,9 @@ module _ (parts : Parts) (before after : Pools) (at : Numbers) (seat : Seat) (le
       lists = λ k s e. listed k s (numbered_cases before.seats.items after.seats.items (record { regs = left.regs; status = status; list = list }) number k s seats e);
       back = links.back;
       sizes = λ k m e. sized k m (numbered_cases before.memories.items after.memories.items _ memory k m memories e);
+      seats = by_seat;
+      links = by_link;
+      memories = by_memory;
     };
   }
     where
@@ -255,9 +260,10 @@ pub stepped_read : (parts : Parts) (before after : Pools) (at : Numbers) (seat :
     → effect_of parts held seat.regs ≡ record { memory = written held left.wrote; regs = left.regs; outcome = left.outcome }
     → LinksGoOn before.links.items after.links.items → HasWords after.links.items list (words_after (slice_index_or (lists_of before.links.items) seat.list []) left.outcome) → status ≡ status_after left.regs left.outcome
     → Numbered before.seats.items after.seats.items (record { regs = left.regs; status = status; list = list }) number → Numbered before.memories.items after.memories.items (written (memory_in before at.memory) left.wrote) memory
+    → IsIndexed seat_digest after.seats.items after.by_seat → IsIndexed link_digest after.links.items after.by_link → IsIndexed memory_digest after.memories.items after.by_memory
     → Stepped parts before after at (record { memory = memory; seat = number }) left.outcome
-stepped_read parts before after at seat held left status list number memory inside pools seat_is held_is effect links words status_is seats memories =
+stepped_read parts before after at seat held left status list number memory inside pools seat_is held_is effect links words status_is seats memories by_seat by_link by_memory =
     let same : memory_in before at.memory ≡ held = at_place before.memories.items at.memory [] held inside.memory held_is in
     stepped parts before after at seat left status list number memory inside pools (get_read before.seats.items at.seat seat inside.seat seat_is)
     (subst (λ (m : List Line). effect_of parts m seat.regs ≡ record { memory = written m left.wrote; regs = left.regs; outcome = left.outcome }) (sym same) effect)
-    links words status_is seats memories
+    links words status_is seats memories by_seat by_link by_memory

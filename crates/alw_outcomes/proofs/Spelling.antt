@@ -28,7 +28,7 @@ read_more links whole rest at link words after back there next less pushed is = 
       ∙ is.is;
 }
 
-no_words : (links : List Link) → (let none : List ℕ = [] in slice_index_or (lists_of links) 0 none ≡ none)
+pub no_words : (links : List Link) → (let none : List ℕ = [] in slice_index_or (lists_of links) 0 none ≡ none)
 unfolding lists_of
 no_words links = let none : List ℕ = [] in front_or (none ∷ []) (with_links (none ∷ []) links) 0 none (with_links-front (none ∷ []) links) (omega arith)
 

@@ -27,9 +27,11 @@ use Rattle.alw_outcomes.specs.Places.{Place, place_start}
 use Rattle.alw_outcomes.specs.Outcomes.{all_halted}
 use Rattle.alw_outcomes.specs.Sharing.{CanBreak}
 use Rattle.alw_outcomes.specs.Threads.{thread_at, with_thread}
-use Rattle.alw_outcomes.specs.Pools.{IsFront, Numbered, AreIn, ArePools, PoolsGrow, GoOn, lists_of, no_seat, seat_in, context_of, context_in, words_in, memory_in, place_of, thread_in}
-use Rattle.alw_outcomes.specs.Explored.{IsAmong, Grows, IsStored, IsRow, AreAtStart, IsReal, halted_in, row_in, place_in, places_in, found_in}
+use Rattle.alw_outcomes.specs.Digests.{seat_digest, link_digest, memory_digest, row_digest}
+use Rattle.alw_outcomes.specs.Pools.{IsFront, Numbered, IsIndexed, AreIn, ArePools, PoolsGrow, GoOn, lists_of, no_seat, seat_in, context_of, context_in, words_in, memory_in, place_of, thread_in}
+use Rattle.alw_outcomes.specs.Explored.{IsAmong, Grows, IsStored, IsRow, AreAtStart, IsReal, halted_in, rows_of, rows_in, row_in, place_in, places_in, found_in}
 use Rattle.alw_outcomes.proofs.Pooling.{at_place, or-append, front_or, front_length, get-cases, numbered_get, numbered_front, numbered_cases}
+use Rattle.alw_outcomes.proofs.Rows.{rows_same, rows_apart, row_alone}
 use Rattle.alw_outcomes.proofs.Leading.{words_grow}
 
 -- ---- rows
@@ -116,8 +118,8 @@ places_grow parts before after stored grow width memories rows =
     ∙ place_grows parts before.pools after.pools stored.pools grow (slice_index_or before.memories.items k 0) (row_in before k) (memory_inside parts before k stored less) (row_inside parts before k stored less))
 
 pub stored_grows : (parts : Parts) (before after : Explored) → IsStored parts before → GoOn parts before.pools after.pools → after.width ≡ before.width → after.memories.items ≡ before.memories.items → after.rows.items ≡ before.rows.items
-    → after.classes.items ≡ before.classes.items → after.broken.items ≡ before.broken.items → AreLeads parts after.classes.items after.pools after.leads.slots.items → IsStored parts after
-stored_grows parts before after stored go width memories rows classes broken leads = record {
+    → after.classes.items ≡ before.classes.items → after.broken.items ≡ before.broken.items → after.by_row ≡ before.by_row → AreLeads parts after.classes.items after.pools after.leads.slots.items → IsStored parts after
+stored_grows parts before after stored go width memories rows classes broken by_row leads = record {
   width = width ∙ stored.width;
   rows = ap length rows ∙ stored.rows ∙ (λ i. length (sym memories i) * sym width i);
   memory_in = λ k m e. front_length before.pools.memories.items after.pools.memories.items m go.grow.memories (stored.memory_in k m (ap (λ (l : List ℕ). slice_get l k) (sym memories) ∙ e));
@@ -125,6 +127,7 @@ stored_grows parts before after stored go width memories rows classes broken lea
   pools = go.pools;
   leads = leads;
   breaks = λ some. subst CanBreak (sym classes) (stored.breaks (subst (λ (l : List Broken). 0 < length l) broken some));
+  indexed = rows_same (rows_in before) (rows_in after) before.by_row after.by_row (λ i. rows_of (width i) (memories i) (rows i)) by_row stored.indexed;
 }
 
 -- ---- a place by its number
@@ -240,8 +243,8 @@ module _ (parts : Parts) (before : Explored) (at context : ℕ) (to : Numbers) (
         let old = map_range (place_in after) (place_in before) n old_place in
         ap (λ (m : ℕ). map (place_in after) (range_with_len 0 m)) count ∙ map-range_with_len_more (place_in after) 0 n n (omega arith) ∙ (λ i. old i ++ new_place i ∷ [])
 
-    pub stored_added : context < context_count parts → IsStored parts after
-    stored_added exists = record {
+    pub stored_added : context < context_count parts → after.by_row ≡ before.by_row ++ row_digest to.memory row ∷ [] → ((k : ℕ) → IsRow before k to.memory row → ⊥) → IsStored parts after
+    stored_added exists by_row new = record {
       width = width ∙ stored.width;
       rows =
           let a = ap length rows in let b = length-append before.rows.items row in let c = ap length memories in let d = length-append before.memories.items (to.memory ∷ []) in
@@ -254,6 +257,7 @@ module _ (parts : Parts) (before : Explored) (at context : ℕ) (to : Numbers) (
       pools = subst (ArePools parts) (sym pools) stored.pools;
       leads = subst (λ (e : Explored). AreLeads parts e.classes.items e.pools e.leads.slots.items) (λ i. record before { classes = sym classes i; pools = sym pools i; leads = sym leads i }) stored.leads;
       breaks = subst (λ (e : Explored). 0 < length e.broken.items → CanBreak e.classes.items) (λ i. record before { classes = sym classes i; broken = sym broken i }) stored.breaks;
+      indexed = rows_apart before after.width to.memory after.memories.items after.rows.items row after.by_row width memories rows stored.rows long by_row new stored.indexed;
     }
       where
         held : (k m : ℕ) → (slice_get before.memories.items k ≡ Some m) ⊎ ((k ≡ length before.memories.items) × (to.memory ≡ m)) → m < length before.pools.memories.items
@@ -350,7 +354,9 @@ one_member x y (suc k) e = absurd (cc)
 module _ (parts : Parts) (found : Explored) (memory : List Line) (number : ℕ) (origin : Origin) (width : found.width ≡ context_count parts) (numbered : Numbered [] found.pools.memories.items memory number) (memory_is : memory ≡ map (body_of parts) (range_with_len 0 (line_count parts)))
     (start : AreAtStart parts found.pools.seats.items found.rows.items (context_count parts)) (links : found.pools.links.items ≡ []) (memories : found.memories.items ≡ number ∷ []) (origins : found.origins.items ≡ origin ∷ [])
     (halted : found.halted.items ≡ []) (trapped : found.trapped.items ≡ []) (broken : found.broken.items ≡ [])
-    (leads : (k : ℕ) (known : Known) → slice_get found.leads.slots.items k ≡ Some (Some known) → ⊥) where
+    (leads : (k : ℕ) (known : Known) → slice_get found.leads.slots.items k ≡ Some (Some known) → ⊥)
+    (by_seat : IsIndexed seat_digest found.pools.seats.items found.pools.by_seat) (by_link : IsIndexed link_digest found.pools.links.items found.pools.by_link) (by_memory : IsIndexed memory_digest found.pools.memories.items found.pools.by_memory)
+    (by_row : found.by_row ≡ row_digest number found.rows.items ∷ []) where
   rows_long : length found.rows.items ≡ context_count parts
   rows_long = sym (length-map found.rows.items (context_by found.pools.seats.items)) ∙ ap length start.contexts ∙ length-map-range_with_len (context_start parts) 0 (context_count parts)
 
@@ -364,9 +370,13 @@ module _ (parts : Parts) (found : Explored) (memory : List Line) (number : ℕ) 
       lists = λ k seat e. let z = start.lists k seat e in omega (arith, z);
       back = λ k link e. absurd (no_link k link (ap (λ l. slice_get l k) (sym links) ∙ e));
       sizes = λ k m e. sized k m (numbered_cases [] found.pools.memories.items memory number k m numbered e);
+      seats = by_seat;
+      links = by_link;
+      memories = by_memory;
     };
     leads = λ known there. absurd (leads there.slot known there.there);
     breaks = λ some. absurd (omega (arith, some, ap length broken));
+    indexed = row_alone found.width number found.memories.items found.rows.items found.by_row memories (rows_long ∙ sym width) by_row;
   }
     where
       no_link : (k : ℕ) (link : Link) → slice_get [] k ≡ Some link → ⊥

@@ -9,7 +9,8 @@ use Rattle.alw_model.specs.Flat.{context_start}
 use Rattle.alw_outcomes.specs.Places.{Place, place_start, place_turn, places_after, IsForward, IsRun}
 use Rattle.alw_outcomes.specs.Outcomes.{Ending, Halts, Traps, EndsIn, all_halted}
 use Rattle.alw_outcomes.specs.Sharing.{Goes, Breaks, CanBreak, IsPrivate, HasNext, HasPrivateNext}
-use Rattle.alw_outcomes.specs.Pools.{ArePools, no_seat, context_of, place_of}
+use Rattle.alw_outcomes.specs.Digests.{row_digest}
+use Rattle.alw_outcomes.specs.Pools.{IsIndexed, ArePools, no_seat, context_of, place_of}
 use Rattle.alw_outcomes.specs.Remembered.{AreLeads}
 use Rattle.alw_outcomes.specs.declared.classes.Class.{Class}
 use Rattle.alw_outcomes.specs.declared.classes.Broken.{Broken}
@@ -30,6 +31,21 @@ pub record Found : Type 0 where
 abbrev pub row_in : Explored → ℕ → List ℕ
 row_in e at = take e.width (drop (at * e.width) e.rows.items)
 
+-- a place by numbers: that of its memory, and those of its contexts
+pub record Row : Type 0 where
+  pub memory : ℕ
+  pub contexts : List ℕ
+
+-- the rows of places: of each number the memory, and so many contexts of the list
+unfoldable pub rows_of : ℕ → List ℕ → List ℕ → List Row
+rows_of width memories rows = map (λ k. record { memory = slice_index_or memories k 0; contexts = take width (drop (k * width) rows) }) (range_with_len 0 (length memories))
+
+abbrev pub rows_in : Explored → List Row
+rows_in e = rows_of e.width e.memories.items e.rows.items
+
+abbrev pub digest_in : Row → ℕ
+digest_in row = row_digest row.memory row.contexts
+
 -- the place with a number
 abbrev pub place_in : Explored → ℕ → Place
 place_in e at = place_of e.pools (slice_index_or e.memories.items at 0) (row_in e at)
@@ -40,7 +56,15 @@ places_in e = map (place_in e) (range_with_len 0 (length e.memories.items))
 abbrev pub found_in : Explored → Found
 found_in e = record { places = places_in e; origins = e.origins.items; halted = e.halted.items; trapped = e.trapped.items; broken = e.broken.items }
 
--- all numbers are of what the pools hold, each place has a row, what is remembered as a lead is one, and a hint that was broken can be
+-- the place of no number
+abbrev pub no_place : Place
+no_place = record { flat = record { memory = []; contexts = [] }; printed = [] }
+
+-- two numbers of places whose places are the same are the same number
+abbrev pub PlacesAreDifferent : Found → Type 0
+PlacesAreDifferent found = (one two : ℕ) → one < length found.places → two < length found.places → slice_index_or found.places one no_place ≡ slice_index_or found.places two no_place → one ≡ two
+
+-- all numbers are of what the pools hold, each place has a row, which no other has, what is remembered as a lead is one, and a hint that was broken can be
 pub record IsStored (parts : Parts) (e : Explored) : Type 0 where
   pub width : e.width ≡ context_count parts
   pub rows : length e.rows.items ≡ length e.memories.items * e.width
@@ -49,6 +73,7 @@ pub record IsStored (parts : Parts) (e : Explored) : Type 0 where
   pub pools : ArePools parts e.pools
   pub leads : AreLeads parts e.classes.items e.pools e.leads.slots.items
   pub breaks : 0 < length e.broken.items → CanBreak e.classes.items
+  pub indexed : IsIndexed digest_in (rows_in e) e.by_row
 
 -- the place with this number has this memory and these contexts
 pub record IsRow (e : Explored) (at memory : ℕ) (row : List ℕ) : Type 0 where
@@ -89,10 +114,6 @@ pub record HasTrapped (found : Found) (context pc tt' : ℕ) : Type 0 where
   pub context_is : turn.context ≡ context
   pub pc_is : turn.pc ≡ pc
   pub type_is : turn.tt ≡ tt'
-
--- the place of no number
-abbrev pub no_place : Place
-no_place = record { flat = record { memory = []; contexts = [] }; printed = [] }
 
 -- what it comes to where all contexts have halted at a place, and where a turn traps
 abbrev pub halt_of : Place → Ending

@@ -3,6 +3,8 @@ pub mod Outcomes
 pub mod Sharing
 pub mod Effects
 pub mod Threads
+pub mod Tables
+pub mod Digests
 pub mod Pools
 pub mod Leads
 pub mod Remembered

@@ -12,6 +12,7 @@ use Rattle.alw_outcomes.specs.declared.pools.Pools.{Pools}
 use Rattle.alw_outcomes.specs.declared.pools.Numbers.{Numbers}
 use Rattle.alw_outcomes.specs.Places.{Place}
 use Rattle.alw_outcomes.specs.Threads.{Thread}
+use Rattle.alw_outcomes.specs.Digests.{seat_digest, link_digest, memory_digest}
 
 -- a list that has grown at its end
 pub record IsFront {A : Type 0} (before after : List A) : Type 0 where
@@ -21,6 +22,15 @@ pub record IsFront {A : Type 0} (before after : List A) : Type 0 where
 -- a member has this number: it was there already, or it is the last one now
 abbrev pub Numbered : {A : Type 0} → List A → List A → A → ℕ → Type 0
 Numbered before after x at = ((slice_get before at ≡ Some x) × (after ≡ before)) ⊎ ((at ≡ length before) × (after ≡ before ++ x ∷ []))
+
+-- different places of a list have different members
+abbrev pub AreApart : {A : Type 0} → List A → Type 0
+AreApart {A} xs = (j k : ℕ) → (x : A) → slice_get xs j ≡ Some x → slice_get xs k ≡ Some x → j ≡ k
+
+-- members that are apart, with the digest of each by its number
+pub record IsIndexed {A : Type 0} (digest : A → ℕ) (members : List A) (digests : List ℕ) : Type 0 where
+  pub apart : AreApart members
+  pub told : digests ≡ map digest members
 
 -- lists, and those that links add: each is an earlier list and a word behind it
 abbrev pub with_links : List (List ℕ) → List Link → List (List ℕ)
@@ -61,11 +71,14 @@ pub record AreIn (pools : Pools) (numbers : Numbers) : Type 0 where
   pub memory : numbers.memory < length pools.memories.items
   pub seat : numbers.seat < length pools.seats.items
 
--- each list is one that is there, and each memory has all lines
+-- each list is one that is there, each memory has all lines, and no member is there twice
 pub record ArePools (parts : Parts) (pools : Pools) : Type 0 where
   pub lists : (k : ℕ) → (seat : Seat) → slice_get pools.seats.items k ≡ Some seat → seat.list < suc (length pools.links.items)
   pub back : (k : ℕ) → (link : Link) → slice_get pools.links.items k ≡ Some link → link.before < suc k
   pub sizes : (k : ℕ) → (memory : List Line) → slice_get pools.memories.items k ≡ Some memory → length memory ≡ line_count parts
+  pub seats : IsIndexed seat_digest pools.seats.items pools.by_seat
+  pub links : IsIndexed link_digest pools.links.items pools.by_link
+  pub memories : IsIndexed memory_digest pools.memories.items pools.by_memory
 
 -- what was there has its number still
 pub record PoolsGrow (before after : Pools) : Type 0 where

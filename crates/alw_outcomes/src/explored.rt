@@ -1,4 +1,4 @@
-ghost use Rattle.std.specs.Prelude.{◌≡◌, ◌<◌, ◌≤◌, ◌+◌, ◌*◌, ◌++◌, ◌∷◌, [], length, map, take, drop, replicate, slice_get, slice_set, slice_index_or, ℕ, Some, true, false, max, IfOk, IfSome, OnOk, IsTrue};
+ghost use Rattle.std.specs.Prelude.{◌≡◌, ◌<◌, ◌≤◌, ◌+◌, ◌*◌, ◌++◌, ◌∷◌, ◌↔◌, [], length, map, take, drop, replicate, slice_get, slice_set, slice_index_or, ℕ, Some, true, false, max, IfOk, IfSome, IfNone, OnOk, IsTrue};
 ghost use Rattle.std.specs.List.{range_with_len};
 ghost use Rattle.alw_image.specs.Images.{line_count, context_count};
 ghost use Rattle.alw_model.specs.Flat.{context_start};
@@ -6,17 +6,19 @@ ghost use Rattle.alw_model.specs.Contexts.{status_start};
 ghost use Rattle.alw_outcomes.specs.Places.{place_start};
 ghost use Rattle.alw_outcomes.specs.Outcomes.{HasEvery, all_halted};
 ghost use Rattle.alw_outcomes.specs.Threads.{thread_at, with_thread};
-ghost use Rattle.alw_outcomes.specs.Pools.{context_of, no_seat, thread_in, AreIn};
+ghost use Rattle.alw_outcomes.specs.Pools.{context_of, no_seat, thread_in, AreIn, IsIndexed};
+ghost use Rattle.alw_outcomes.specs.Digests.{seat_digest, row_digest};
 ghost use Rattle.alw_msg.specs.Statuses.{is_halted};
 ghost use Rattle.alw_outcomes.specs.Leads.{IsLead};
-ghost use Rattle.alw_outcomes.specs.Explored.{found_in, place_in, places_in, row_in, endings_in, halted_in, IsStored, IsRow, AreAtStart, IsReal, IsClosed, LeadsTo, Adds, GoesTo, IsAlone, HasTurn, TellsHalt, HasFull, HasExpanded};
+ghost use Rattle.alw_outcomes.specs.Explored.{found_in, place_in, places_in, row_in, rows_in, digest_in, endings_in, halted_in, IsStored, IsRow, AreAtStart, IsReal, IsClosed, LeadsTo, Adds, GoesTo, IsAlone, HasTurn, TellsHalt, HasFull, HasExpanded, PlacesAreDifferent};
 
 use crate::classes::{Broken, Class};
+use crate::digests::{mixed, mixed_all};
 use crate::leads::{Lead, lead_of};
 use crate::pooled::number_in;
 use crate::pools::{Numbers, Pools, Seat};
 use crate::remembered::{Known, Remembered};
-use crate::tables::{Slot, Table, mixed};
+use crate::tables::Table;
 use crate::turns::{contexts_of, lines_of};
 use alw_flat::Memory;
 use alw_image::Image;
@@ -78,6 +80,7 @@ pub(crate) fn explore_by(
     ensures hint { IfOk result (λ found. found.classes.items ≡ classes.now) }
     ensures stopped { IfOk result (λ found. found.is_complete ≡ false → length found.broken.items ≡ 0 → most ≤ length found.memories.items) }
     ensures few { IfOk result (λ found. length found.memories.items ≤ max most 1) }
+    ensures different { IfOk result (λ found. PlacesAreDifferent (found_in found)) }
 {
     let mut found = start(alloc, image, classes)?;
     let is_complete = expand_all(image, &mut found, most)?;
@@ -156,7 +159,9 @@ fn start(alloc: Global, image: &Image, classes: &[Class]) -> Result<Explored, No
     let mut pools = Pools::empty(alloc);
     let memory = Memory::start(alloc, image, lines_of(image))?;
     let number = number_in(&mut pools.memories, &mut pools.by_memory, memory)?;
-    let rows = seats_at_start(alloc, image, &mut pools)?;
+    let rows = seats_at_start(alloc, image, &mut pools.seats, &mut pools.by_seat)?;
+    let mut by_row = Table::empty(alloc);
+    by_row.add(digest_of(number, &rows))?;
     let mut memories = Vec::new(alloc);
     memories.push(number)?;
     let mut origins = Vec::new(alloc);
@@ -172,7 +177,7 @@ fn start(alloc: Global, image: &Image, classes: &[Class]) -> Result<Explored, No
         leads: Remembered::empty(alloc),
         memories,
         rows,
-        by_row: Table::empty(alloc),
+        by_row,
         origins,
         halted: Vec::new(alloc),
         trapped: Vec::new(alloc),
@@ -182,17 +187,22 @@ fn start(alloc: Global, image: &Image, classes: &[Class]) -> Result<Explored, No
 }
 
 // The numbers of all contexts of an image, at the start.
-fn seats_at_start(alloc: Global, image: &Image, pools: &mut Pools) -> Result<Vec<u32>, NoMemory>
-    requires seats { pools.old.seats.items ≡ [] }
-    ensures seats { IfOk result (λ rows. AreAtStart image.now pools.new.seats.items rows.items (context_count image.now)) }
-    ensures links { OnOk result (pools.new.links.items ≡ pools.old.links.items) }
-    ensures memories { OnOk result (pools.new.memories.items ≡ pools.old.memories.items) }
+fn seats_at_start(
+    alloc: Global,
+    image: &Image,
+    seats: &mut Vec<Seat>,
+    table: &mut Table,
+) -> Result<Vec<u32>, NoMemory>
+    requires none { seats.old.items ≡ [] }
+    requires indexed { IsIndexed seat_digest seats.old.items table.old }
+    ensures seats { IfOk result (λ rows. AreAtStart image.now seats.new.items rows.items (context_count image.now)) }
+    ensures indexed { OnOk result (IsIndexed seat_digest seats.new.items table.new) }
 {
     let count = contexts_of(image);
     let mut rows = Vec::new(alloc);
     for number in 0..count {
         let seat = seat_at_start(image, number, count);
-        let at = number_in(&mut pools.seats, &mut pools.by_seat, seat)?;
+        let at = number_in(seats, table, seat)?;
         rows.push(at)?;
     }
     Ok(rows)
@@ -509,7 +519,7 @@ fn add(
     if found.memories.len() >= most as usize {
         return Ok(false);
     }
-    found.by_row.add(digest, found.memories.len() as u32)?;
+    found.by_row.add(digest)?;
     found.memories.push(to.memory)?;
     found.rows.extend_from_slice(&row)?;
     found.origins.push(Origin {
@@ -520,7 +530,7 @@ fn add(
     Ok(true)
 }
 
-// The number of the place at which a context's turns from another lead, if the table tells one.
+// The number of the place at which a context's turns from another lead, if it is kept.
 pub(crate) fn number_of(
     image: &Image,
     found: &Explored,
@@ -552,48 +562,45 @@ fn changed_row(found: &Explored, at: u32, context: u32, seat: u32) -> Result<Vec
     Ok(row)
 }
 
-// The number of the place with this memory and these contexts, if the table tells one.
+// The number of the place with this memory and these contexts, if it is kept.
 fn find_row(found: &Explored, memory: u32, row: &[u32], digest: u32) -> Option<u32>
     requires rows { length found.now.rows.items ≡ length found.now.memories.items * found.now.width }
-    ensures { IfSome result (λ at. IsRow found.now at memory row.now) }
+    requires indexed { IsIndexed digest_in (rows_in found.now) found.now.by_row }
+    requires digest { digest ≡ row_digest memory row.now }
+    ensures some { IfSome result (λ at. IsRow found.now at memory row.now) }
+    ensures none { IfNone result ((at : ℕ) → IsRow found.now at memory row.now → ⊥) }
 {
-    for behind in 0..found.by_row.len() {
-        match found.by_row.slot(digest, behind) {
-            Slot::Free => return None,
-            Slot::Number(at) => {
-                if is_row(found, at, memory, row) {
-                    return Some(at);
-                }
-            }
-            Slot::Other => {}
+    let mut rest = found.by_row.last(digest);
+    while rest != 0 {
+        let at = rest - 1;
+        if is_row(found, at, memory, row) {
+            return Some(at);
         }
+        rest = found.by_row.before(digest, at);
     }
     None
 }
 
 // The place with this number has this memory and these contexts.
 fn is_row(found: &Explored, at: u32, memory: u32, row: &[u32]) -> bool
+    requires at { at < length found.now.memories.items }
     requires rows { length found.now.rows.items ≡ length found.now.memories.items * found.now.width }
-    ensures { IsTrue result → IsRow found.now at memory row.now }
+    ensures { IsTrue result ↔ IsRow found.now at memory row.now }
 {
-    if at as usize >= found.memories.len() {
-        return false;
-    }
     found.memories[at as usize] == memory && same_row(row_of(&found.rows, found.width, at), row)
 }
 
 // Both rows are the same.
 fn same_row(one: &[u32], other: &[u32]) -> bool
-    ensures { IsTrue result → one.now ≡ other.now }
+    ensures { IsTrue result ↔ (one.now ≡ other.now) }
 {
     one == other
 }
 
 // A number that is the same for the same memory and contexts.
-fn digest_of(memory: u32, row: &[u32]) -> u32 {
-    let mut digest = mixed(7, memory);
-    for seat in row {
-        digest = mixed(digest, *seat);
-    }
-    digest
+#[tactic(auto, unfolding(crate::specs::Digests::row_digest))]
+fn digest_of(memory: u32, row: &[u32]) -> u32
+    ensures { result ≡ row_digest memory row.now }
+{
+    mixed_all(mixed(7, memory), row)
 }

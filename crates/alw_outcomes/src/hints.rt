@@ -1,6 +1,6 @@
 ghost use Rattle.std.specs.Prelude.{◌≡◌, ◌≤◌, length, false, max, IfOk, IfNone, IsTrue};
 ghost use Rattle.alw_outcomes.specs.Outcomes.{HasEvery};
-ghost use Rattle.alw_outcomes.specs.Explored.{found_in, endings_in, IsStored, IsReal, IsClosed};
+ghost use Rattle.alw_outcomes.specs.Explored.{found_in, endings_in, IsStored, IsReal, IsClosed, PlacesAreDifferent};
 
 use crate::classes::{Broken, Class, class_at};
 use crate::explored::{Explored, explore_by};
@@ -19,6 +19,7 @@ pub fn explore(alloc: Global, image: &Image, most: u32) -> Result<Explored, NoMe
     ensures complete { IfOk result (λ found. IsTrue found.is_complete → HasEvery image.now (endings_in (found_in found))) }
     ensures stopped { IfOk result (λ found. found.is_complete ≡ false → most ≤ length found.memories.items) }
     ensures few { IfOk result (λ found. length found.memories.items ≤ max most 1) }
+    ensures different { IfOk result (λ found. PlacesAreDifferent (found_in found)) }
 {
     let lines = lines_of(image);
     let mut classes = vec![in alloc; Class::Fixed; lines as usize]?;

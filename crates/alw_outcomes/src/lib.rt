@@ -2,6 +2,7 @@
 #![tactic(auto)]
 
 mod classes;
+mod digests;
 mod endings;
 mod explored;
 mod hints;

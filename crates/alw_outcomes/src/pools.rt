@@ -1,13 +1,15 @@
-ghost use Rattle.std.specs.Prelude.{◌≡◌, ◌<◌, ◌++◌, ◌∷◌, ◌-◌, ◌^◌, [], suc, ℕ, length, slice_get, slice_set, slice_index_or, Some, IfOk, IfSome, OnOk, IsTrue};
+ghost use Rattle.std.specs.Prelude.{◌≡◌, ◌<◌, ◌++◌, ◌∷◌, ◌-◌, ◌^◌, ◌↔◌, [], suc, ℕ, length, slice_get, slice_set, slice_index_or, Some, IfOk, IfSome, OnOk, IsTrue};
 ghost use Rattle.alw_image.specs.Images.{line_count};
 ghost use Rattle.alw_msg.specs.Statuses.{is_ready, is_halted};
 ghost use Rattle.alw_outcomes.specs.Places.{to_go};
+ghost use Rattle.alw_outcomes.specs.Digests.{seat_digest, link_digest, memory_digest};
 ghost use Rattle.alw_outcomes.specs.Effects.{written};
 ghost use Rattle.alw_outcomes.specs.Threads.{effect_in, thread_turn, words_after};
-ghost use Rattle.alw_outcomes.specs.Pools.{Numbered, IsFront, LinksGoOn, HasWords, lists_of, thread_in, memory_in, seat_in, AreIn, ArePools, GoOn};
+ghost use Rattle.alw_outcomes.specs.Pools.{Numbered, IsFront, LinksGoOn, HasWords, lists_of, thread_in, memory_in, seat_in, AreIn, ArePools, GoOn, IsIndexed};
 
+use crate::digests::{mixed, of_lines, weighed};
 use crate::pooled::{Pooled, number_in};
-use crate::tables::{Table, mixed};
+use crate::tables::Table;
 use crate::turns::{left_by, run};
 use alw_flat::Memory;
 use alw_image::Image;
@@ -79,54 +81,49 @@ impl Seat {
 }
 
 impl Pooled for Seat {
+    ghost digest_of = { seat_digest };
+
     fn is_same(&self, other: &Seat) -> bool {
-        same_regs(&self.regs, &other.regs)
-            && same_status(&self.status, &other.status)
-            && self.list == other.list
+        same_seat(self, other)
     }
 
+    #[tactic(auto, unfolding(crate::specs::Digests::seat_digest))]
     fn digest(&self) -> u32 {
-        let mut digest = mixed(mixed(self.regs.pc, self.regs.npc), self.list);
-        let mut factor = 0x9e37_79b1_u32;
-        for word in &self.regs.r {
-            digest = digest.wrapping_add(word.wrapping_mul(factor));
-            factor = factor.wrapping_add(0x85eb_ca6a);
-        }
-        mixed(digest, self.regs.y)
+        let digest = mixed(mixed(self.regs.pc, self.regs.npc), self.list);
+        mixed(weighed(digest, &self.regs.r), self.regs.y)
     }
 }
 
 impl Pooled for Link {
+    ghost digest_of = { link_digest };
+
     fn is_same(&self, other: &Link) -> bool {
         self.before == other.before && self.word == other.word
     }
 
+    #[tactic(auto, unfolding(crate::specs::Digests::link_digest))]
     fn digest(&self) -> u32 {
         mixed(mixed(1, self.before), self.word)
     }
 }
 
 impl Pooled for Memory {
+    ghost digest_of = { memory_digest };
+
     fn is_same(&self, other: &Memory) -> bool {
         same_lines(self.values(), other.values())
     }
 
     fn digest(&self) -> u32 {
-        let mut digest = 1_u32;
-        let mut factor = 0x9e37_79b1_u32;
-        for line in self.values() {
-            let words = mixed(mixed(mixed(line.a, line.b), line.c), line.d);
-            digest = digest.wrapping_add(words.wrapping_mul(factor));
-            factor = factor.wrapping_add(0x85eb_ca6a);
-        }
-        mixed(digest, 0)
+        of_lines(self.values())
     }
 }
 
 impl Pools {
     /// Pools of nothing but the empty list.
     pub fn empty(alloc: Global) -> Pools
-        ensures { (result.seats.items ≡ []) × (result.links.items ≡ []) × (result.memories.items ≡ []) }
+        ensures lists { (result.seats.items ≡ []) × (result.links.items ≡ []) × (result.memories.items ≡ []) }
+        ensures tables { (result.by_seat ≡ []) × (result.by_link ≡ []) × (result.by_memory ≡ []) }
     {
         Pools {
             seats: Vec::new(alloc),
@@ -184,8 +181,10 @@ fn list_after(
 ) -> Result<u32, NoMemory>
     requires list { list < suc (length links.old.items) }
     requires back { (k : ℕ) → (link : Link) → slice_get links.old.items k ≡ Some link → link.before < suc k }
+    requires indexed { IsIndexed link_digest links.old.items table.old }
     ensures links { OnOk result (LinksGoOn links.old.items links.new.items) }
     ensures words { IfOk result (λ after. HasWords links.new.items after (words_after (slice_index_or (lists_of links.old.items) list []) outcome)) }
+    ensures indexed { OnOk result (IsIndexed link_digest links.new.items table.new) }
 {
     match outcome {
         Outcome::Out { word } => {
@@ -206,7 +205,9 @@ fn memory_after(
 ) -> Result<u32, NoMemory>
     requires memory { memory < length memories.old.items }
     requires line { IfSome wrote (λ wrote. wrote.0.0 < length (slice_index_or memories.old.items memory [])) }
-    ensures { IfOk result (λ after. Numbered memories.old.items memories.new.items (written (slice_index_or memories.old.items memory []) wrote) after) }
+    requires indexed { IsIndexed memory_digest memories.old.items table.old }
+    ensures memory { IfOk result (λ after. Numbered memories.old.items memories.new.items (written (slice_index_or memories.old.items memory []) wrote) after) }
+    ensures indexed { OnOk result (IsIndexed memory_digest memories.new.items table.new) }
 {
     match wrote {
         Some((line, value)) => {
@@ -219,23 +220,32 @@ fn memory_after(
     }
 }
 
+// Both contexts, with the numbers of what they have printed, are the same.
+fn same_seat(one: &Seat, other: &Seat) -> bool
+    ensures { IsTrue result ↔ (one.now ≡ other.now) }
+{
+    same_regs(&one.regs, &other.regs)
+        && same_status(&one.status, &other.status)
+        && one.list == other.list
+}
+
 // Both registers are the same.
 fn same_regs(one: &Regs, other: &Regs) -> bool
-    ensures { IsTrue result → one.now ≡ other.now }
+    ensures { IsTrue result ↔ (one.now ≡ other.now) }
 {
     *one == *other
 }
 
 // Both do the same.
 fn same_status(one: &Status, other: &Status) -> bool
-    ensures { IsTrue result → one.now ≡ other.now }
+    ensures { IsTrue result ↔ (one.now ≡ other.now) }
 {
     *one == *other
 }
 
 // Both lists of lines are the same.
 fn same_lines(one: &[Line], other: &[Line]) -> bool
-    ensures { IsTrue result → one.now ≡ other.now }
+    ensures { IsTrue result ↔ (one.now ≡ other.now) }
 {
     if one.len() != other.len() {
         return false;

@@ -1,9 +1,9 @@
 ghost use Rattle.std.specs.Prelude.{◌≡◌, ◌⊎◌, ℕ, slice_get, Some, IfSome, OnOk, IsTrue};
 ghost use Rattle.alw_outcomes.specs.Remembered.{IsKnown, NotesOne, NotesSome, KeepsSome};
 
+use crate::digests::mixed;
 use crate::leads::Lead;
 use crate::pools::Numbers;
-use crate::tables::mixed;
 use alw_num::NoMemory;
 use std::alloc::Global;
 

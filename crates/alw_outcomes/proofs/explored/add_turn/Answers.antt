@@ -45,4 +45,5 @@ returns-in_ok-push-in-Breaks-clause-stored c =
       pools = before.pools;
       leads = before.leads;
       breaks = λ _. record { context = c.args.context; need = _; broken = (rw c.in-Breaks.is at c.in_ok-lead.ensures.lead).1 };
+      indexed = before.indexed;
     }

@@ -12,7 +12,7 @@ returns-in-Some-clause-lead c =
 pub returns-clause-stored : goal.returns-clause-stored
 returns-clause-stored c =
     known_stored c.args.image.now c.args.found.now (record { width = c.args.found.now.width; classes = c.args.found.now.classes; pools = c.lead_of.new.pools; leads = c.note.new.self; memories = c.args.found.now.memories; rows = c.args.found.now.rows; by_row = c.args.found.now.by_row; origins = c.args.found.now.origins; halted = c.args.found.now.halted; trapped = c.args.found.now.trapped; broken = c.args.found.now.broken; is_complete = c.args.found.now.is_complete })
-    (record { at = c.numbers_at-here.result; context = c.args.context; lead = c.in_ok-lead.lead }) c.requires.stored c.in_ok-lead.ensures.grow refl refl refl refl refl
+    (record { at = c.numbers_at-here.result; context = c.args.context; lead = c.in_ok-lead.lead }) c.requires.stored c.in_ok-lead.ensures.grow refl refl refl refl refl refl
     c.numbers_at-here.ensures.inside (rw c.deref.ensures.value at c.in_ok-lead.ensures.lead) c.in_ok-note.ensures
 
 pub returns-clause-same : goal.returns-clause-same
