@@ -36,7 +36,7 @@ ending_of_traps (trap ∷ rest) ends = MayTrap
 abbrev pub ending_of_outcomes : Outcomes → Ending
 ending_of_outcomes told = ending_of_traps told.traps (told.is_complete && is_never_stuck told.stuck)
 
--- the bytes are an image, and the text tells what it can come to, by a search that stops only where it keeps so many places
+-- the bytes are an image, and the text tells what it can come to, by a search that stops only where it keeps so many different places
 pub record Searches (most : ℕ) (bytes : List ℕ) (output : Output) : Type 0 where
   pub accepted : image_fault bytes ≡ None
   pub spelled : bytes ≡ spelling (image_in bytes)

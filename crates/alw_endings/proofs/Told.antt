@@ -10,7 +10,7 @@ use Rattle.alw_msg.specs.Stretches.{stretches, turns_in}
 use Rattle.alw_msg.proofs.StretchLaws.{same_turns}
 use Rattle.alw_outcomes.specs.Places.{Place}
 use Rattle.alw_outcomes.specs.Outcomes.{Ending, Traps, EndsIn, HasEvery, all_halted}
-use Rattle.alw_outcomes.specs.Explored.{Found, found_in, places_in, place_in, no_place, halt_of, trap_of, endings_in, IsStored, IsReal, IsHalted, IsTrapping, LeadsTo}
+use Rattle.alw_outcomes.specs.Explored.{Found, found_in, places_in, place_in, no_place, halt_of, trap_of, endings_in, IsStored, IsReal, IsHalted, IsTrapping, LeadsTo, PlacesAreDifferent}
 use Rattle.alw_outcomes.specs.Pools.{place_of}
 use Rattle.alw_outcomes.specs.Endings.{halt_at, ending_cmp, told_in, AreDifferent}
 use Rattle.alw_outcomes.specs.Stuck.{CanEnd, IsStuckAt}
@@ -132,10 +132,11 @@ stuck_there parts found at turns runs stuck leads are = record {
 }
 
 -- the places that are kept, and turns to each
-pub keeps_places : (parts : Parts) (found : Found) (count : ℕ) → IsReal parts found → length found.places ≡ count → KeepsPlaces parts count
-keeps_places parts found count real counted = record {
+pub keeps_places : (parts : Parts) (found : Found) (count : ℕ) → IsReal parts found → PlacesAreDifferent found → length found.places ≡ count → KeepsPlaces parts count
+keeps_places parts found count real different counted = record {
   places = found.places;
   counted = counted;
+  different = different;
   reached = λ at place there. let led = each_reached parts found real at place there in
       record { turns = led.0; run = led.1.run; there = led.1.after ∙ same_member found.places at led.1.place place led.1.there there };
 }

@@ -1,5 +1,5 @@
 -- What a value of endings tells of an image: ends that turns on one memory come to, each with turns that lead there.
-use Rattle.std.specs.Prelude.{◌≡◌, ℕ, true, Some, List, [], ◌∷◌, ◌++◌, length, map, slice_get, slice_index_or, ⊤}
+use Rattle.std.specs.Prelude.{◌≡◌, ℕ, ◌<◌, true, Some, List, [], ◌∷◌, ◌++◌, length, map, slice_get, slice_index_or, ⊤}
 use Rattle.std.specs.List.{flat_map, range_with_len, AllByRecursion}
 use Rattle.std.specs.List.Sorted.{IsStrictlySortedBy}
 use Rattle.alw_msg.specs.Stretches.{stretches, turns_in}
@@ -8,7 +8,7 @@ use Rattle.alw_image.specs.Images.{line_count, context_count, zero_line}
 use Rattle.alw_model.specs.Counts.{listed_words}
 use Rattle.alw_outcomes.specs.Places.{Place, place_start, places_after, IsRun}
 use Rattle.alw_outcomes.specs.Outcomes.{Ending, Traps, EndsIn, HasEvery, all_halted}
-use Rattle.alw_outcomes.specs.Explored.{halt_of}
+use Rattle.alw_outcomes.specs.Explored.{no_place, halt_of}
 use Rattle.alw_outcomes.specs.Endings.{ending_cmp}
 use Rattle.alw_outcomes.specs.Stuck.{CanEnd, CanAlwaysEnd}
 use Rattle.alw_endings.specs.declared.values.Outcomes.{Outcomes}
@@ -91,10 +91,11 @@ pub record IsReached (parts : Parts) (place : Place) : Type 0 where
   pub run : IsRun parts (place_start parts) turns
   pub there : place_by parts turns ≡ place
 
--- so many places are kept, and turns lead to each
+-- so many different places are kept, and turns lead to each
 pub record KeepsPlaces (parts : Parts) (count : ℕ) : Type 0 where
   pub places : List Place
   pub counted : length places ≡ count
+  pub different : (one two : ℕ) → one < length places → two < length places → slice_index_or places one no_place ≡ slice_index_or places two no_place → one ≡ two
   pub reached : (at : ℕ) → (place : Place) → slice_get places at ≡ Some place → IsReached parts place
 
 -- nothing is told that can't be, each once and in order; and where the search is complete, nothing is left out
