@@ -30,6 +30,8 @@ ZSH = ROOT / 'docs' / 'completions' / '_alewife'
 TABLE = ROOT / 'tools' / 'words.json'
 
 MOST_LISTED = 16
+# The greatest cost in cycles.
+MOST_COST = 2**16 - 1
 GREATEST = {'u64::MAX': 2**64 - 1, 'u32::MAX': 2**32 - 1}
 FORMS = {'AsmForm': 'ASM_FORMS', 'AuditForm': 'AUDIT_FORMS', 'TimeForm': 'TIME_FORMS', 'Form': 'FORMS'}
 
@@ -86,10 +88,10 @@ PHRASES = {
     'schedule': {'--pointers': 'hardware pointers of a directory entry', '--sets': "sets of a node's cache",
                  '--limit': 'the greatest stamp of an event before all contexts have halted'},
     'time': {'--seed': 'the number that the waits after a BUSY are drawn from', '--hit': 'cycles of an instruction',
-             '--switch': 'more, where another slot runs than the last', '--hop': 'cycles of a message for each column and row of its way',
+             '--switch': 'more, where another slot runs than the last', '--hop': 'cycles of a message for each wire of its route',
              '--send': 'cycles that a message holds its port', '--data': 'more, with a line', '--home': 'cycles of a delivery to memory',
-             '--fill': 'cycles of a delivery to a cache', '--trap': 'cycles of the handler before it acts',
-             '--inv': 'more, for each message behind the first', '--retry': 'the bound of the waits after a BUSY', '--write': FORM},
+             '--fill': 'cycles of a delivery to a cache, or of an eviction', '--trap': 'cycles of the handler before it acts',
+             '--inv': 'more, for each message that it sends behind the first', '--retry': 'the bound below which a wait after a BUSY is drawn', '--write': FORM},
     'dis': {},
 }
 OWN = {
@@ -418,13 +420,20 @@ def option_cell(options):
     return f'{names[:-1]} {"` or `".join(options[-1].names)}`' if len(options[-1].names) == 2 else names
 
 
+def option_cells(options):
+    """The options of a command, for a table, by the choices that they make. Of costs the first and the last stand for all."""
+    costs = [option for option in options if option.last == MOST_COST]
+    for choice in dict.fromkeys(option.choice for option in options if option not in costs[1:]):
+        alike = [option for option in options if option.choice == choice]
+        yield f'`{costs[0].name}` to `{costs[-1].name}`' if alike == costs[:1] else option_cell(alike)
+
+
 def overview(commands):
     """The rows of README.md's table: what each command reads and writes, and its options."""
     rows = ''
     for name, command in commands.items():
-        alike = {option.choice: [other for other in command.options if other.choice == option.choice] for option in command.options}
         reads = f'{"an" if command.reads[0] in "aeiou" else "a"} {command.reads}' if command.reads else 'nothing'
-        cells = f'`{name}`', reads, command.does.partition(': ')[2], ', '.join(map(option_cell, alike.values()))
+        cells = f'`{name}`', reads, command.does.partition(': ')[2], ', '.join(option_cells(command.options))
         rows += f'| {" | ".join(cells).rstrip()} |\n'
     return rows
 
