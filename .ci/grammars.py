@@ -37,7 +37,7 @@ def unnamed(rules):
     return {part for form in rules.values() for part in PART.findall(form) if part[0].isalpha()} - set(rules) - set(GIVEN)
 
 
-HEADING = re.compile(r'^(image|entries|runs|prints|memory|directory|events|contexts|state|links) (\d+)\n', re.M)
+HEADING = re.compile(r'^(image|entries|runs|prints|memory|directory|events|contexts|state|links|waits|nodes) (\d+)\n', re.M)
 BEHIND = re.compile(r'^(?:params .*|ended .*|end)\n', re.M)
 
 

@@ -425,7 +425,7 @@ def option_cells(options):
     costs = [option for option in options if option.last == MOST_COST]
     for choice in dict.fromkeys(option.choice for option in options if option not in costs[1:]):
         alike = [option for option in options if option.choice == choice]
-        yield f'`{costs[0].name}` to `{costs[-1].name}`' if alike == costs[:1] else option_cell(alike)
+        yield f'costs `{costs[0].name}` to `{costs[-1].name}`' if alike == costs[:1] else option_cell(alike)
 
 
 def overview(commands):
