@@ -2,7 +2,7 @@
 import traps
 from again import LINE_BYTES, SHARED
 from frames import ViewError
-from statements import cross, reached_by
+from statements import reached_by, told_standing
 
 WAYS = {'ready': 'ready', 'wait': 'waits for line', 'hold': 'has just got line', 'trapped': 'trapped with tt', 'halted': 'halted'}
 HELP = '''monitor stamp [N]        where the run is; or goes to a stamp, of which GDB learns by `maintenance flush register-cache`
@@ -50,18 +50,10 @@ def told_way(session, start, stop, going):
         lines = [told_event(session, stop.event)] if stop.event in seen and stop.place > stop.event else []
     if stop.reason == 'replaylog:end;':
         lines.append(f'{f"the run has ended: {run.ended}" if run.ended else "the trace stops here"}, at stamp {run.stamp(run.end)}')
-        lines += told_standing(session) if run.ended == 'limit' else []
+        lines += told_standing(session.code, map(run.state(run.end).context, range(session.count()))) if run.ended == 'limit' else []
     if stop.reason == 'replaylog:begin;':
         lines.append('the run begins here')
     return lines
-
-
-def told_standing(session):
-    """Where contexts stand that haven't halted at the end, of a program of which places are known."""
-    contexts = map(session.run.state(session.run.end).context, range(session.count()))
-    going = {context.number: context.pc for context in contexts if context.status != 'halted'}
-    shown = session.code.shown(sorted(set(going.values())))
-    return cross.told_standing({number: shown.get(pc, ('', f'0x{pc:08x}'))[1] for number, pc in going.items()}) if shown else ()
 
 
 # ---- the answers of monitor

@@ -282,3 +282,10 @@ def told_event(code, state, event, contexts):
         yield from told_instruction(code, context, f'context {context.number} {WAYS[way]}{of and f" {of}"}')
     if len(others) > MOST_TOLD:
         yield f'  and {len(others) - MOST_TOLD} more contexts'
+
+
+def told_standing(code, contexts):
+    """Where contexts stand that haven't halted, of code of which places are known: a line for each place, those of most contexts first."""
+    going = {context.number: context.pc for context in contexts if context.status != 'halted'}
+    shown = code.shown(sorted(set(going.values())))
+    return cross.told_standing({number: shown.get(pc, ('', f'0x{pc:08x}'))[1] for number, pc in going.items()}) if shown else ()
