@@ -10,96 +10,13 @@ import logs
 import misses
 from alewife import image_of, run_of
 from frames import Program, ViewError
-from statements import context_of
+from saved import LINE_BYTES, State
 
-LINE_BYTES = 16
 SHARED = 0x40000000
-KEPT_STATES = 64
+KEPT_STATES, KEPT_LINES = 64, 4096
 NOTED, TOLD_EVERY = 4096, 0.5
-TO_MEMORY, TO_CACHE = ('REPM', 'UPDATE'), ('WDATA',)
-NO_WORDS = ('0x00000000',) * 4
 TURN = re.compile(r'\d+ I (\d+) slot (\d) pc (0x[0-9a-f]{8}) ')
 ACCESS = re.compile(r' (reads|writes) (0x[0-9a-f]{8}) ([124]) ')
-
-
-# ---- a state
-
-
-@dataclass(frozen=True)
-class Message:
-    """A message: where it is ('link', or 'packet' where it waits for the handler of its home), whom it goes to, and its kind, line and sender."""
-    where: str
-    to: int
-    kind: str
-    line: int
-    sender: int
-    stamp: int
-    words: tuple
-
-
-@dataclass(frozen=True)
-class Copy:
-    """A copy in a cache: its node, its line, its mode and its words."""
-    node: int
-    line: int
-    mode: str
-    words: tuple
-
-
-@dataclass
-class State:
-    """A state: the lines of contexts, the copies, the texts of entries and the words in memory by line, what nodes ask for as (node, line, mode),
-    messages, and the bytes of lines that were asked for."""
-    contexts: list = field(default_factory=list)
-    copies: list = field(default_factory=list)
-    entries: dict = field(default_factory=dict)
-    memory: dict = field(default_factory=dict)
-    asked: list = field(default_factory=list)
-    messages: list = field(default_factory=list)
-    known: dict = field(default_factory=dict)
-
-    def context(self, number):
-        """A context."""
-        return context_of(self.contexts[number])
-
-    def value(self, line, bodies):
-        """The current words of a line: those of its one carrier, or else the home's. Bodies are those of the start."""
-        carried = [copy.words for copy in self.copies if copy.line == line and copy.mode == 'write']
-        carried += [message.words for message in self.messages if message.line == line and message.kind in TO_MEMORY + TO_CACHE]
-        return carried[0] if len(carried) == 1 else self.memory.get(line) or bodies.get(line, NO_WORDS)
-
-    def bytes_of(self, line, bodies):
-        """The current bytes of a line."""
-        if line not in self.known:
-            self.known[line] = bytes.fromhex(''.join(word[2:] for word in self.value(line, bodies)))
-        return self.known[line]
-
-
-def message_of(where, to, words):
-    """The message that words of a state spell."""
-    return Message(where, to, words[0], int(words[1]), int(words[2]), int(words[3]), tuple(words[4:]))
-
-
-def state_of(lines):
-    """The state of lines that the program saved."""
-    state, node = State(), 0
-    for line in lines:
-        words = line.split()
-        if words[0] == 'context':
-            state.contexts.append(line)
-        elif words[0] == 'node':
-            node = int(words[1])
-        elif words[0] == 'cache':
-            state.copies.append(Copy(node, int(words[2]), words[3], tuple(words[4:])))
-        elif words[0] == 'home':
-            state.entries[int(words[1])], state.memory[int(words[1])] = ' '.join(words[2:-4]), tuple(words[-4:])
-        elif words[0] == 'pending':
-            state.asked.append((node, int(words[1]), words[2]))
-        elif words[0] == 'packet':
-            state.messages.append(message_of('packet', node, words[1:]))
-        else:
-            state.messages.append(message_of('link', int(words[2]), words[3:]))
-    return state
 
 
 # ---- what happens where
@@ -194,10 +111,8 @@ class Again:
         if b'\nentries ' not in trace:
             self.program.save()
         self.front = trace[:trace.find(b'\nentries ') + 1].decode()
-        self.state = lru_cache(KEPT_STATES)(self.saved)
-        self.state(0)
-        self.image = image_of(run_of([*self.front.split('\n')[1:-1], 'entries 0']).image)
-        self.bodies = {line: tuple(f'0x{body[at:at + 4].hex()}' for at in range(0, LINE_BYTES, 4)) for line, body in self.image.data.items()}
+        self.image = image_of(run_of(self.checkpoint([])[0]).image)
+        self.state, self.bytes_of = lru_cache(KEPT_STATES)(self.saved), lru_cache(KEPT_LINES)(self.line_bytes)
         self.story, self.reasons = None, []
         self.known, self.fault, self.noted = None, None, (0, trace.count(b'\n', len(self.front)) - 2)
         self.reading = threading.Thread(target=self.read, daemon=True)
@@ -249,8 +164,12 @@ class Again:
     def saved(self, place):
         """The state at a place."""
         entries = [entry_of(self.lines[at]) for _, at in sorted(zip(self.log().order[:place], range(place)))] if place else []
-        text = '\n'.join([f'{self.front}entries {place}', *entries, 'end', ''])
-        return state_of(Program(self.program.binary, text.encode()).save()[1])
+        return State(self.image, self.checkpoint(entries)[1])
+
+    def checkpoint(self, entries):
+        """The lines of the checkpoint behind entries of the trace: those of the trace, and those of the state."""
+        text = '\n'.join([f'{self.front}entries {len(entries)}', *entries, 'end', ''])
+        return Program(self.program.binary, text.encode()).save()
 
     def reason(self, place):
         """Why the miss at a place missed, which the events up to there say: they are taken once."""
@@ -269,6 +188,10 @@ class Again:
         """The home of a line."""
         return line // self.image.sizes.lines
 
+    def line_bytes(self, place, line):
+        """The current bytes of a line at a place."""
+        return bytes.fromhex(''.join(word[2:] for word in self.state(place).value(line)))
+
     def byte(self, place, address):
         """The byte at an address, of code or of shared data, or None."""
         if address < len(self.image.code):
@@ -276,7 +199,7 @@ class Again:
         line = self.line_of(address)
         if line is None:
             return None
-        return self.state(place).bytes_of(line, self.bodies)[address % LINE_BYTES]
+        return self.bytes_of(place, line)[address % LINE_BYTES]
 
 
 def stamp_of(line):
@@ -298,8 +221,9 @@ def read_log(program):
         trace, state = program.save()
         text = '\n'.join(['ALEWIFE SAVE 1', *trace, f'state {len(state)}', *state, 'end', ''])
         called = Program(program.binary, text.encode()).call('resume', '--write', 'log')
-        count = sum(map(len, run_of(trace).events.values()))
-        standing = [context.pc for context in map(context_of, state) if context]
+        run = run_of(trace)
+        count = sum(map(len, run.events.values()))
+        standing = [context.pc for context in State(image_of(run.image), state).contexts()]
     status, text, why = called
     if status == 2:
         raise ViewError(f'{program.binary} writes no logs ({why}): name another program')

@@ -8,11 +8,10 @@ import explain
 import logs
 import machine
 from alewife import RAN, WORD, ProgramError, called, checkpoint_of, image_of
+from saved import WORDS
 
 COMPARED = 8
 OF_CLAIM = '. A claim has turns on one memory and no events: audit --write log tells them, and schedule writes the trace of a run that takes them'
-LINE_AT = {'pending': 1, 'cache': 2, 'home': 1, 'packet': 2}
-WORDS = machine.WORDS
 
 
 class ViewError(Exception):

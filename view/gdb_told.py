@@ -50,7 +50,7 @@ def told_way(session, start, stop, going):
         lines = [told_event(session, stop.event)] if stop.event in seen and stop.place > stop.event else []
     if stop.reason == 'replaylog:end;':
         lines.append(f'{f"the run has ended: {run.ended}" if run.ended else "the trace stops here"}, at stamp {run.stamp(run.end)}')
-        lines += told_standing(session.code, map(run.state(run.end).context, range(session.count()))) if run.ended == 'limit' else []
+        lines += told_standing(session.code, run.state(run.end).contexts()) if run.ended == 'limit' else []
     if stop.reason == 'replaylog:begin;':
         lines.append('the run begins here')
     return lines
@@ -63,12 +63,12 @@ def told_message(session, message):
     """A message on its way, or in a queue."""
     name = session.code.name(SHARED + LINE_BYTES * message.line)
     where = 'waits for the trap handler of' if message.where == 'packet' else 'goes to'
-    return f'{message.kind} of line {message.line}{name} from node {message.sender} {where} node {message.to}, sent at stamp {message.stamp}'
+    return f'{message.kind} of line {message.line}{name} from node {message.sender} {where} node {message.receiver}, sent at stamp {message.stamp}'
 
 
 def told_messages(session, words):
     """All messages on their way."""
-    found = session.run.state(session.place).messages
+    found = session.run.state(session.place).messages()
     return [told_message(session, message) for message in found] or ['no message is on its way']
 
 
@@ -99,15 +99,15 @@ def told_line(session, words):
     line = line_named(session, words)
     address = SHARED + LINE_BYTES * line
     yield f'line {line} at 0x{address:08x}{session.code.name(address)}, home node {run.home_of(line)}, at {run.told_place(session.place)}'
-    yield f'  value   {" ".join(state.value(line, run.bodies))}'
-    yield f'  entry   {state.entries.get(line, "RO normal hw - sw - acks 0")}'
+    yield f'  value   {" ".join(state.value(line))}'
+    yield f'  entry   {state.entry(line)}'
     for mode in ('read', 'write'):
-        nodes = [str(copy.node) for copy in state.copies if copy.line == line and copy.mode == mode]
-        asking = [str(node) for node, asked, what in state.asked if asked == line and what == mode]
+        nodes = [str(copy.node) for copy in state.copies(line) if copy.mode == mode]
+        asking = [str(node) for node, what in state.asked(line) if what == mode]
         yield from [f'  copies to {mode} at nodes {", ".join(nodes)}'] if nodes else []
         yield from [f'  asked for to {mode} by nodes {", ".join(asking)}'] if asking else []
-    yield from (f'  {told_message(session, message)}' for message in state.messages if message.line == line)
-    waiting = [str(number) for number in range(session.count()) if state.context(number).status == f'wait {line}']
+    yield from (f'  {told_message(session, message)}' for message in state.messages() if message.line == line)
+    waiting = [str(context.number) for context in state.waiting_for(line)]
     yield from [f'  contexts that wait for it: {", ".join(waiting)}'] if waiting else []
 
 

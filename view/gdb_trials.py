@@ -293,6 +293,16 @@ def traps_on_data_have_addresses(trial):
         expect(line.endswith(f'; TRAPS with tt {told[14:18]}: {told.partition(": ")[2]}'), line)
 
 
+def lines_begin_as_the_image_says(trial):
+    """The debugger says of a line to which nothing has happened whether the image makes it Trap-Always"""
+    source = b'        .mesh 2,1\n        .lines 4\n        .always 1\n        ta 0\n'
+    trial.keep('always.trace', trial.program(['run', '--write', 'trace'], trial.program(['asm'], source)))
+    client = Client(trial, 'always')
+    for line, meta in ((0, 'normal'), (1, 'trap-always')):
+        expect(f'\n  entry   RO {meta} hw - sw - acks 0' in client.monitor(f'line {line}'), client.monitor(f'line {line}'))
+    client.close()
+
+
 def runs_are_only_read(trial):
     """Registers and memory can't be written, what isn't known has no answer, and a damaged packet is asked for again"""
     client = Client(trial, 'lock')
@@ -363,5 +373,5 @@ def transcripts_come_again(trial):
             expect(ran.stdout.rstrip('\n') == wanted.rstrip('\n'), f'{file.name}: {command}: {ran.stdout}')
 
 
-TRIALS = (states_are_shown, steps_are_turns, stops_are_events, breakpoints_lose_nothing, traps_on_data_have_addresses, answers_come_before_the_log,
-          runs_are_only_read, transcripts_come_again)
+TRIALS = (states_are_shown, steps_are_turns, stops_are_events, breakpoints_lose_nothing, traps_on_data_have_addresses, lines_begin_as_the_image_says,
+          answers_come_before_the_log, runs_are_only_read, transcripts_come_again)

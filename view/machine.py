@@ -1,31 +1,22 @@
-"""A machine's state as a checkpoint has it, line by line, and what each event of a log changes of it.
+"""A machine's state as a checkpoint has it, and what each event of a log changes of it.
 
-A line has a key that says what it is about: n3 is node 3, c5 context 5, p3.7 what node 3 asks for line 7, a3.1 the copy in set 1 of node 3,
-h7 the entry of line 7, q3 the packets of node 3, and l0.3 the messages from node 0 to node 3. Behind q and l stand several lines, in order.
-A step is a text: key~place word;.. changes words of a line, key=line is a new line or another one, key- is a line that is gone, key+line one
-more line behind the others, and key< is the first one that is gone. Words of eight hexadecimal digits stand there as x without leading zeros.
-In place of a change > says that a context goes on to its nPC. Of a message on a link there are its kind, its line and its stamp, and its bytes
-where they aren't zero. Clocks and current slots have no steps: an event's stamp is its node's clock, and an instruction's slot the current one.
+Lines have the keys that saved.py gives them. A step is a text: key~place word;.. changes words of a line, key=line is a new line or another one,
+key- is a line that is gone, key+line one more line behind the others, and key< is the first one that is gone. Words of eight hexadecimal digits
+stand there as x without leading zeros. In place of a change > says that a context goes on to its nPC. Of a message on a link there are its kind, its
+line and its stamp, and its bytes where they aren't zero. Clocks and current slots have no steps: an event's stamp is its node's clock, and an
+instruction's slot the current one.
 """
 import re
 
 import codes
+from alewife import WORD
+from saved import BODY, CLOCK, CODES, COPY_BODY, FROM_CACHE, LINE_BYTES, NEXT_PC, PC, QUEUES, REGISTERS, SLOT, STATUS, TO_CACHE, Y, State
 
-WORDS = re.compile(r'(?:hold|wait|trapped) \S+|\S+')
 LONG = re.compile('0x[0-9a-f]{8}')
 DIGITS = re.compile('0x0*([0-9a-f]+)')
-SHARED, LINE, WORD = 0x40000000, 16, 4
+SHARED = 0x40000000
 ZERO = ['0x00000000'] * 4
-KEYS = {'node': 'n{1}', 'context': 'c{1}', 'pending': 'p{node}.{1}', 'cache': 'a{node}.{1}', 'home': 'h{1}', 'packet': 'q{node}', 'link': 'l{1}.{2}'}
-RANKS = 'ncpahql'
-STATUS, PC, NEXT_PC, Y, CODES, REGISTERS = 2, 3, 4, 5, 6, 6
-CLOCK, SLOT = 3, 5
-STATE, BODY = 2, 10
-COPY_BODY = 4
 ANSWERS = {'RDATA', 'WDATA', 'BUSY'}
-TO_CACHE = {'RDATA', 'WDATA'}
-FROM_CACHE = {'REPM', 'UPDATE'}
-QUEUES = 'ql'
 
 
 def spelled(number):
@@ -75,43 +66,15 @@ def register_at(name):
     return REGISTERS + 8 * 'goli'.index(name[1]) + int(name[2])
 
 
-def in_order(keys, contexts, per_node):
-    """Keys in a checkpoint's order, of a machine with so many contexts and home lines a node."""
-    def place(key):
-        """Where a key's lines stand."""
-        numbers = tuple(map(int, key[1:].split('.')))
-        if key[0] == 'l':
-            return 1, *numbers
-        return 0, numbers[0] // {'c': contexts, 'h': per_node}.get(key[0], 1), RANKS.index(key[0]), *numbers
-    return sorted(keys, key=place)
-
-
-class Machine:
-    """A state, from a checkpoint's lines on."""
+class Machine(State):
+    """A state that goes on from event to event."""
 
     def __init__(self, image, sets, lines):
-        width, height, self.contexts, self.per_node = image.sizes
+        super().__init__(image, lines)
         self.code = [int.from_bytes(image.code[at:at + WORD], 'big') for at in range(0, len(image.code), WORD)]
-        self.sets, self.bodies, self.always = sets, image.data, set(image.always)
-        self.lines, self.steps = {}, []
-        node = None
-        for words in map(WORDS.findall, lines):
-            node = words[1] if words[0] == 'node' else node
-            key = KEYS[words[0]].format(*words, node=node)
-            if key[0] in QUEUES:
-                self.lines.setdefault(key, []).append(words)
-            else:
-                self.lines[key] = words
+        self.sets, self.steps = sets, []
 
-    # ---- the text
-
-    def keys(self):
-        """The keys in a checkpoint's order."""
-        return in_order(self.lines, self.contexts, self.per_node)
-
-    def text(self):
-        """The lines as a checkpoint has them."""
-        return [' '.join(words) for key in self.keys() for words in (self.lines[key] if key[0] in QUEUES else [self.lines[key]])]
+    # ---- steps
 
     def begun(self):
         """The steps that lead here from no lines."""
@@ -120,8 +83,6 @@ class Machine:
                 yield from (f'{key}+{line_of(words)}' for words in self.lines[key])
             else:
                 yield f'{key}={line_of(self.lines[key])}'
-
-    # ---- steps
 
     def change(self, key, new):
         """Changes words of a line, given by their places."""
@@ -177,8 +138,7 @@ class Machine:
 
     def turn(self, event, node):
         """An instruction or a miss."""
-        slot = event.number('slot')
-        key = f'c{node * self.contexts + slot}'
+        key = f'c{node * self.image.sizes.contexts + event.number("slot")}'
         if event.said['misses'] is not None:
             return self.miss(event, node, key)
         if event.said['halts'] or event.said['traps'] is not None:
@@ -224,7 +184,7 @@ class Machine:
     def write(self, event, node):
         """Bytes are written in a copy."""
         address, count = event.number('written_at'), int(event.said['written_bytes'])
-        key, at = f'a{node}.{(address - SHARED) // LINE % self.sets}', address % LINE
+        key, at = f'a{node}.{(address - SHARED) // LINE_BYTES % self.sets}', address % LINE_BYTES
         digits = self.lines[key][COPY_BODY + at // WORD][2:]
         begin = at % WORD * 2
         word = '0x' + digits[:begin] + event.said['written'][10 - 2 * count:] + digits[begin + 2 * count:]
@@ -247,16 +207,6 @@ class Machine:
         """A packet that the trap handler takes."""
         return self.at_home(event, self.take(f'q{node}')[-4:])
 
-    def home(self, line):
-        """The entry of a line."""
-        return self.lines.get(f'h{line}') or self.first(int(line))
-
-    def first(self, line):
-        """The entry of a line at the start."""
-        body = self.bodies.get(line, bytes(LINE)).hex()
-        meta = 'trap-always' if line in self.always else 'normal'
-        return ['home', str(line), 'RO', meta, 'hw', '-', 'sw', '-', 'acks', '0', *(f'0x{body[at:at + 8]}' for at in range(0, 2 * LINE, 8))]
-
     def enter(self, line, words):
         """Gives a line another entry, which has no line where it is as at the start."""
         key = f'h{line}'
@@ -275,7 +225,7 @@ class Machine:
 
     def at_cache(self, event, node, words):
         """A message to a cache. The bytes of the copy that leaves it."""
-        line, kind, first = event.said['line'], event.said['kind'], node * self.contexts
+        line, kind, first = event.said['line'], event.said['kind'], node * self.image.sizes.contexts
         for slot in map(int, re.findall('[0-9]+', event.said['wakes'])):
             held = event.said['holds'] == str(slot)
             self.change(f'c{first + slot}', {STATUS: f'hold {line}' if held else 'ready'})

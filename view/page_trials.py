@@ -15,9 +15,9 @@ from xml.dom import minidom
 import colours
 import cross
 import frames
-import machine
 import picture
-from alewife import RAN, checkpoint_of, digest_of, summary_of
+import saved
+from alewife import RAN, checkpoint_of, digest_of, image_of, run_of, summary_of
 from trials import LeftOut, Wrong, expect
 
 HERE = Path(__file__).resolve().parent
@@ -111,8 +111,8 @@ def states_in(page):
     """The states that the frames of a page lead to, each as a text behind its stamp."""
     data, lines = data_in(page), {}
     for frame in data['frames']:
-        keys = machine.in_order(frames.rebuilt(lines, frame), data['contexts'], data['lines'])
-        rows = [words for key in keys for words in (lines[key] if key[0] in machine.QUEUES else [lines[key]])]
+        keys = saved.in_order(frames.rebuilt(lines, frame), data['contexts'], data['lines'])
+        rows = [words for key in keys for words in (lines[key] if key[0] in saved.QUEUES else [lines[key]])]
         yield frame[0], ''.join(f'{" ".join(words)}\n' for words in rows)
 
 
@@ -292,7 +292,8 @@ def pictures_show_frames(trial):
         expect(status == 0, f'{name}: {line}')
         texts = [each.firstChild.data for each in minidom.parseString(drawn).getElementsByTagName('text')]
         stamps, states = trial.states(name)
-        nodes, messages = picture.read_state(states[stamps.index(stamp)].splitlines(), 0)
+        image = image_of(run_of((trial.folder / f'{name}.trace').read_text().splitlines()[1:-1]).image)
+        nodes, messages = picture.read_state(saved.State(image, states[stamps.index(stamp)].splitlines()), 0)
         expect([text for text in texts if text.startswith('node ')] == [f'node {at}' for at in range(len(nodes))], f'{name}: the nodes')
         expect(sum(int(text.split()[0]) for text in texts if re.match('[0-9]+ [A-Z]', text)) == len(messages), f'{name}: the messages')
         expect(drawn.count('z" fill=') == len(messages) > 0, f'{name}: the heads of the arrows')

@@ -21,15 +21,6 @@ class Node:
 
 
 @dataclass(frozen=True)
-class Message:
-    """A message on its way."""
-    sender: int
-    receiver: int
-    kind: str
-    line: int
-
-
-@dataclass(frozen=True)
 class Mesh:
     """The mesh, with the height of a node's box."""
     width: int
@@ -86,34 +77,25 @@ def home_rows(words):
     return [f'home {words[2]}{due}', f' {row}']
 
 
-def rows_of(words):
-    """The rows of a node's box for a line of its state."""
-    if words[0] == 'home':
-        return home_rows(words)
-    if words[0] == 'packet':
-        return [f'queue {words[1]} from {words[3]}']
-    return [f'asks {words[2]}' if words[0] == 'pending' else f'cache {words[3]}']
+def read_state(state, line):
+    """The nodes of a state, with what their boxes say of a line, and its messages on their way."""
+    width, height, contexts, per_node = state.image.sizes
+    nodes = [Node([state.context(node * contexts + slot).status for slot in range(contexts)]) for node in range(width * height)]
+    for node, mode in state.asked(line):
+        nodes[node].rows.append(f'asks {mode}')
+    for copy in state.copies(line):
+        nodes[copy.node].rows.append(f'cache {copy.mode}')
+        nodes[copy.node].copy = copy.mode
+    if f'h{line}' in state.lines:
+        nodes[line // per_node].rows += home_rows(state.home(line))
+    for packet in state.packets():
+        nodes[packet.receiver].rows += [f'queue {packet.kind} from {packet.sender}'] * (packet.line == line)
+    return nodes, state.on_links()
 
 
-def read_state(lines, line):
-    """The nodes of a state, and its messages."""
-    nodes, messages = [], []
-    for words in map(frames.WORDS.findall, lines):
-        if words[0] == 'node':
-            nodes.append(Node())
-        elif words[0] == 'link':
-            messages.append(Message(int(words[1]), int(words[2]), words[3], int(words[4])))
-        elif words[0] == 'context':
-            nodes[-1].statuses.append(words[2])
-        elif int(words[frames.LINE_AT[words[0]]]) == line:
-            nodes[-1].rows += rows_of(words)
-            nodes[-1].copy = words[3] if words[0] == 'cache' else nodes[-1].copy
-    return nodes, messages
-
-
-def busiest_line(lines):
+def busiest_line(state):
     """The line of most messages on their way, of two the first; 0 where there is no message."""
-    counts = Counter(int(each.split()[4]) for each in lines if each.startswith('link '))
+    counts = Counter(message.line for message in state.on_links())
     return max(sorted(counts), key=counts.get, default=0)
 
 

@@ -5,7 +5,6 @@ import struct
 import sys
 import tempfile
 from collections import Counter
-from dataclasses import dataclass
 from pathlib import Path
 
 sys.path.insert(0, str(Path(__file__).resolve().parent.parent / 'examples' / 'c'))
@@ -13,14 +12,13 @@ sys.dont_write_bytecode = True
 import cross
 from alewife import WORD
 from frames import ViewError
+from saved import LINE_BYTES
 
 LISTED = re.compile(r'([0-9a-f]{8}) ([0-9a-f]{8}) ([0-9]+)')
-CONTEXT = re.compile(r'context (\d+) (ready|halted|(?:wait|hold|trapped) \S+) (0x\S+) (0x\S+) (0x\S+) (\d{4}) (.*)')
 DISASSEMBLED = re.compile(r'^ *([0-9a-f]+):\t(.*)$', re.M)
 BRANCH, TRAP, ALWAYS = 2, 0x3A, (0, 8)
 WITH_RD = {0x04, 0x05, 0x06, 0x0F}
 WAYS = {'ready': 'is ready', 'wait': 'waits for line', 'hold': 'has just got line', 'trapped': 'has trapped with tt', 'halted': 'has halted'}
-LINE_BYTES = 16
 MOST_TOLD = 4
 
 
@@ -162,48 +160,6 @@ def read_text(path):
         raise ViewError(f"can't read {path}: {fault.strerror}") from fault
 
 
-# ---- the state before an event
-
-
-@dataclass(frozen=True)
-class Context:
-    """A context: its number, its status, its PC and nPC, Y and condition codes, and its registers from register 0 on."""
-    number: int
-    status: str
-    pc: int
-    npc: int
-    y: int
-    codes: str
-    registers: tuple
-
-
-def context_of(line):
-    """The context of a line of a state, or None of another line."""
-    match = CONTEXT.fullmatch(line)
-    if not match:
-        return None
-    pc, npc, y = (int(match[at], 16) for at in (3, 4, 5))
-    return Context(int(match[1]), match[2], pc, npc, y, match[6], (0, *(int(word, 16) for word in match[7].split())))
-
-
-def next_of(state, node, contexts):
-    """The context that runs next on a node."""
-    slot = next(int(line.split()[5]) for line in state if line.startswith(f'node {node} clock '))
-    return next(context for context in map(context_of, state) if context and context.number == int(node) * contexts + slot)
-
-
-def waiting_for(state, line):
-    """The contexts that wait for a line."""
-    return [context for context in map(context_of, state) if context and context.status == f'wait {line}']
-
-
-def of_node(state, node):
-    """The lines of a state that are about a node."""
-    start = next(at for at, line in enumerate(state) if line.startswith(f'node {node} clock '))
-    end = next((at for at, line in enumerate(state) if at > start and line.startswith(('node ', 'link '))), len(state))
-    return state[start:end]
-
-
 # ---- an instruction
 
 
@@ -253,28 +209,25 @@ def told_instruction(code, context, name):
 def message_of(state, event):
     """What an event that is no instruction is, in words that lack the line, and the number of its line."""
     kind, node, *rest = event.split()
-    own = [text.split() for text in of_node(state, node)]
-    if kind == 'D':
-        words = next(text.split()[3:] for text in state if text.startswith(f'link {node} {rest[0]} '))
-        return f'node {rest[0]} takes {words[0]} from node {node}', words[1]
-    if kind == 'H':
-        words = next(words for words in own if words[0] == 'packet')
-        return f'the trap handler of node {node} takes {words[1]}', words[2]
-    return f'node {node} evicts its copy', next(words[2] for words in own if words[:2] == ['cache', rest[0]])
+    if kind == 'E':
+        return f'node {node} evicts its copy', state.copy(int(node), rest[0]).line
+    message = state.queue(f'l{node}.{rest[0]}' if kind == 'D' else f'q{node}')[0]
+    taken = f'node {rest[0]} takes {message.kind} from node {node}' if kind == 'D' else f'the trap handler of node {node} takes {message.kind}'
+    return taken, message.line
 
 
-def told_event(code, state, event, contexts):
+def told_event(code, state, event):
     """The lines of an event, by the state before it: what it is, the instruction that runs or those that wait for its line, and where others are, first
     those of a place with few."""
     if event[0] == 'I':
         node = event.split()[1]
-        concerned = [next_of(state, node, contexts)]
+        concerned = [state.next_of(int(node))]
         yield f'node {node} runs an instruction of context {concerned[0].number}'
     else:
         text, line = message_of(state, event)
-        concerned = waiting_for(state, line)
-        yield f'{text}: line {line}{code.name(cross.SHARED + LINE_BYTES * int(line))}'
-    others = [each for each in map(context_of, state) if each and each not in concerned and each.status != 'halted']
+        concerned = state.waiting_for(line)
+        yield f'{text}: line {line}{code.name(cross.SHARED + LINE_BYTES * line)}'
+    others = [each for each in state.contexts() if each not in concerned and each.status != 'halted']
     at = Counter(each.pc for each in others)
     others.sort(key=lambda each: (at[each.pc], each.number))
     for context in [*concerned[:MOST_TOLD], *others[:MOST_TOLD]]:

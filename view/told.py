@@ -1,6 +1,7 @@
 """What a page tells beside the states: statements and their lines of the source, names of lines, counts, reasons and printed words."""
 import misses
-from machine import DIGITS, LINE, SHARED
+from machine import DIGITS, SHARED
+from saved import LINE_BYTES
 
 COUNTED = ('misses', 'INV', 'BUSY', 'handlers')
 
@@ -44,7 +45,7 @@ class Told:
         """All of it but the reasons, as a page has it."""
         statements = self.statements | {f'0x{context.pc:08x}': context.statement for context in ends}
         shown = code.shown(sorted(int(pc, 16) for pc in statements))
-        names = {line: code.line_name(SHARED + LINE * int(line)) for line in sorted(self.lines, key=int)}
+        names = {line: code.line_name(SHARED + LINE_BYTES * int(line)) for line in sorted(self.lines, key=int)}
         return {'statements': {DIGITS.sub(r'x\1', pc): list(shown.get(int(pc, 16), (text, ''))) for pc, text in sorted(statements.items())},
                 'names': {line: name for line, name in names.items() if name}, 'counted': COUNTED, 'before': self.before, 'whole': self.whole,
                 'prints': sorted(self.prints)}
