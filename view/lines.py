@@ -1,8 +1,9 @@
 """Which line of shared data a word of a call means: a number, an address, or the name of a variable, as count or count+16; and which stamp."""
 import re
 
+import cross
 from frames import ViewError
-from statements import LINE_BYTES, cross
+from saved import LINE_BYTES
 
 NAMED = re.compile(r'&?([A-Za-z_.$][\w.$]*)(?:\+(\d+|0x[0-9a-fA-F]+))?')
 WHICH = re.compile(r'(first|last) (\w+)')

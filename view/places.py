@@ -1,16 +1,13 @@
 """Where the code of a run is in its source, and what lies in shared data, by the linked program or by a listing, for what doesn't have the code itself."""
 import shutil
 import struct
-import sys
 import tempfile
 from pathlib import Path
 
-sys.path.insert(0, str(Path(__file__).resolve().parent.parent / 'tools'))
-sys.dont_write_bytecode = True
+import cross
 import statements
 from alewife import WORD
 from frames import ViewError
-from statements import cross
 
 ASKED_AT_ONCE = 4096
 

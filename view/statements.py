@@ -2,13 +2,10 @@
 import bisect
 import re
 import struct
-import sys
 import tempfile
 from collections import Counter
 from pathlib import Path
 
-sys.path.insert(0, str(Path(__file__).resolve().parent.parent / 'examples' / 'c'))
-sys.dont_write_bytecode = True
 import cross
 from alewife import WORD
 from frames import ViewError

@@ -3,6 +3,7 @@ import struct
 from collections import Counter, namedtuple
 from dataclasses import dataclass, field
 
+import cross
 import expressions
 import logs
 import misses
@@ -10,7 +11,6 @@ import outcomes
 import traps
 from alewife import WORD, called
 from frames import ViewError
-from statements import cross
 
 DIGITS = 1 << 16
 NO_PROMISE = 'the search promises that these turns lead there, and not that no fewer do'

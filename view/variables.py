@@ -5,9 +5,9 @@ import re
 from collections import namedtuple
 from dataclasses import dataclass, field
 
+import cross
 import expressions
 from frames import ViewError
-from statements import cross
 
 HEAD = re.compile(r' *<(\d+)><([0-9a-f]+)>: Abbrev Number: \d+ \(DW_TAG_(\w+)\)')
 SAID = re.compile(r' *<[0-9a-f]+> +DW_AT_(\w+) *: (.*)')

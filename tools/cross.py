@@ -13,12 +13,11 @@ from collections import namedtuple
 from dataclasses import dataclass, field
 from pathlib import Path
 
-HERE = Path(__file__).resolve().parent
-sys.path.insert(0, str(HERE.parent.parent / 'tools'))
-sys.dont_write_bytecode = True
 import stacks
-from alewife import Image, Sizes
+from alewife import ROOT, Image, Sizes
 
+# What each program is compiled and linked with.
+RUNTIME = ROOT / 'examples' / 'c'
 COMPILERS = ['sparc64-linux-gnu-gcc'] + [f'sparc64-linux-gnu-gcc-{version}' for version in range(20, 9, -1)]
 BINUTILS = ('as', 'ld', 'objcopy', 'objdump', 'nm', 'addr2line')
 SHARED = 0x40000000
@@ -164,9 +163,9 @@ class Build:
 
 def translated(build, file, made):
     """Compiles a source in C to assembly for this machine, and notes its calls."""
-    headers = [word for folder in (HERE / 'include', called([build.gcc, '-print-file-name=include']).strip()) for word in ('-isystem', folder)]
+    headers = [word for folder in (RUNTIME / 'include', called([build.gcc, '-print-file-name=include']).strip()) for word in ('-isystem', folder)]
     sizes = [f'-DCONTEXTS_A_NODE={build.sizes.contexts}', f'-DCONTEXTS={build.contexts()}']
-    called([build.gcc, *FLAGS, *build.flags, *headers, *sizes, *(f'-D{each}' for each in build.options.defines), f'-I{HERE}', '-S', file, '-o', made])
+    called([build.gcc, *FLAGS, *build.flags, *headers, *sizes, *(f'-D{each}' for each in build.options.defines), f'-I{RUNTIME}', '-S', file, '-o', made])
     lines = (part for line in made.read_text().splitlines() for part in without_doubles(line))
     made.write_text(''.join(part + '\n' for line in lines for part in with_check(line)))
     build.calls.add(made.with_suffix('.ci').read_text(), made.stem)
@@ -191,7 +190,7 @@ def compiled(build, file, number):
 
 def all_compiled(build, files):
     """The object files of a program's sources, compiled again where they turn out to update words by atomic.c."""
-    sources = [HERE / 'start.s', HERE / 'runtime.c', HERE / 'atomic.c', *map(Path, files)]
+    sources = [RUNTIME / 'start.s', RUNTIME / 'runtime.c', RUNTIME / 'atomic.c', *map(Path, files)]
     objects = [compiled(build, file, number) for number, file in enumerate(sources)]
     if build.flags or not any(UPDATE.match(name) for names in build.calls.called.values() for name in names):
         return objects
@@ -209,9 +208,9 @@ def linked(build, files):
     objects, made, script = all_compiled(build, files), build.folder / 'program.elf', build.folder / 'machine.ld'
     words = ['sparc64-linux-gnu-ld', '-m', 'elf32_sparc', '-z', 'noexecstack', '--orphan-handling=error', f'--defsym=shared_end={build.end()}',
              f'--defsym=stack_mark={MARK}', f'--defsym=contexts={build.contexts()}', *objects, '-o', made]
-    said = answered([*words, '--gc-sections', '--print-gc-sections', '-T', HERE / 'machine.ld'])[1]
+    said = answered([*words, '--gc-sections', '--print-gc-sections', '-T', RUNTIME / 'machine.ld'])[1]
     unused = ''.join(f'"{file}"({name}) ' for name, file in UNUSED.findall(said))
-    script.write_text((HERE / 'machine.ld').read_text().replace('SECTIONS\n{\n', f'SECTIONS\n{{\n    .unused {UNUSED_AT:#x} : {{ {unused}}}\n'))
+    script.write_text((RUNTIME / 'machine.ld').read_text().replace('SECTIONS\n{\n', f'SECTIONS\n{{\n    .unused {UNUSED_AT:#x} : {{ {unused}}}\n'))
     called([*words, '--unresolved-symbols=ignore-all', '-T', script])
     return made
 
