@@ -1,7 +1,8 @@
-"""What the scripts share: calls of the program, images, the lines of its texts, and findings."""
+"""What the scripts share: the machine's numbers, calls of the program, images, the lines of its texts, and findings."""
 import argparse
 import functools
 import hashlib
+import json
 import os
 import re
 import struct
@@ -21,6 +22,26 @@ RAN = (0, 4, 5)
 
 class ProgramError(Exception):
     """Why there is no program to call, in a line."""
+
+
+# ---- the machine
+
+
+# Bytes of a word and of a line, and the address at which shared data begins.
+WORD, LINE_BYTES, SHARED = 4, 16, 0x40000000
+# The most that a machine has: columns or rows, contexts a node, home lines a node, words of code, and nodes times the limit.
+MOST_SIDE, MOST_CONTEXTS, MOST_LINES, MOST_WORDS, MOST_TURNS = 16, 4, 4096, 65536, 8388608
+
+
+def options_of(command):
+    """The options of a command by their names, from the program's own table: the last number of each, and its default."""
+    table = json.loads((ROOT / 'tools' / 'words.json').read_text())
+    return {option['name'].removeprefix('--'): option for option in table['commands'][command]['options']}
+
+
+def limit_of(nodes):
+    """The greatest limit that a machine of so many nodes has."""
+    return min(options_of('run')['limit']['last'], MOST_TURNS // nodes)
 
 
 # ---- the program
@@ -130,10 +151,9 @@ def no_debugger():
 
 MAGIC = b'ALEW'
 HEAD = struct.Struct('>4sHBBBBHIIII')
-DATA = struct.Struct('>I16s')
+DATA = struct.Struct(f'>I{LINE_BYTES}s')
 START = struct.Struct('>HBBI')
 ALWAYS = struct.Struct('>I')
-WORD = 4
 FIRST_VERSION_SIDE = 8
 Sizes = namedtuple('Sizes', 'width height contexts lines')
 

@@ -14,14 +14,12 @@ from dataclasses import dataclass, field
 from pathlib import Path
 
 import stacks
-from alewife import ROOT, Image, Sizes
+from alewife import LINE_BYTES, MOST_WORDS, ROOT, SHARED, WORD, Image, Sizes
 
 # What each program is compiled and linked with.
 RUNTIME = ROOT / 'examples' / 'c'
 COMPILERS = ['sparc64-linux-gnu-gcc'] + [f'sparc64-linux-gnu-gcc-{version}' for version in range(20, 9, -1)]
 BINUTILS = ('as', 'ld', 'objcopy', 'objdump', 'nm', 'addr2line')
-SHARED = 0x40000000
-MOST_WORDS = 65536
 MARK = 0x5354414b
 BELOW, ABOVE = 16, 96
 
@@ -158,7 +156,7 @@ class Build:
 
     def end(self):
         """The address behind shared data."""
-        return SHARED + 16 * self.sizes.width * self.sizes.height * self.sizes.lines
+        return SHARED + LINE_BYTES * self.sizes.width * self.sizes.height * self.sizes.lines
 
 
 def translated(build, file, made):
@@ -292,8 +290,8 @@ def check_stack(build, symbols):
     wanted, size, contexts = BELOW + depth + ABOVE, symbols['stack_size'], build.contexts()
     least = ' at least' if unknown else ''
     if wanted > size:
-        room = symbols['data_end'] - SHARED + contexts * ((wanted + 15) // 16 * 16)
-        lines = -(-room // (16 * build.sizes.width * build.sizes.height))
+        room = symbols['data_end'] - SHARED + contexts * ((wanted + LINE_BYTES - 1) // LINE_BYTES * LINE_BYTES)
+        lines = -(-room // (LINE_BYTES * build.sizes.width * build.sizes.height))
         said = f'stack {wanted} bytes a context{least}, there are {size}: give {lines} lines a node'
         if not build.options.any_stack or size < BELOW + ABOVE:
             raise BuildError(said + (', or say --any-stack' if size >= BELOW + ABOVE else ''))
@@ -329,9 +327,9 @@ def check_code(program, words):
         raise BuildError(f'the code has {len(words)} words; a machine takes at most {MOST_WORDS}')
     for number, word in enumerate(words):
         if not is_known(word):
-            address = 4 * number
+            address = WORD * number
             place = called(['sparc64-linux-gnu-addr2line', '-f', '-s', '-e', program, hex(address)]).split()
-            listing = called(['sparc64-linux-gnu-objdump', '-d', f'--start-address={address}', f'--stop-address={address + 4}', program])
+            listing = called(['sparc64-linux-gnu-objdump', '-d', f'--start-address={address}', f'--stop-address={address + WORD}', program])
             raise BuildError(f'{place[1]}, in {place[0]}: the machine has no {" ".join(listing.splitlines()[-1].split()[5:])}')
 
 
@@ -340,9 +338,10 @@ def check_code(program, words):
 
 def lines_of(build, data, symbols):
     """The lines that aren't 0 at the start, by their numbers: those of data, and the mark under each stack."""
-    lines = {number: data[16 * number:16 * number + 16].ljust(16, b'\0') for number in range((len(data) + 15) // 16)}
+    bodies = (data[at:at + LINE_BYTES].ljust(LINE_BYTES, b'\0') for at in range(0, len(data), LINE_BYTES))
+    lines = dict(enumerate(bodies))
     lowest = (build.end() - SHARED - (context + 1) * symbols['stack_size'] for context in range(build.contexts()))
-    lines.update({address // 16: struct.pack('>I', MARK).ljust(16, b'\0') for address in lowest})
+    lines.update({address // LINE_BYTES: struct.pack('>I', MARK).ljust(LINE_BYTES, b'\0') for address in lowest})
     return {number: line for number, line in lines.items() if any(line)}
 
 

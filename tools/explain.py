@@ -14,12 +14,11 @@ import sys
 from pathlib import Path
 
 TABLE = json.loads((Path(__file__).resolve().parent / 'words.json').read_text())
-KINDS, COMMANDS = TABLE['kinds'], TABLE['commands']
+KINDS, COMMANDS, MOST_WORDS = TABLE['kinds'], TABLE['commands'], TABLE['most_words']
 STATEMENTS = {*TABLE['mnemonics'], *(f'.{name}' for name in TABLE['directives'])}
 MOST_READ = 16 << 20
 MOST_SHOWN = 100
 MOST_LINE = 1000
-MOST_WORDS = 65536
 
 
 def shown(word):

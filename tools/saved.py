@@ -6,6 +6,8 @@ h7 the entry of line 7, q3 the packets of node 3, and l0.3 the messages from nod
 import re
 from dataclasses import dataclass
 
+from alewife import LINE_BYTES
+
 WORDS = re.compile(r'(?:hold|wait|trapped) \S+|\S+')
 KEYS = {'node': 'n{1}', 'context': 'c{1}', 'pending': 'p{node}.{1}', 'cache': 'a{node}.{1}', 'home': 'h{1}', 'packet': 'q{node}', 'link': 'l{1}.{2}'}
 RANKS = 'ncpahql'
@@ -14,7 +16,6 @@ CLOCK, SLOT = 3, 5
 STATUS, PC, NEXT_PC, Y, CODES, REGISTERS = 2, 3, 4, 5, 6, 6
 STATE, BODY = 2, 10
 COPY_BODY = 4
-LINE_BYTES = 16
 TO_CACHE = {'RDATA', 'WDATA'}
 FROM_CACHE = {'REPM', 'UPDATE'}
 CARRIERS = FROM_CACHE | {'WDATA'}

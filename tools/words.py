@@ -14,9 +14,10 @@ import math
 import re
 import sys
 from dataclasses import asdict, dataclass, field
-from pathlib import Path
 
-ROOT = Path(__file__).resolve().parent.parent
+sys.dont_write_bytecode = True
+from alewife import MOST_WORDS, ROOT
+
 ROWS = ROOT / 'crates' / 'alw_config' / 'src' / 'rows.rt'
 CHOOSING = ROOT / 'crates' / 'alw_config' / 'src' / 'options.rt'
 LOOKUPS = ROOT / 'crates' / 'alw_config' / 'src' / 'lookups.rt'
@@ -266,7 +267,7 @@ def table_page(commands):
     """tools/words.json: the table for what reads it as data."""
     mnemonics, directives = read_names()
     kinds = {name: dict(zip(('title', 'called', 'made'), row)) for name, row in KINDS.items()}
-    data = {'mnemonics': mnemonics, 'directives': directives, 'kinds': kinds, 'commands': {}}
+    data = {'mnemonics': mnemonics, 'directives': directives, 'most_words': MOST_WORDS, 'kinds': kinds, 'commands': {}}
     for name, command in commands.items():
         options = [{**asdict(option), 'values': option.values()} for option in command.options]
         data['commands'][name] = {'reads': command.reads, 'options': options, 'rule': command.rule_told() if command.rule else '', 'bounds': command.rule}

@@ -8,11 +8,10 @@ from functools import lru_cache
 
 import logs
 import misses
-from alewife import image_of, run_of
+from alewife import LINE_BYTES, SHARED, image_of, run_of
 from frames import Program, ViewError
-from saved import LINE_BYTES, State
+from saved import State
 
-SHARED = 0x40000000
 KEPT_STATES, KEPT_LINES = 64, 4096
 NOTED, TOLD_EVERY = 4096, 0.5
 TURN = re.compile(r'\d+ I (\d+) slot (\d) pc (0x[0-9a-f]{8}) ')

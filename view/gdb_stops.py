@@ -2,7 +2,7 @@
 import bisect
 from dataclasses import dataclass, field
 
-from again import LINE_BYTES, SHARED
+from alewife import LINE_BYTES, SHARED
 
 TRAP, ABORT, NO_SIGNAL = 5, 6, 0
 SIGNALS = {0x01: 11, 0x02: 4, 0x07: 10, 0x09: 11}

@@ -1,6 +1,6 @@
 """What the debugger says: threads, the way to a stop, and the answers of `monitor`."""
 import traps
-from again import LINE_BYTES, SHARED
+from alewife import LINE_BYTES, SHARED
 from frames import ViewError
 from statements import reached_by, told_standing
 

@@ -7,7 +7,7 @@ from pathlib import Path
 
 import cross
 import logs
-from alewife import digest_of, image_of, no_debugger, run_of
+from alewife import LINE_BYTES, SHARED, digest_of, image_of, no_debugger, run_of
 from gdb_session import PC
 from gdb_wire import INTERRUPT, Wire
 from trials import LeftOut, expect
@@ -123,7 +123,7 @@ def flat_memory(trace, events, place):
     """Shared data after so many events, by its stores in their order: the image's lines by address, and then what was stored."""
     memory = {}
     for line, body in image_of(run_of(trace.decode().splitlines()[1:-1]).image).data.items():
-        memory.update((0x40000000 + 16 * line + at, byte) for at, byte in enumerate(body))
+        memory.update((SHARED + LINE_BYTES * line + at, byte) for at, byte in enumerate(body))
     for event in events[:place]:
         if event.letter == 'I' and event.said['written_at']:
             count = event.number('written_bytes')

@@ -1,9 +1,8 @@
 """Which line of shared data a word of a call means: a number, an address, or the name of a variable, as count or count+16; and which stamp."""
 import re
 
-import cross
+from alewife import LINE_BYTES, SHARED
 from frames import ViewError
-from saved import LINE_BYTES
 
 NAMED = re.compile(r'&?([A-Za-z_.$][\w.$]*)(?:\+(\d+|0x[0-9a-fA-F]+))?')
 WHICH = re.compile(r'(first|last) (\w+)')
@@ -22,9 +21,9 @@ def line_of(text, symbols):
         address = int(text, 16)
     else:
         raise ViewError(f'{text} is no line: a number, an address as 0x40000020, or a name, as count or count+16')
-    if address < cross.SHARED:
-        raise ViewError(f'0x{address:08x} is no address of shared data, which begins at 0x{cross.SHARED:08x}')
-    return (address - cross.SHARED) // LINE_BYTES
+    if address < SHARED:
+        raise ViewError(f'0x{address:08x} is no address of shared data, which begins at 0x{SHARED:08x}')
+    return (address - SHARED) // LINE_BYTES
 
 
 def address_of(named, text, symbols):

@@ -9,12 +9,11 @@ instruction's slot the current one.
 import re
 
 import codes
-from alewife import WORD
-from saved import BODY, CLOCK, CODES, COPY_BODY, FROM_CACHE, LINE_BYTES, NEXT_PC, PC, QUEUES, REGISTERS, SLOT, STATUS, TO_CACHE, Y, State
+from alewife import LINE_BYTES, SHARED, WORD
+from saved import BODY, CLOCK, CODES, COPY_BODY, FROM_CACHE, NEXT_PC, PC, QUEUES, REGISTERS, SLOT, STATUS, TO_CACHE, Y, State
 
 LONG = re.compile('0x[0-9a-f]{8}')
 DIGITS = re.compile('0x0*([0-9a-f]+)')
-SHARED = 0x40000000
 ZERO = ['0x00000000'] * 4
 ANSWERS = {'RDATA', 'WDATA', 'BUSY'}
 

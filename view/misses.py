@@ -3,10 +3,11 @@ import re
 from collections import Counter
 from dataclasses import dataclass
 
+from alewife import WORD
+
 REGISTERS = [f'%{bank}{number}' for bank in 'goli' for number in range(8)]
 OWN_NUMBER, ALL_NUMBER = 8, 9
 ADDRESS = re.compile(r'\[(%\w+)(?:\+(%\w+)|([+-]\d+))?\]')
-WORD = 4
 KINDS = ('first', 'other-word', 'same-word', 'read-only', 'evicted', 'replaced', 'BUSY', 'waits')
 
 

@@ -7,9 +7,8 @@ from collections import Counter
 from pathlib import Path
 
 import cross
-from alewife import WORD
+from alewife import LINE_BYTES, SHARED, WORD
 from frames import ViewError
-from saved import LINE_BYTES
 
 LISTED = re.compile(r'([0-9a-f]{8}) ([0-9a-f]{8}) ([0-9]+)')
 DISASSEMBLED = re.compile(r'^ *([0-9a-f]+):\t(.*)$', re.M)
@@ -104,7 +103,7 @@ def variables_of(elf):
     """The variables of a linked program in shared data, each as address and name, and the address behind them."""
     symbols = cross.symbols_of(elf)
     end = symbols.get('data_end', 0)
-    return sorted((value, name) for name, value in symbols.items() if cross.SHARED <= value < end), end
+    return sorted((value, name) for name, value in symbols.items() if SHARED <= value < end), end
 
 
 def stacks_of(elf):
@@ -181,9 +180,9 @@ def reached_by(word, registers):
 
 def told_place(code, address):
     """An address of shared data, with its line and what lies there."""
-    if address < cross.SHARED:
+    if address < SHARED:
         return f'0x{address:08x}'
-    return f'0x{address:08x}, line {(address - cross.SHARED) // LINE_BYTES}{code.name(address)}'
+    return f'0x{address:08x}, line {(address - SHARED) // LINE_BYTES}{code.name(address)}'
 
 
 def told_instruction(code, context, name):
@@ -223,7 +222,7 @@ def told_event(code, state, event):
     else:
         text, line = message_of(state, event)
         concerned = state.waiting_for(line)
-        yield f'{text}: line {line}{code.name(cross.SHARED + LINE_BYTES * line)}'
+        yield f'{text}: line {line}{code.name(SHARED + LINE_BYTES * line)}'
     others = [each for each in state.contexts() if each not in concerned and each.status != 'halted']
     at = Counter(each.pc for each in others)
     others.sort(key=lambda each: (at[each.pc], each.number))

@@ -9,7 +9,7 @@ import logs
 import misses
 import outcomes
 import traps
-from alewife import WORD, called
+from alewife import LINE_BYTES, SHARED, WORD, called
 from frames import ViewError
 
 DIGITS = 1 << 16
@@ -23,7 +23,7 @@ Line = namedtuple('Line', 'number context place text')
 
 def words_at_start(image):
     """The words of shared data that aren't 0 at the start, by address."""
-    words = {cross.SHARED + 16 * line + WORD * at: word for line, data in image.data.items() for at, word in enumerate(struct.unpack('>4I', data))}
+    words = {SHARED + LINE_BYTES * line + WORD * at: word for line, data in image.data.items() for at, word in enumerate(struct.unpack('>4I', data))}
     return {address: word for address, word in words.items() if word}
 
 

@@ -1,7 +1,7 @@
 """What a page tells beside the states: statements and their lines of the source, names of lines, counts, reasons and printed words."""
 import misses
-from machine import DIGITS, SHARED
-from saved import LINE_BYTES
+from alewife import LINE_BYTES, SHARED
+from machine import DIGITS
 
 COUNTED = ('misses', 'INV', 'BUSY', 'handlers')
 

@@ -7,6 +7,7 @@ from dataclasses import dataclass, field
 
 import cross
 import expressions
+from alewife import SHARED
 from frames import ViewError
 
 HEAD = re.compile(r' *<(\d+)><([0-9a-f]+)>: Abbrev Number: \d+ \(DW_TAG_(\w+)\)')
@@ -61,7 +62,7 @@ class Variables:
         """The variables that have an address of shared data."""
         for entry in self.entries.values():
             at = FIXED.search(entry.said.get('location', '')) if entry.tag == 'variable' and 'name' in entry.said else None
-            if at and cross.SHARED <= int(at[1], 16) < cross.UNUSED_AT and 'type' in entry.said:
+            if at and SHARED <= int(at[1], 16) < cross.UNUSED_AT and 'type' in entry.said:
                 yield Part(entry.said['name'], int(at[1], 16), self.kind_of(entry))
 
     def kind_of(self, entry):

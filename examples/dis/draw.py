@@ -1,7 +1,7 @@
 """Draws words of code, and images."""
 import struct
 
-from alewife import FIRST_VERSION_SIDE, Image, Sizes
+from alewife import FIRST_VERSION_SIDE, MOST_CONTEXTS, MOST_LINES, MOST_SIDE, WORD, Image, Sizes
 
 ARITHMETIC = (*range(0x00, 0x09), 0x0A, 0x0B, 0x0C, *range(0x10, 0x19), 0x1C)
 SHIFTS, ACCESSES = (0x25, 0x26, 0x27), (0x00, 0x01, 0x02, 0x04, 0x05, 0x06, 0x09, 0x0A, 0x0D, 0x0F)
@@ -45,12 +45,12 @@ def instruction(draw):
 
 def image(draw, words):
     """An image of some drawn words: instructions, or anything, with drawn sizes, starts, Trap-Always lines and data."""
-    sides = [draw.randint(1, draw.choice((2, 4, FIRST_VERSION_SIDE, 16))) for _ in range(2)]
-    sizes = Sizes(*sides, draw.randint(1, 4), draw.choice((1, 2, 3, 8, 4096)))
+    sides = [draw.randint(1, draw.choice((2, 4, FIRST_VERSION_SIDE, MOST_SIDE))) for _ in range(2)]
+    sizes = Sizes(*sides, draw.randint(1, MOST_CONTEXTS), draw.choice((1, 2, 3, 8, MOST_LINES)))
     nodes, kept = sides[0] * sides[1], draw.random()
     code = b''.join(struct.pack('>I', instruction(draw) if draw.random() < kept else draw.getrandbits(32)) for _ in range(words))
     slots = sorted(draw.sample(range(nodes * sizes.contexts), draw.randint(1, min(9, nodes * sizes.contexts))))
-    starts = tuple((slot // sizes.contexts, slot % sizes.contexts, 4 * draw.randrange(words)) for slot in slots)
+    starts = tuple((slot // sizes.contexts, slot % sizes.contexts, WORD * draw.randrange(words)) for slot in slots)
     lines = nodes * sizes.lines
     chosen = draw.sample(range(lines), min(lines, draw.randint(0, 6)))
     bodies = {line: struct.pack('>4I', *(draw.choice((0, 1, draw.getrandbits(32))) for _ in range(4))) for line in chosen}

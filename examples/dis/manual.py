@@ -6,7 +6,7 @@ from pathlib import Path
 
 sys.path.insert(0, str(Path(__file__).resolve().parent.parent.parent / 'tools'))
 sys.dont_write_bytecode = True
-from alewife import WORD, image_of
+from alewife import LINE_BYTES, WORD, image_of
 
 REGISTERS = [f'%{bank}{number}' for bank in 'goli' for number in range(8)]
 CONDITIONS = 'n', 'e', 'le', 'l', 'leu', 'cs', 'neg', 'vs', 'a', 'ne', 'g', 'ge', 'gu', 'cc', 'pos', 'vc'
@@ -96,7 +96,7 @@ def source_of(data):
     lines += [f'.start {node},{slot},{word_text(address)}' for node, slot, address in image.starts]
     lines += [f'.always {number}' for number in image.always]
     for number, body in image.data.items():
-        lines += [f'.shared {16 * number}', '.word ' + ','.join(map(word_text, words_in(body)))]
+        lines += [f'.shared {LINE_BYTES * number}', '.word ' + ','.join(map(word_text, words_in(body)))]
     return '\n'.join(lines) + '\n'
 
 

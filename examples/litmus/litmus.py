@@ -8,8 +8,9 @@ import random
 import re
 from collections import namedtuple
 
+from alewife import LINE_BYTES, SHARED, WORD
+
 PLACES = ('x', 'y', 'z')
-SHARED = 0x40000000
 PAUSES = (0, 0, 0, 1, 2, 5, 15)
 LEADS = (0, 0, 3, 10, 30)
 
@@ -18,16 +19,16 @@ Shape = namedtuple('Shape', 'name about threads never')
 Placement = namedtuple('Placement', 'name about slots stride warm always options')
 
 PLACEMENTS = (
-    Placement('nodes', 'a node a thread', 1, 16, False, False, ()),
-    Placement('copies', 'a node a thread; each has copies of all words before it begins', 1, 16, True, False, ()),
-    Placement('one-line', 'a node a thread, all words in one line, with copies', 1, 4, True, False, ()),
-    Placement('contexts', 'contexts of one node', 4, 16, False, False, ()),
-    Placement('pairs', 'two contexts a node, with copies', 2, 16, True, False, ()),
+    Placement('nodes', 'a node a thread', 1, LINE_BYTES, False, False, ()),
+    Placement('copies', 'a node a thread; each has copies of all words before it begins', 1, LINE_BYTES, True, False, ()),
+    Placement('one-line', 'a node a thread, all words in one line, with copies', 1, WORD, True, False, ()),
+    Placement('contexts', 'contexts of one node', 4, LINE_BYTES, False, False, ()),
+    Placement('pairs', 'two contexts a node, with copies', 2, LINE_BYTES, True, False, ()),
     Placement('one-pointer', 'with copies, and one hardware pointer a line: the trap handler keeps the others',
-              1, 16, True, False, ('--pointers', '1')),
-    Placement('always-trap', 'with copies, and each message to a home traps', 1, 16, True, True, ()),
-    Placement('evictions', 'with copies, and caches that drop lines at any time', 1, 16, True, False, ('--evict', '100')),
-    Placement('one-set', 'with copies, and all words share a set of the cache', 1, 64, True, False, ('--sets', '4')),
+              1, LINE_BYTES, True, False, ('--pointers', '1')),
+    Placement('always-trap', 'with copies, and each message to a home traps', 1, LINE_BYTES, True, True, ()),
+    Placement('evictions', 'with copies, and caches that drop lines at any time', 1, LINE_BYTES, True, False, ('--evict', '100')),
+    Placement('one-set', 'with copies, and all words share a set of the cache', 1, 4 * LINE_BYTES, True, False, ('--sets', '4')),
 )
 
 FORMS = (
@@ -219,7 +220,7 @@ def source(shape, placement, number=None):
     """The SPARC source of a shape in a placement. From its number is drawn how long a thread pauses before each statement: without one it doesn't."""
     pauses = no_pauses(shape) if number is None else drawn_pauses(shape, random.Random(f'{shape.name} {placement.name} {number}'))
     addresses = {name: SHARED + PLACES.index(name) * placement.stride for name in names_of(shape) if name in PLACES}
-    last_line, nodes = (max(addresses.values()) - SHARED) // 16, nodes_of(shape, placement)
+    last_line, nodes = (max(addresses.values()) - SHARED) // LINE_BYTES, nodes_of(shape, placement)
     lines = [f'! {shape.name}: {shape.about}', f'! {placement.name}: {placement.about}', code(f'.mesh {nodes},1'),
              code(f'.contexts {slots_of(shape, placement)}'), code(f'.lines {last_line // nodes + 1}')]
     for thread in range(len(shape.threads)):

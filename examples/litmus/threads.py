@@ -1,9 +1,9 @@
 """The SPARC source of a litmus test that herd.py has read, and the final states of it that ends of the program tell."""
+from alewife import LINE_BYTES, MOST_SIDE, SHARED
 from herd import LitmusError
 
-SHARED, LINE = 0x40000000, 16
 OPERATIONS = {'+': 'add', '-': 'sub', '&': 'and', '|': 'or', '^': 'xor'}
-MOST_WORDS, MOST_NAMES, MOST_THREADS, TEMPORARY = 8, 8, 16, ('%g1', '%g2', '%g3', '%g4', '%g5', '%g6')
+MOST_WORDS, MOST_NAMES, TEMPORARY = 8, 8, ('%g1', '%g2', '%g3', '%g4', '%g5', '%g6')
 
 
 def names_in(statements, found):
@@ -111,7 +111,7 @@ def thread_of(test, number):
     """The code of a thread: addresses and first values into registers, its statements, and what is told of it as prints."""
     writer = Writer(number, test)
     for at, name in enumerate(test.words):
-        writer.put(f'set {SHARED + LINE * at:#x},{writer.words[name]}')
+        writer.put(f'set {SHARED + LINE_BYTES * at:#x},{writer.words[name]}')
     for name in writer.names:
         writer.put(f'set {test.registers.get((number, name), 0)},{writer.names[name]}')
     for statement in test.threads[number]:
@@ -125,12 +125,12 @@ def thread_of(test, number):
 def source_of(test):
     """The SPARC source of a test: a node a thread, and a line a word."""
     nodes = len(test.threads)
-    if nodes > MOST_THREADS or len(test.words) > MOST_WORDS:
-        raise LitmusError(f'{nodes} threads and {len(test.words)} words: at most {MOST_THREADS} and {MOST_WORDS} have room')
+    if nodes > MOST_SIDE or len(test.words) > MOST_WORDS:
+        raise LitmusError(f'{nodes} threads and {len(test.words)} words: at most {MOST_SIDE} and {MOST_WORDS} have room')
     lines = [f'! {test.name}', f'        .mesh {nodes},1', f'        .lines {-(-max(1, len(test.words)) // nodes)}']
     lines += [f'        .start {number},0,thread{number}' for number in range(nodes)]
     for at, value in enumerate(test.words.values()):
-        lines += [f'        .shared {LINE * at}', f'        .word {value}'] if value else []
+        lines += [f'        .shared {LINE_BYTES * at}', f'        .word {value}'] if value else []
     lines += ['        .text'] if any(test.words.values()) else []
     return '\n'.join(lines + [line for number in range(nodes) for line in thread_of(test, number)]) + '\n'
 
@@ -143,5 +143,5 @@ def state_of(test, prints, memory):
     values = {}
     for number in range(len(test.threads)):
         values |= {(number, name): word for name, word in zip(told_of(test, number), printed.get(number, []), strict=True)}
-    addresses = {name: SHARED + LINE * at for at, name in enumerate(test.words)}
+    addresses = {name: SHARED + LINE_BYTES * at for at, name in enumerate(test.words)}
     return tuple(values[place] if place[0] is not None else words.get(addresses[place[1]], 0) for place in test.told)
