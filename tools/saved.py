@@ -100,9 +100,9 @@ class State:
         """The lines as a checkpoint has them."""
         return [' '.join(words) for key in self.keys() for words in (self.lines[key] if key[0] in QUEUES else [self.lines[key]])]
 
-    def of_kind(self, letter):
-        """The lines whose keys begin with a letter, each as its key and its words."""
-        return ((key, words) for key, words in self.lines.items() if key[0] == letter)
+    def of_kind(self, letter, accepts=lambda words: True):
+        """The keys that begin with a letter and whose words are accepted, in a checkpoint's order."""
+        return sorted((key for key, words in self.lines.items() if key[0] == letter and accepts(words)), key=numbers_of)
 
     # ---- contexts
 
@@ -114,7 +114,7 @@ class State:
 
     def contexts(self):
         """All contexts."""
-        return [self.context(*numbers_of(key)) for key, _ in self.of_kind('c')]
+        return [self.context(*numbers_of(key)) for key in self.of_kind('c')]
 
     def next_of(self, node):
         """The context that runs next on a node."""
@@ -122,7 +122,7 @@ class State:
 
     def waiting_for(self, line):
         """The contexts that wait for a line."""
-        return [self.context(*numbers_of(key)) for key, words in self.of_kind('c') if words[STATUS] == f'wait {line}']
+        return [self.context(*numbers_of(key)) for key in self.of_kind('c', lambda words: words[STATUS] == f'wait {line}')]
 
     # ---- lines of shared data
 
@@ -133,11 +133,11 @@ class State:
 
     def copies(self, line):
         """The copies of a line."""
-        return [self.copy(*numbers_of(key)) for key, words in self.of_kind('a') if words[2] == str(line)]
+        return [self.copy(*numbers_of(key)) for key in self.of_kind('a', lambda words: words[2] == str(line))]
 
     def asked(self, line):
         """Which nodes ask for a line, and how, as (node, mode)."""
-        return [(numbers_of(key)[0], words[2]) for key, words in self.of_kind('p') if words[1] == str(line)]
+        return [(numbers_of(key)[0], self.lines[key][2]) for key in self.of_kind('p', lambda words: words[1] == str(line))]
 
     def home(self, line):
         """The words of a line's entry. A checkpoint has none of one that is as at the start."""
@@ -167,11 +167,11 @@ class State:
 
     def packets(self):
         """The packets of all nodes, which wait for their trap handlers."""
-        return [packet for key, _ in self.of_kind('q') for packet in self.queue(key)]
+        return [packet for key in self.of_kind('q') for packet in self.queue(key)]
 
     def on_links(self):
         """The messages on their way."""
-        return [message for key, _ in self.of_kind('l') for message in self.queue(key)]
+        return [message for key in self.of_kind('l') for message in self.queue(key)]
 
     def messages(self):
         """All messages, the packets first."""

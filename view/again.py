@@ -1,18 +1,23 @@
-"""A run that comes again: its log, its places, and the state at each. A place is a number of events, which have happened in the order of stamps."""
+"""A run that comes again: its log, its places, and the state at each. A place is a number of events, which have happened in the order of stamps.
+
+A state is gone on to from a checkpoint before it, which the program saves at each multiple of SPACING where it is wanted.
+"""
 import bisect
 import re
 import threading
 from collections import defaultdict
 from dataclasses import dataclass, field
-from functools import lru_cache
+from functools import cached_property, lru_cache
 
 import logs
 import misses
 from alewife import LINE_BYTES, SHARED, image_of, run_of
 from frames import Program, ViewError
+from machine import Machine
 from saved import State
 
-KEPT_STATES, KEPT_LINES = 64, 4096
+SPACING = 2048
+KEPT_STATES, KEPT_CHECKPOINTS, KEPT_LINES = 64, 64, 4096
 NOTED, TOLD_EVERY = 4096, 0.5
 TURN = re.compile(r'\d+ I (\d+) slot (\d) pc (0x[0-9a-f]{8}) ')
 ACCESS = re.compile(r' (reads|writes) (0x[0-9a-f]{8}) ([124]) ')
@@ -100,8 +105,8 @@ class Interrupted(Exception):
 
 
 class Again:
-    """A run, its places from 0 to `end`, and its states, which are saved where they are asked for and kept for a while. The log is read by a thread of its
-    own: what is of the log waits for that, and while it waits, it tells how far the thread is."""
+    """A run, its places from 0 to `end`, and its states and checkpoints, which are made where they are asked for and kept for a while. The log is read by a
+    thread of its own: what is of the log waits for that, and while it waits, it tells how far the thread is."""
     head, lines, stamps, owners, index, ended = map(of_log, ('head', 'lines', 'stamps', 'owners', 'index', 'ended'))
     end = property(lambda run: len(run.lines))
 
@@ -109,9 +114,11 @@ class Again:
         self.program, self.tell, self.is_interrupted = Program(binary, trace), tell, lambda: False
         if b'\nentries ' not in trace:
             self.program.save()
-        self.front = trace[:trace.find(b'\nentries ') + 1].decode()
-        self.image = image_of(run_of(self.checkpoint([])[0]).image)
-        self.state, self.bytes_of = lru_cache(KEPT_STATES)(self.saved), lru_cache(KEPT_LINES)(self.line_bytes)
+        self.front = trace[:trace.find(b'\nentries ') + 1]
+        self.checkpoint = lru_cache(KEPT_CHECKPOINTS)(lambda place: self.saved(place)[1])
+        self.state, self.bytes_of = lru_cache(KEPT_STATES)(self.reached), lru_cache(KEPT_LINES)(self.line_bytes)
+        start = run_of(self.saved(0)[0])
+        self.image, self.sets = image_of(start.image), start.params['sets']
         self.story, self.reasons = None, []
         self.known, self.fault, self.noted = None, None, (0, trace.count(b'\n', len(self.front)) - 2)
         self.reading = threading.Thread(target=self.read, daemon=True)
@@ -160,15 +167,24 @@ class Again:
         first, behind = bisect.bisect_left(self.stamps, stamp), self.place_of(stamp)
         return f'stamp {stamp}' + (f', {place - first} of its {behind - first} events' if place < behind else '')
 
-    def saved(self, place):
-        """The state at a place."""
-        entries = [entry_of(self.lines[at]) for _, at in sorted(zip(self.log().order[:place], range(place)))] if place else []
-        return State(self.image, self.checkpoint(entries)[1])
+    @cached_property
+    def entries(self):
+        """The entries of the trace, in its order."""
+        return self.program.trace[len(self.front):].split(b'\n')[1:-2]
 
-    def checkpoint(self, entries):
-        """The lines of the checkpoint behind entries of the trace: those of the trace, and those of the state."""
-        text = '\n'.join([f'{self.front}entries {len(entries)}', *entries, 'end', ''])
-        return Program(self.program.binary, text.encode()).save()
+    def saved(self, place):
+        """What the program saves at a place: the lines of the trace up to there, and those of the state."""
+        entries = [self.entries[at] for at in sorted(self.log().order[:place])] if place else []
+        text = b'\n'.join([self.front + b'entries %d' % place, *entries, b'end', b''])
+        return Program(self.program.binary, text).save()
+
+    def reached(self, place):
+        """The state at a place: that of the checkpoint before it, and the events since."""
+        begun = place - place % SPACING
+        state = Machine(self.image, self.sets, self.checkpoint(begun))
+        for at in range(begun, place):
+            state.step(self.event(at))
+        return state
 
     def reason(self, place):
         """Why the miss at a place missed, which the events up to there say: they are taken once."""
@@ -204,12 +220,6 @@ class Again:
 def stamp_of(line):
     """The stamp of a line of a log."""
     return int(line.partition(' ')[0])
-
-
-def entry_of(line):
-    """The entry of a trace that a line of a log is of."""
-    words = line.split(' ', 4)
-    return ' '.join(words[:4 if words[1] in 'DE' else 3])
 
 
 def read_log(program):

@@ -7,7 +7,8 @@ from pathlib import Path
 
 import cross
 import logs
-from alewife import LINE_BYTES, SHARED, digest_of, image_of, no_debugger, run_of
+from again import SPACING
+from alewife import LINE_BYTES, SHARED, checkpoint_of, digest_of, image_of, no_debugger, run_of
 from gdb_session import PC
 from gdb_wire import INTERRUPT, Wire
 from trials import LeftOut, expect
@@ -119,6 +120,18 @@ def registers_in(state):
             yield {**dict(enumerate(words.split(), 1)), 0: '0x00000000', 64: y, 65: f'0x{int(codes, 2) << 20:08x}', 68: pc, 69: npc}
 
 
+def messages_in(state):
+    """What the debugger has to say of the messages in the lines of a state: of packets, and then of those on links."""
+    packets, sent, node = [], [], None
+    for name, *words in map(str.split, state):
+        node = words[0] if name == 'node' else node
+        if name == 'packet':
+            packets.append('{0} of line {1} from node {2} waits for the trap handler of node {node}, sent at stamp {3}'.format(*words, node=node))
+        if name == 'link':
+            sent.append('{2} of line {3} from node {4} goes to node {1}, sent at stamp {5}'.format(*words))
+    return '\n'.join(packets + sent) or 'no message is on its way'
+
+
 def flat_memory(trace, events, place):
     """Shared data after so many events, by its stores in their order: the image's lines by address, and then what was stored."""
     memory = {}
@@ -134,6 +147,15 @@ def flat_memory(trace, events, place):
 # ---- the trials
 
 
+def expect_registers(client, state, what):
+    """Ends the trial where the debugger shows other registers of a context than the lines of a state."""
+    for context, registers in enumerate(registers_in(state)):
+        expect(client.ask(f'Hg{context + 1:x}') == b'OK', f'{what}: thread {context + 1}')
+        shown = re.findall('.{8}', client.ask('g').decode())
+        wrong = [number for number, word in registers.items() if shown[number] != word[2:]]
+        expect(not wrong and client.ask('p44').decode() == registers[68][2:], f'{what}: context {context}, registers {wrong}')
+
+
 def states_are_shown(trial):
     """The debugger shows at stamps the registers that save writes there, and memory as all stores up to there leave it"""
     keep_traces(trial)
@@ -142,17 +164,28 @@ def states_are_shown(trial):
         events, stamps = log_of(trial, name)[0], trial.states(name)[0]
         for stamp in stamps[::max(1, len(stamps) // 12)]:
             expect(client.monitor(f'stamp {stamp}').startswith(f'at stamp {stamp}, with '), f'{name}: stamp {stamp}')
-            state = trial.states(name)[1][stamps.index(stamp)].splitlines()
-            for context, registers in enumerate(registers_in(state)):
-                expect(client.ask(f'Hg{context + 1:x}') == b'OK', f'{name}: thread {context + 1}')
-                shown = re.findall('.{8}', client.ask('g').decode())
-                wrong = [number for number, word in registers.items() if shown[number] != word[2:]]
-                expect(not wrong and client.ask('p44').decode() == registers[68][2:], f'{name}: stamp {stamp}, context {context}, registers {wrong}')
+            expect_registers(client, trial.states(name)[1][stamps.index(stamp)].splitlines(), f'{name}: stamp {stamp}')
             memory = flat_memory(trace, events, sum(event.stamp <= stamp for event in events))
             wrong = [address for address in memory if client.memory(address, 1)[0] != memory[address]]
             expect(not wrong, f'{name}: stamp {stamp}, memory at {[hex(each) for each in wrong[:4]]}')
         expect(memory, f'{name}: nothing is stored')
         client.close()
+
+
+def checkpoints_lead_on(trial):
+    """In a run of several checkpoints too the debugger shows the registers and the messages that save writes, whichever way it comes to a stamp"""
+    words = ['run', '--limit', '2000', '--pointers', '1', '--write', 'trace']
+    trace = trial.program(words, trial.program(['asm'], (EXAMPLES / 'lock.s').read_bytes()), (5,))
+    trial.keep('long.trace', trace)
+    client, places = Client(trial, 'long'), set()
+    for stamp in (1900, 1901, 1200, 1100, 1000, 1001, 999, 2000):
+        told = re.fullmatch(rf'at stamp {stamp}, with (\d+) of \d+ events', client.monitor(f'stamp {stamp}'))
+        places.add(int(told[1]) // SPACING)
+        state = checkpoint_of(trial.program(['save', '--at', str(stamp)], trace).decode())[1]
+        expect_registers(client, state, f'stamp {stamp}')
+        expect(client.monitor('messages') == messages_in(state), f'stamp {stamp}: {client.monitor("messages")}')
+    expect(len(places) > 1, f'only {places}')
+    client.close()
 
 
 def turns_of(events, contexts):
@@ -373,5 +406,5 @@ def transcripts_come_again(trial):
             expect(ran.stdout.rstrip('\n') == wanted.rstrip('\n'), f'{file.name}: {command}: {ran.stdout}')
 
 
-TRIALS = (states_are_shown, steps_are_turns, stops_are_events, breakpoints_lose_nothing, traps_on_data_have_addresses, lines_begin_as_the_image_says,
+TRIALS = (states_are_shown, checkpoints_lead_on, steps_are_turns, stops_are_events, breakpoints_lose_nothing, traps_on_data_have_addresses, lines_begin_as_the_image_says,
           answers_come_before_the_log, runs_are_only_read, transcripts_come_again)
