@@ -3,7 +3,7 @@ import re
 from dataclasses import dataclass, replace
 
 import progress
-from alewife import RAN, ProgramError, called, image_of, image_rows
+from alewife import RAN, ProgramError, called, image_of, image_rows, options_of
 
 HEAD = re.compile(r'ALEWIFE OUTCOMES 1\nmesh \d+ \d+ contexts \d+ lines \d+\n(?:places (\d+)\n)?search (complete|stopped)\noutcomes (\d+)\n')
 OUTCOME = re.compile(r'outcome (\d+) prints (\d+) memory (\d+)(?: runs (\d+))?')
@@ -13,6 +13,8 @@ VERDICT = re.compile(r'differs (turn|print-count|print-context|print|memory)(?: 
 MOST_ASKED = 20000
 # The places that the program keeps where no word says how many, and those that a stage of a search keeps.
 MOST, STAGES = '1000000', (10_000, 100_000, 1_000_000)
+# The places that a search for a first trap begins with, and how many times as many each next one keeps.
+FIRST, TIMES = 1000, 4
 
 
 class TextError(Exception):
@@ -117,14 +119,38 @@ def stages(words):
     return [stage for stage in STAGES if most.isdecimal() and stage < int(most)]
 
 
+def growing(words):
+    """The numbers of places that a search for a first trap keeps at most before the one that the words say: all together a third of that one at most."""
+    most, bound = words[words.index('--most') + 1], FIRST
+    while most.isdecimal() and bound * TIMES <= int(most) <= most_taken():
+        yield bound
+        bound *= TIMES
+
+
+def most_taken():
+    """The greatest number of places that the program takes."""
+    return options_of('outcomes')['most']['last']
+
+
 def searched(binary, image, *words):
-    """What the program finds of an image's bytes, with the words of the call. Where a terminal looks on it searches in stages, till one is complete:
-    what each found is shown during the next."""
+    """What the program finds of an image's bytes, with the words of the call. Where a terminal looks on it searches in stages, till one is complete."""
+    return searched_by(binary, image, stages(words) if progress.is_seen() else (), words, lambda found: found.is_complete)
+
+
+def searched_to_trap(binary, image, *words):
+    """What the program finds of an image's bytes up to the first stage that lists a trap, or else in all, with as many places as the program takes where
+    the words don't say how many."""
+    words = words if '--most' in words else (*words, '--most', str(most_taken()))
+    return searched_by(binary, image, growing(words), words, lambda found: found.is_complete or found.traps)
+
+
+def searched_by(binary, image, bounds, words, is_enough):
+    """What the first is enough of searches with these numbers of places, and then with the words. What each found is shown during the next."""
     said = 'searching'
-    for stage in stages(words) if progress.is_seen() else ():
-        with progress.shown_as(lambda seconds, said=said: f'{said} up to {stage:,} places, {seconds:.0f} s'):
-            found = searched_once(binary, image, '--most', str(stage))
-        if found.is_complete:
+    for bound in bounds:
+        with progress.shown_as(lambda seconds, said=said: f'{said} up to {bound:,} places, {seconds:.0f} s'):
+            found = searched_once(binary, image, '--most', str(bound))
+        if is_enough(found):
             return found
         said = f'{len(found.outcomes)} outcomes, {len(found.traps)} traps so far;'
     with progress.shown_as(lambda seconds: f'{said} up to the last place, {seconds:.0f} s'):

@@ -4,6 +4,7 @@ import subprocess
 from pathlib import Path
 
 import cross
+import outcomes
 from trials import LeftOut, expect
 
 HERE = Path(__file__).resolve().parent
@@ -34,11 +35,11 @@ WRONG = (('gone > 1', 'the program has no variable gone in shared data'), ('pair
          ('less % 0', "'less % 0' divides by 0"), ('open("x")', '.* is no part of an expression: .*'), ('less if flag else 0', '.* is no part of an expression: .*'))
 
 
-def kept(trial, name, text):
-    """Keeps the image and the linked program of a source in C, for two nodes."""
+def kept(trial, name, text, nodes=2):
+    """Keeps the image and the linked program of a source in C, for so many nodes in a row."""
     trial.keep(f'{name}.c', text.encode())
     try:
-        image = cross.build([trial.folder / f'{name}.c'], cross.Sizes(2, 1, 1, 32), cross.Options(keep=trial.folder / f'{name}.elf'))
+        image = cross.build([trial.folder / f'{name}.c'], cross.Sizes(nodes, 1, 1, 32), cross.Options(keep=trial.folder / f'{name}.elf'))
     except cross.MissingTool as missing:
         raise LeftOut(missing) from missing
     trial.keep(f'{name}.img', image)
@@ -115,11 +116,43 @@ def statuses_are_the_searchs(trial):
         expect(said_of(trial, f'{name}.img', *words)[0] == status, f'{name}: the status is {said_of(trial, f"{name}.img", *words)[0]}, and that of outcomes {status}')
         if end:
             expect(said_of(trial, f'{name}.img', *end, '--tell')[0] == status and said_of(trial, f'{name}.img', *end)[0] == 0, f'{name}: of a story and of a claim')
-    for words, line in ((('--tell',), '--tell is of one end: --outcome K, --trap K or --stuck'), (('--never', 'x'), 'names of variables come by --elf'),
-                        (('--trace',), '--trace is of one end: --outcome K, --trap K or --stuck'),
+    for words, line in ((('--tell',), '--tell is of one end: --outcome K, --trap K, --stuck or --first'), (('--never', 'x'), 'names of variables come by --elf'),
+                        (('--trace',), '--trace is of one end: --outcome K, --trap K, --stuck or --first'),
+                        (('--first', '--stuck'), '--first stops at a trap: it goes with --trap K alone'),
                         (('--tell', '--trap', '0', '--trace'), 'argument --trace: not allowed with argument --tell')):
         status, _, said = said_of(trial, 'spin.img', *words)
         expect((status, said) == (2, f'alewife-outcomes: error: {line}'), said)
+
+
+STOPPED = ['no outcomes, 4 traps: the search stopped with a trap found, in 16000 places',
+           'there may be other traps and outcomes: only a search without --first lists all']
+
+
+def searches_stop_at_traps(trial):
+    """With --first alewife-outcomes searches four times as many places each time till a trap is listed, tells it, and says what that says of others"""
+    trial.keep_program('asked', f'[ "$1" != outcomes ] || echo "$3" >> bounds; exec {trial.binary} "$@"')
+    words = kept(trial, 'torn', (OUTCOMES / 'torn.c').read_text(), 4)
+    status, lines, _ = said_of(trial, *words, '--first', '--program', './asked')
+    expect((trial.folder / 'bounds').read_text().split() == ['1000', '4000', '16000'], 'how many places each search keeps')
+    traps = [line for line in lines if line.startswith('trap ')]
+    expect((status, lines) == (4, [*STOPPED, *traps, 'whether an end can be reached from each place is unknown']) and len(traps) == 4, lines)
+    expect(traps == [line for line in said_of(trial, *words)[1] if line.startswith('trap ')], 'they are those of the whole search')
+    (_, claim, said), (_, trace, also) = (said_of(trial, words[0], '--first', *more) for more in (('--trap', '0'), ('--trace',)))
+    expect(said == also == f'alewife-outcomes: {"; ".join(STOPPED)}', f'beside a claim {said}, and beside a trace {also}')
+    run = trial.program(['replay', '--write', 'claim'], ''.join(f'{line}\n' for line in trace).encode(), (4,))
+    expect(run.decode().splitlines() == claim, 'the trace is that of trap 0')
+    status, story, _ = said_of(trial, *words, '--first', '--tell')
+    turns = sum(count for _, count in outcomes.turns_in('\n'.join(claim)))
+    expect(status == 4 and story[:3] == lines[:3] and story[-1].startswith(f'{turns} turns: '), f'the story of trap 0: {story}')
+    for name, more, status, wanted in (('peterson', (), 0, 'no order traps'), ('wakeup', ('--tell',), 5, 'no order traps'), ('exchanged', (), 4, None),
+                                       ('spin', ('--most', '5'), 5, 'whether an order traps is unknown'), ('peterson', ('--trace',), 1, None)):
+        trial.keep(f'{name}.img', trial.program(['asm'], (OUTCOMES / f'{name}.s').read_bytes()))
+        found, lines, said = said_of(trial, f'{name}.img', '--first', *more)
+        whole = said_of(trial, f'{name}.img', *(() if more == ('--tell',) else more))[1]
+        expect(found == status and lines == [*whole[:1], *[wanted] * bool(wanted), *whole[1:]], f'{name}: {found} {lines} {said}')
+    expect(re.fullmatch(r'alewife-outcomes: \d+ outcomes, no traps: these are all, in \d+ places; no order traps', said), said)
+    sums = {most: sum(outcomes.growing(('--most', str(most)))) for most in (1, 3999, 4000, 1000000, outcomes.most_taken(), outcomes.most_taken() + 1)}
+    expect(all(3 * total <= most for most, total in sums.items()), f'a third more than the last search: {sums}')
 
 
 # Two slots of one node, each of which stores 1 and then prints the other's word: both print 1 where both stores come first.
@@ -194,5 +227,5 @@ def claims_are_named(trial):
         expect(ran.returncode == 1 and re.fullmatch(line, ran.stderr.strip()), f'{ran.returncode} {ran.stderr}')
 
 
-TRIALS = (stories_are_of_claims, parts_have_names_and_values, statuses_are_the_searchs, traces_are_of_claims, traps_on_data_are_told, places_have_names,
-          claims_are_named)
+TRIALS = (stories_are_of_claims, parts_have_names_and_values, statuses_are_the_searchs, searches_stop_at_traps, traces_are_of_claims, traps_on_data_are_told,
+          places_have_names, claims_are_named)
