@@ -179,9 +179,9 @@ def loop(mesh, message, line, place):
     return f'<path d="M{x} {top}C{x} {top - 16} {x + 16} {top - 16} {x + 16} {top - 7}" {drawn}/>' + head(x + 16, top, 0, 1, colour)
 
 
-def legend(width, top, stamp, messages, line):
+def legend(width, top, stamp, messages, line, name):
     """What is on its way, with the stroke of each kind, in rows of a width below a place, and where they end."""
-    said = f'line {line} at stamp {stamp}; ' + ('on their way:' if messages else 'nothing is on its way')
+    said = f'line {line}{name and f" ({cut(name, 20)})"} at stamp {stamp}; ' + ('on their way:' if messages else 'nothing is on its way')
     x, y = MARGIN + LETTER * (len(said) + 2), top + ROW
     parts = [text(MARGIN, y, said)]
     counts = Counter((each.line != line, each.kind) for each in messages)
@@ -219,15 +219,15 @@ def events_at(run, stamp):
     return {int(words[2] if words[0] == 'D' else words[1]): EVENTS[words[0]] for words in events}
 
 
-def picture(run, state, stamp, loads, line):
-    """The picture of a state at a stamp. The loads of the wires are those of the whole run, or None."""
+def picture(run, state, stamp, loads, line, name=''):
+    """The picture of a state at a stamp, of a line and what lies in it. The loads of the wires are those of the whole run, or None."""
     (nodes, messages), events = read_state(state, line), events_at(run, stamp)
     rows = max(len(node.rows) for node in nodes)
     mesh = Mesh(*frames.start_of(run.image)['mesh'], ROW * (max(rows, 2) + 1) + 10)
     totals = {(sender, receiver): load for sender, receiver, load in loads or ()}
     width, height = mesh.size()
     width = max(width, MARGIN + round(LETTER * 48))
-    told, height = legend(width, height, stamp, messages, line)
+    told, height = legend(width, height, stamp, messages, line, name)
     parts = [f'<svg xmlns="http://www.w3.org/2000/svg" width="{width}" height="{height}" viewBox="0 0 {width} {height}" '
              f'font-family="monospace" font-size="{SIZE}" fill="none">',
              f'<desc>image {digest_of(run.image)}, stamp {stamp}, line {line}</desc>',
