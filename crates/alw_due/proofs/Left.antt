@@ -1,19 +1,18 @@
 -- The first of the due events of a node stays where an event of another one sends nothing to it, and not every context halts with it.
-use Rattle.std.proofs.Common.{◌≡◌, ◌≢◌, ℕ, zero, suc, ◌<◌, ◌≤◌, Bool, true, false, cond, not, ◌&&◌, ◌||◌, ◌==◌, IsTrue, Option, Some, None, List, [], ◌∷◌, find, length, slice_set, slice_index_or, ◌⊎◌, inl, inr, refl, sym, ap, subst, ◌∙◌}
+use Rattle.std.proofs.Common.{◌≡◌, ◌≢◌, ℕ, zero, suc, ◌<◌, Bool, true, false, not, ◌&&◌, ◌||◌, ◌==◌, IsTrue, Option, Some, None, List, [], ◌∷◌, slice_set, slice_index_or, inl, inr, refl, sym, ap, subst, ◌∙◌}
 use Rattle.std.specs.List.{list_all}
-use Rattle.std.proofs.lemmas.Bool.{true≢false, ne_eqb, cases_lt}
-use Rattle.std.proofs.Math.ListN.{get_or-eq_default}
+use Rattle.std.proofs.lemmas.Bool.{ne_eqb}
 use Rattle.alw_msg.specs.declared.messages.Msg.{Msg}
 use Rattle.alw_msg.specs.declared.events.Event.{Event}
 use Rattle.alw_msg.specs.declared.events.Event.TheVariants.{Instr, Handle, Deliver, Evict}
 use Rattle.alw_msg.specs.Events.{node_of}
-use Rattle.alw_msg.specs.Statuses.{is_ready}
 use Rattle.alw_image.specs.Images.{node_count}
-use Rattle.alw_model.specs.Contexts.{Slot, no_slot, slot_at, running, turn_order, all_halted}
+use Rattle.alw_model.specs.Contexts.{running, all_halted}
 use Rattle.alw_model.specs.NodeStates.{NodeState}
 use Rattle.alw_model.specs.Machine.{MachineState, node_at, no_node, is_enabled, has_halted, stepped_by, step}
 use Rattle.alw_model.proofs.Journals.{and_parts, state_push}
 use Rattle.law_lines.specs.Links.{GoBelow, msgs_to}
+use Rattle.alw_proc.proofs.Keeping.{runs_within}
 use Rattle.law_order.proofs.Aimed.{sends_below}
 use Rattle.law_order.proofs.Local.{node_kept}
 use Rattle.law_order.proofs.Clocks.{node_stepped}
@@ -41,24 +40,6 @@ use Rattle.alw_due.proofs.Mains.{here}
 use Rattle.alw_due.proofs.Stays.{SlotIsWithin, packets_stay, start_stays, arrival_stays}
 
 -- ---- the slot that runs exists
-
-found_passes : (p : ℕ → Bool) (xs : List ℕ) (x : ℕ) → find p xs ≡ Some x → p x ≡ true
-found_passes p [] x e = absurd (cc)
-found_passes p (y ∷ ys) x e = go (p y) refl e (found_passes p ys x)
-  where
-    go : (b : Bool) → p y ≡ b → cond b (Some y) (find p ys) ≡ Some x → (find p ys ≡ Some x → p x ≡ true) → p x ≡ true
-    go true passes f next = let same : y ≡ x = cc in rw (← same) passes
-    go false fails f next = next f
-
-runs_within : (slots : List Slot) (current slot : ℕ) → running slots current ≡ Some slot → slot < length slots
-runs_within slots current slot runs = go (cases_lt slot (length slots))
-  where
-    go : (slot < length slots) ⊎ (length slots ≤ slot) → slot < length slots
-    go (inl l) = l
-    go (inr m) =
-        let none : slot_at slots slot ≡ no_slot = get_or-eq_default slots no_slot m in
-        let ready = found_passes (λ k. is_ready (slot_at slots k).status) (turn_order current (length slots)) slot runs in
-        absurd (true≢false (sym ready ∙ ap (λ (s : Slot). is_ready s.status) none))
 
 slot_within : (h : History) → IsRun h → (n : ℕ) → n < node_count h.image → (o : Option ℕ) → running (node_in h n).slots (node_in h n).current ≡ o → SlotIsWithin h.image o
 slot_within h run n exists None runs = tt
