@@ -11,7 +11,7 @@ use crate::reactions::react;
 use alw_model::Keeping;
 use alw_msg::{Kind, Msg, Sends};
 use alw_num::{MOST_NODES, Meta, State};
-use dir_hw::{HomeEntry, MOST_POINTERS};
+use dir_hw::HomeEntry;
 
 /// What became of a message to memory: hardware acted on it, it trapped, or it stays at the head of
 /// its link because the line is Trans-In-Progress.
@@ -24,10 +24,9 @@ pub enum Acted {
 
 /// Delivers a message to memory at its home, whose entry may have so many hardware pointers (ASPLOS
 /// 1991, section 4). What hardware sends is appended to `sent`.
-pub fn deliver(entry: &mut HomeEntry, pointers: u8, msg: &Msg, sent: &mut Sends) -> Acted
+pub fn deliver(entry: &mut HomeEntry, pointers: u16, msg: &Msg, sent: &mut Sends) -> Acted
     requires to_memory { IsTrue (to_memory msg.now.kind) }
     requires some { 1 ≤ pointers }
-    requires most { pointers ≤ MOST_POINTERS }
     requires few { count_nodes entry.old.pointers ≤ pointers }
     requires room { HasRoom entry.old.pointers msg.now.src.0 sent.old }
     ensures { (software : Nodes) → (always : Bool) →
@@ -54,7 +53,7 @@ pub fn deliver(entry: &mut HomeEntry, pointers: u8, msg: &Msg, sent: &mut Sends)
 }
 
 // Whether a message traps.
-fn traps(entry: &HomeEntry, most: u8, msg: &Msg) -> bool
+fn traps(entry: &HomeEntry, most: u16, msg: &Msg) -> bool
     requires to_memory { IsTrue (to_memory msg.now.kind) }
     requires node { msg.now.src.0 < MOST_NODES }
     ensures { result ≡ is_trap most (directory_of entry.now no_nodes false) msg.now.src.0 (content msg.now) }
@@ -69,7 +68,7 @@ fn traps(entry: &HomeEntry, most: u8, msg: &Msg) -> bool
 }
 
 // A read finds no pointer left.
-fn overflows(entry: &HomeEntry, most: u8, msg: &Msg) -> bool
+fn overflows(entry: &HomeEntry, most: u16, msg: &Msg) -> bool
     requires { msg.now.src.0 < MOST_NODES }
     ensures { result ≡ is_overflow most entry.now.pointers msg.now.src.0 entry.now.state (content msg.now) }
 {

@@ -17,7 +17,7 @@ mod writing;
 pub use faults::ImageErr;
 pub use images::Image;
 pub use laws::images_are_read;
-pub use parameters::{MOST_LIMIT, MOST_POINTERS, Params, SET_COUNTS};
+pub use parameters::{FEW_POINTERS, MOST_LIMIT, MOST_POINTERS, Params, SET_COUNTS};
 pub use parts::{Bodies, Code, LineList, Parts, Starts};
 pub use reading::read_image;
 pub use writing::write_image;

@@ -1,10 +1,13 @@
-ghost use Rattle.std.specs.Prelude.{◌≡◌, ◌↔◌, IsSome, IfSome};
-ghost use Rattle.alw_image.specs.Parameters.{Parameters, AreParameters};
+ghost use Rattle.std.specs.Prelude.{◌≡◌, ◌≤◌, ◌↔◌, IsSome, IfSome};
+ghost use Rattle.alw_image.specs.Parameters.{Parameters, AreParameters, parameters_for};
 
 use std::marker::Model;
 
-/// The most hardware pointers that an entry can have.
-pub const MOST_POINTERS: u8 = 8;
+/// The most hardware pointers of an entry that isn't a full map.
+pub const FEW_POINTERS: u16 = 8;
+
+/// The most hardware pointers that an entry can have: one for each of as many nodes as there can be.
+pub const MOST_POINTERS: u16 = 256;
 
 /// How many sets a cache can have: a power of two from 4 to 4096.
 pub const SET_COUNTS: [u32; 11] = [4, 8, 16, 32, 64, 128, 256, 512, 1024, 2048, 4096];
@@ -17,7 +20,7 @@ pub const MOST_LIMIT: u32 = 1_048_576;
 /// schedule tries an eviction (0 to 255).
 #[derive(Clone, Copy, PartialEq, Eq)]
 pub struct Params {
-    pointers: u8,
+    pointers: u16,
     sets: u32,
     limit: u32,
     evict: u8,
@@ -37,7 +40,7 @@ impl Model for Params {
 
 impl Params {
     /// These parameters. None exactly where one of the four is outside its range.
-    pub fn new(pointers: u8, sets: u32, limit: u32, evict: u8) -> Option<Params>
+    pub fn new(pointers: u16, sets: u32, limit: u32, evict: u8) -> Option<Params>
         ensures allowed { IsSome result ↔ AreParameters (record { pointers = pointers; sets = sets; limit = limit; evict = evict }) }
         ensures value { IfSome result (λ p. p ≡ record { pointers = pointers; sets = sets; limit = limit; evict = evict }) }
     {
@@ -52,7 +55,7 @@ impl Params {
     }
 
     /// The parameters of these values, each of which is within its range.
-    pub fn of(pointers: u8, sets: u32, limit: u32, evict: u8) -> Params
+    pub fn of(pointers: u16, sets: u32, limit: u32, evict: u8) -> Params
         requires { AreParameters (record { pointers = pointers; sets = sets; limit = limit; evict = evict }) }
         ensures { result ≡ record { pointers = pointers; sets = sets; limit = limit; evict = evict } }
     {
@@ -64,8 +67,23 @@ impl Params {
         }
     }
 
+    /// These for a machine of so many nodes: where an entry is to have more than a few pointers, it has one for
+    /// each node, and so is a full map.
+    pub fn for_nodes(&self, nodes: u16) -> Params
+        requires some { 1 ≤ nodes }
+        requires most { nodes ≤ MOST_POINTERS }
+        ensures { result ≡ parameters_for nodes self.now }
+    {
+        let pointers = if self.pointers <= FEW_POINTERS {
+            self.pointers
+        } else {
+            nodes
+        };
+        Params { pointers, ..*self }
+    }
+
     /// Hardware pointers of an entry.
-    pub fn pointers(&self) -> u8
+    pub fn pointers(&self) -> u16
         ensures value { result ≡ self.now.pointers }
         ensures allowed { AreParameters self.now }
     {

@@ -134,7 +134,7 @@ module _ (m : Memory) (msg : Msg) (e : Directory) (result : Acted) (sent sent' :
           outcome = refl;
         };
         stands = act_keeps m (msg.line.0 % m.per_node) act.0 is l
-            (acted_stands m.pointers m.nodes D msg.src.0 said is.pointers.0 (is.entries (msg.line.0 % m.per_node)) from t free) free free;
+            (acted_stands m.pointers m.nodes D msg.src.0 said is.pointers (is.entries (msg.line.0 % m.per_node)) from t free) free free;
       })
 
   pub delivered : (traps : Bool) → traps ≡ has_trapped result → Goes m (left e traps) sent sent' (did_after traps) (takes sent.stamp m msg (content msg))

@@ -75,6 +75,6 @@ module _ (m : Memory) (packet : Msg) (rest : List Msg) (e : Directory) (table ta
               outcome = refl;
             };
             stands = handle_keeps m (packet.line.0 % m.per_node) after.0 packet rest is front l
-                (handled_stands m.pointers m.nodes D packet.src.0 said is.pointers.0 (is.entries (packet.line.0 % m.per_node)) one.from) at
+                (handled_stands m.pointers m.nodes D packet.src.0 said is.pointers (is.entries (packet.line.0 % m.per_node)) one.from) at
                 (handled_free D packet.src.0 said);
           })

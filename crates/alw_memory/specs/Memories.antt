@@ -33,7 +33,7 @@ pub record IsMemory (m : Memory) : Type 0 where
   pub number : m.number < m.nodes
   pub nodes : m.nodes ≤ 256
   pub per_node : (1 ≤ m.per_node) × (m.per_node ≤ 4096)
-  pub pointers : (1 ≤ m.pointers) × (m.pointers ≤ 8)
+  pub pointers : 1 ≤ m.pointers
   pub homes : length m.homes ≡ m.per_node
   pub entries : (place : ℕ) → Stands m.pointers m.nodes (entry_at m.homes place)
   pub packets : AllByRecursion (IsPacket m.nodes m.per_node m.number) m.packets

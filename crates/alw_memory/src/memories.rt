@@ -38,7 +38,7 @@ pub struct Memory {
     nodes: u32,
     per_node: u16,
     first: u32,
-    pointers: u8,
+    pointers: u16,
     homes: Vec<HomeLine>,
     soft: SoftDir,
     packets: VecDeque<Msg>,

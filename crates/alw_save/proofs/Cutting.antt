@@ -6,7 +6,7 @@ use Rattle.alw_image.specs.Parameters.{Parameters}
 use Rattle.alw_model.specs.Machine.{IsLegal, state}
 use Rattle.law_order.specs.Orders.{kept_by, later_than}
 use Rattle.law_order.proofs.Reached.{cut_whole, cut_state, cut_front}
-use Rattle.alw_mesh.specs.Histories.{History, IsRun, Fits, stamps_of}
+use Rattle.alw_mesh.specs.Histories.{History, IsRun, Fits}
 use Rattle.alw_mesh.specs.declared.errors.FitErr.{FitErr}
 use Rattle.alw_mesh.specs.declared.errors.FitErr.TheVariants as fits
 use Rattle.alw_mesh.proofs.Journals.{journal_fits}
@@ -50,15 +50,12 @@ module _ (trace : Trace) where
   not_fit (fits.DoesNotFit number most) is = is
   not_fit fits.NoMemory is = absurd is
 
-  module _ {machine : History} {kept : ℕ} (is : IsReplayed trace.image trace.params trace.journal machine kept) where
-    fits_here : stamps_of trace.image trace.params ≤ 8388608
-    fits_here = subst (λ (h : History). stamps_of h.image h.parameters ≤ 8388608) is.is is.run.fits
-
+  module _ {machine : History} {kept : ℕ} (is : Replays trace.image trace.params trace.journal (Ok (record { machine = machine; kept = kept }))) where
     pub not_legal : kept < length trace.journal → IsNoCut trace (NotLegal kept)
-    not_legal few = (fits_here, first_illegal is few)
+    not_legal few = (is.0, first_illegal is.1 few)
 
     pub all_left : length trace.journal ≤ kept → LeavesAll trace (Ok machine)
-    all_left all = (record { fits = fits_here; legal = all_legal is all }, is.run, all_taken is all)
+    all_left all = (record { fits = is.0; legal = all_legal is.1 all }, is.1.run, all_taken is.1 all)
 
   -- a machine's journal has fewer than 2^32 entries
   pub few_entries : (machine : History) (entries : List Entry) → LeavesAll trace (Ok machine) → entries ≡ trace.journal → length entries < 4294967296

@@ -1,10 +1,13 @@
 -- What bytes are restored to, or why they aren't.
-use Rattle.std.proofs.Common.{◌≡◌, ℕ, ◌+◌, Result, Ok, Err, Option, None, Some, List, ◌++◌, codes, refl, sym, ap, subst, ◌∙◌}
+use Rattle.std.proofs.Common.{◌≡◌, ℕ, ◌+◌, ◌≤◌, true, Result, Ok, Err, Option, None, Some, List, ◌++◌, codes, refl, sym, ap, subst, ◌∙◌}
 use Rattle.alw_msg.specs.declared.events.Entry.{Entry}
 use Rattle.alw_image.specs.declared.parts.Parts.{Parts}
+use Rattle.alw_image.specs.Images.{node_count}
 use Rattle.alw_image.specs.Numbers.{HasWords}
+use Rattle.alw_image.specs.Parameters.{may_point}
 use Rattle.alw_model.specs.Machine.{state}
-use Rattle.alw_mesh.specs.Histories.{History, IsRun, state_of}
+use Rattle.alw_mesh.specs.Histories.{History, IsRun, state_of, stamps_of}
+use Rattle.alw_mesh.specs.Limits.{most_steps}
 use Rattle.alw_report.specs.Reports.{params_line}
 use Rattle.alw_trace.specs.declared.values.Trace.{Trace}
 use Rattle.alw_trace.specs.declared.fronts.Front.{Front}
@@ -75,6 +78,8 @@ module _ (bytes rest : List ℕ) (front : Front) (read : IsFrontRead (codes "ALE
     restored same = record {
       evict_is = ap (λ (h : History). h.parameters.evict) is.2;
       run = is.1;
+      fits = subst (λ (h : History). stamps_of h.image h.parameters ≤ most_steps) (sym is.2) is.0.fits;
+      points = subst (λ (h : History). may_point (node_count h.image) h.parameters.pointers ≡ true) (sym is.2) title_is.is.points;
       words = subst (λ (h : History). HasWords h.image) (sym is.2) title_is.types.0;
       text = text_is same ∙ ap (λ (h : History). checkpoint_text h.image h.parameters h.journal) (sym is.2);
     }

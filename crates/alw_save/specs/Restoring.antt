@@ -1,8 +1,11 @@
 -- What the bytes of a checkpoint are read as: the machine that they leave, or the deciding fault.
-use Rattle.std.specs.Prelude.{◌≡◌, ◌≢◌, ℕ, ◌+◌, Result, Ok, Err, List, ⊤}
+use Rattle.std.specs.Prelude.{◌≡◌, ◌≢◌, ℕ, ◌+◌, ◌≤◌, true, Result, Ok, Err, List, ⊤}
+use Rattle.alw_image.specs.Images.{node_count}
 use Rattle.alw_image.specs.Numbers.{HasWords}
+use Rattle.alw_image.specs.Parameters.{may_point}
 use Rattle.alw_model.specs.Machine.{state}
-use Rattle.alw_mesh.specs.Histories.{History, IsRun}
+use Rattle.alw_mesh.specs.Histories.{History, IsRun, stamps_of}
+use Rattle.alw_mesh.specs.Limits.{most_steps}
 use Rattle.alw_trace.specs.declared.values.Trace.{Trace}
 use Rattle.alw_trace.specs.declared.faults.TextErr.{TextErr}
 use Rattle.alw_trace.specs.declared.faults.TextErr.TheVariants as text
@@ -23,10 +26,13 @@ with_evict trace evict = record {
   journal = trace.journal;
 }
 
--- the bytes are the checkpoint of a machine with this evict, of an image of 32-bit words
+-- the bytes are the checkpoint of a machine with this evict, of an image of 32-bit words, whose nodes have no more stamps together than the most, and
+-- whose entries may have as many pointers as they have
 pub record IsCheckpoint (bytes : List ℕ) (evict : ℕ) (machine : History) : Type 0 where
   pub evict_is : machine.parameters.evict ≡ evict
   pub run : IsRun machine
+  pub fits : stamps_of machine.image machine.parameters ≤ most_steps
+  pub points : may_point (node_count machine.image) machine.parameters.pointers ≡ true
   pub words : HasWords machine.image
   pub text : bytes ≡ checkpoint_text machine.image machine.parameters machine.journal
 

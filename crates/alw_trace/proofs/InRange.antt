@@ -32,17 +32,17 @@ pub record JournalSoFar (nodes sets first : ℕ) (entries rest : List RawEntry) 
 
 -- ---- the lines of a trace
 
-pub params_unfit : (nodes line : ℕ) (lines : TraceLines) → line ≡ behind_image lines.image → are_parameters lines.params ≡ false
+pub params_unfit : (nodes line : ℕ) (lines : TraceLines) → line ≡ behind_image lines.image → are_parameters nodes lines.params ≡ false
     → first_unfit (trace_tests nodes lines) ≡ Some line
 unfolding trace_tests
 params_unfit nodes line lines here unfit = rw unfit (ap Some (sym here))
 
-pub count_unfit : (nodes line : ℕ) (lines : TraceLines) → line ≡ behind_image lines.image → are_parameters lines.params ≡ true
+pub count_unfit : (nodes line : ℕ) (lines : TraceLines) → line ≡ behind_image lines.image → are_parameters nodes lines.params ≡ true
     → is_short lines.journal ≡ false → first_unfit (trace_tests nodes lines) ≡ Some (line + 1)
 unfolding trace_tests
 count_unfit nodes line lines here fit long = rw (fit, long) (ap (λ (n : ℕ). Some (n + 1)) (sym here))
 
-pub entry_unfit : (nodes line fault : ℕ) (lines : TraceLines) → line ≡ behind_image lines.image → are_parameters lines.params ≡ true
+pub entry_unfit : (nodes line fault : ℕ) (lines : TraceLines) → line ≡ behind_image lines.image → are_parameters nodes lines.params ≡ true
     → is_short lines.journal ≡ true
     → first_unfit (tested (fits_entry nodes lines.params.sets) (line + 2) lines.journal) ≡ Some fault → first_unfit (trace_tests nodes lines) ≡ Some fault
 unfolding trace_tests
@@ -88,25 +88,30 @@ typed text lines (Err fault) form ok = tt
 pub no_fault : (bytes other : List ℕ) (image : Parts) → bytes ≡ other → IsImageOf bytes image → image_fault other ≡ None
 no_fault bytes other image e is = ap image_fault (sym e) ∙ is.accepted
 
-pub wrong_params : (bytes : List ℕ) (lines : TraceLines) (image : Parts) (line : ℕ) → bytes ≡ lines.image → IsImageOf bytes image
-    → line ≡ behind_image lines.image → are_parameters lines.params ≡ false → IsNoTrace lines (Range line)
-wrong_params bytes lines image line e is here unfit =
-    (no_fault bytes lines.image image e is, params_unfit (node_count (image_in lines.image)) line lines here unfit)
+-- how many nodes its image has
+nodes_in : (bytes other : List ℕ) (image : Parts) (nodes : ℕ) → bytes ≡ other → IsImageOf bytes image → nodes ≡ node_count image
+    → nodes ≡ node_count (image_in other)
+nodes_in bytes other image nodes e is count = count ∙ ap node_count (is.parts ∙ ap image_in e)
 
-pub wrong_count : (bytes : List ℕ) (raw : RawTrace) (image : Parts) (line : ℕ) → bytes ≡ raw.image → IsImageOf bytes image → line ≡ behind_image raw.image
-    → are_parameters (lines_of raw).params ≡ true
+pub wrong_params : (bytes : List ℕ) (lines : TraceLines) (image : Parts) (line nodes : ℕ) → bytes ≡ lines.image → IsImageOf bytes image
+    → line ≡ behind_image lines.image → nodes ≡ node_count image → are_parameters nodes lines.params ≡ false → IsNoTrace lines (Range line)
+wrong_params bytes lines image line nodes e is here count unfit =
+    (no_fault bytes lines.image image e is, rw (← nodes_in bytes lines.image image nodes e is count) (params_unfit nodes line lines here unfit))
+
+pub wrong_count : (bytes : List ℕ) (raw : RawTrace) (image : Parts) (line nodes : ℕ) → bytes ≡ raw.image → IsImageOf bytes image
+    → line ≡ behind_image raw.image → nodes ≡ node_count image → are_parameters nodes (lines_of raw).params ≡ true
     → 4294967295 < length raw.entries.items → IsNoTrace (lines_of raw) (Range (line + 1))
-wrong_count bytes raw image line e is here fit long =
+wrong_count bytes raw image line nodes e is here count fit long =
     let size = length-map raw.entries.items entry_of in
     let many : is_short (map entry_of raw.entries.items) ≡ false = grind (arith, nat_tests) in
-    (no_fault bytes raw.image image e is, count_unfit (node_count (image_in raw.image)) line (lines_of raw) here fit many)
+    (no_fault bytes raw.image image e is, rw (← nodes_in bytes raw.image image nodes e is count) (count_unfit nodes line (lines_of raw) here fit many))
 
 pub wrong_entry : (bytes : List ℕ) (raw : RawTrace) (image : Parts) (params : Parameters) (line nodes sets : ℕ) (entries : List RawEntry)
     (fault : TextErr) → bytes ≡ raw.image → IsImageOf bytes image
-    → line ≡ behind_image raw.image → are_parameters (lines_of raw).params ≡ true → length raw.entries.items ≤ 4294967295
-    → nodes ≡ node_count image → params ≡ (lines_of raw).params → sets ≡ params.sets → entries ≡ raw.entries.items
+    → line ≡ behind_image raw.image → nodes ≡ node_count image → are_parameters nodes (lines_of raw).params ≡ true
+    → length raw.entries.items ≤ 4294967295 → params ≡ (lines_of raw).params → sets ≡ params.sets → entries ≡ raw.entries.items
     → IsRangeFault (λ at. first_unfit (tested (fits_entry nodes sets) (line + 2) (map entry_of entries)) ≡ Some at) fault → IsNoTrace (lines_of raw) fault
-wrong_entry bytes raw image params line nodes sets entries fault e is here fit few count three set all = go fault
+wrong_entry bytes raw image params line nodes sets entries fault e is here count fit few three set all = go fault
   where
     size : length (map entry_of raw.entries.items) ≡ length raw.entries.items
     size = length-map raw.entries.items entry_of
@@ -115,7 +120,7 @@ wrong_entry bytes raw image params line nodes sets entries fault e is here fit f
     short = let count = size in let most = few in grind (arith, nat_tests)
 
     number : nodes ≡ node_count (image_in raw.image)
-    number = count ∙ ap node_count (is.parts ∙ ap image_in e)
+    number = nodes_in bytes raw.image image nodes e is count
 
     lines : TraceLines
     lines = lines_of raw
@@ -128,9 +133,8 @@ wrong_entry bytes raw image params line nodes sets entries fault e is here fit f
     go (Syntax at) none = none
     go (Image f) none = absurd none
     go (Range at) is_at =
-        let there : first_unfit (tested (fits_entry (node_count (image_in raw.image)) lines.params.sets) (line + 2) lines.journal) ≡ Some at =
-        ap (λ (n : ℕ). first_unfit (tested (fits_entry n lines.params.sets) (line + 2) lines.journal)) (sym number)
-        ∙ ap (λ (s : ℕ). first_unfit (tested (fits_entry nodes s) (line + 2) lines.journal)) (sym sets-is)
+        let there : first_unfit (tested (fits_entry nodes lines.params.sets) (line + 2) lines.journal) ≡ Some at =
+        ap (λ (s : ℕ). first_unfit (tested (fits_entry nodes s) (line + 2) lines.journal)) (sym sets-is)
         ∙ ap (λ (es : List RawEntry). first_unfit (tested (fits_entry nodes sets) (line + 2) (map entry_of es))) (sym all) ∙ is_at in
-        (no_fault bytes lines.image image e is, entry_unfit (node_count (image_in raw.image)) line at lines here fit short there)
+        (no_fault bytes lines.image image e is, rw (← number) (entry_unfit nodes line at lines here fit short there))
     go NoMemory none = tt

@@ -214,7 +214,7 @@ trace_passes : (t : Trace) → IsTrace t → HasTraceTypes t → first_unfit (tr
 unfolding trace_tests
 trace_passes t is types =
     let short : is_short t.journal ≡ true = (let l = types.1 in grind (arith, nat_tests)) in
-    rw (fit t.params is.params, short) (all_pass (node_count t.image) t.params.sets _ t.journal is.journal)
+    rw (fit (node_count t.image) t.params is.params is.points, short) (all_pass (node_count t.image) t.params.sets _ t.journal is.journal)
 
 pub image_back : (p : Parts) → IsImage p → HasWords p → image_in (spelling p) ≡ p
 image_back p i w = ap (λ (h : Header). parts_in h (spelling p)) (header-of_spelling p i) ∙ parts_back p i w

@@ -3,7 +3,7 @@ use Rattle.std.proofs.Common.{◌≡◌, ℕ, ◌≤◌, ◌==◌, ◌||◌, Boo
 use Rattle.std.specs.List.{list_any, AllByRecursion}
 use Rattle.std.proofs.lemmas.Bool.{false≢true, eqb-true, and_from, and_parts}
 use Rattle.std.proofs.lemmas.Bool.Decides.{nat_tests}
-use Rattle.alw_image.specs.Parameters.{Parameters, AreParameters, set_counts}
+use Rattle.alw_image.specs.Parameters.{Parameters, AreParameters, may_point, set_counts}
 use Rattle.alw_image.specs.Faults.{is_within}
 use Rattle.alw_trace.specs.Readings.{are_parameters}
 
@@ -16,28 +16,37 @@ low least most n is = grind (arith, nat_tests)
 high : (least most n : ℕ) → is_within least most n ≡ true → n ≤ most
 high least most n is = grind (arith, nat_tests)
 
-pub fit : (p : Parameters) → AreParameters p → are_parameters p ≡ true
-fit p are = and_from _ _ (within _ _ p.pointers are.some_pointer are.pointers) (and_from _ _ are.sets (within _ _ p.limit are.some_limit are.limit))
+some_pointer : (nodes pointers : ℕ) → 1 ≤ nodes → may_point nodes pointers ≡ true → 1 ≤ pointers
+some_pointer nodes pointers some points = grind (arith, nat_tests)
 
-allowed : (p : Parameters) → p.evict ≡ 0 → are_parameters p ≡ true → AreParameters p
-allowed p none is =
+few_pointers : (nodes pointers : ℕ) → nodes ≤ 256 → may_point nodes pointers ≡ true → pointers ≤ 256
+few_pointers nodes pointers few points = grind (arith, nat_tests)
+
+pub fit : (nodes : ℕ) (p : Parameters) → AreParameters p → may_point nodes p.pointers ≡ true → are_parameters nodes p ≡ true
+fit nodes p are points = and_from _ _ points (and_from _ _ are.sets (within _ _ p.limit are.some_limit are.limit))
+
+allowed : (nodes : ℕ) (p : Parameters) → 1 ≤ nodes → nodes ≤ 256 → p.evict ≡ 0 → are_parameters nodes p ≡ true → AreParameters p
+allowed nodes p some few none is =
     let first = and_parts _ _ is in
     let second = and_parts _ _ first.1 in
     record {
-      some_pointer = low _ _ p.pointers first.0;
-      pointers = high _ _ p.pointers first.0;
+      some_pointer = some_pointer nodes p.pointers some first.0;
+      pointers = few_pointers nodes p.pointers few first.0;
       sets = second.0;
       some_limit = low _ _ p.limit second.1;
       limit = high _ _ p.limit second.1;
       evict = omega (arith, none);
     }
 
-pub unfit : (p : Parameters) → p.evict ≡ 0 → ¬ AreParameters p → are_parameters p ≡ false
-unfit p none other = go (are_parameters p) refl
+pub unfit : (nodes : ℕ) (p : Parameters) → 1 ≤ nodes → nodes ≤ 256 → p.evict ≡ 0 → ¬ AreParameters p → are_parameters nodes p ≡ false
+unfit nodes p some few none other = go (are_parameters nodes p) refl
   where
-    go : (b : Bool) → are_parameters p ≡ b → are_parameters p ≡ false
-    go true e = absurd (other (allowed p none e))
+    go : (b : Bool) → are_parameters nodes p ≡ b → are_parameters nodes p ≡ false
+    go true e = absurd (other (allowed nodes p some few none e))
     go false e = e
+
+pub unpointed : (nodes : ℕ) (p : Parameters) → may_point nodes p.pointers ≡ false → are_parameters nodes p ≡ false
+unpointed nodes p none = rw none refl
 
 -- ---- the most sets
 

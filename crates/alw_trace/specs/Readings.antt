@@ -11,7 +11,7 @@ use Rattle.alw_image.specs.declared.parts.Parts.{Parts}
 use Rattle.alw_image.specs.declared.faults.ImageErr.{ImageErr}
 use Rattle.alw_image.specs.Images.{IsImage, node_count, context_count, line_count}
 use Rattle.alw_image.specs.Numbers.{IsWord, HasWords}
-use Rattle.alw_image.specs.Parameters.{Parameters, AreParameters, set_counts, most_pointers, most_limit}
+use Rattle.alw_image.specs.Parameters.{Parameters, AreParameters, may_point, set_counts, most_limit}
 use Rattle.alw_image.specs.Faults.{image_fault, image_in, first_unfit, is_above, is_within}
 use Rattle.alw_trace.specs.declared.values.Trace.{Trace}
 use Rattle.alw_trace.specs.declared.values.Claim.{Claim}
@@ -33,8 +33,9 @@ fits_event nodes sets (Evict node set) = nat_lt node.0 nodes && nat_lt set sets
 abbrev pub fits_entry : ℕ → ℕ → Entry → Bool
 fits_entry nodes sets entry = is_within 1 4294967295 entry.stamp && fits_event nodes sets entry.event
 
-abbrev pub are_parameters : Parameters → Bool
-are_parameters p = is_within 1 most_pointers p.pointers && (list_any (λ n. p.sets == n) set_counts && is_within 1 most_limit p.limit)
+-- parameters of a machine of so many nodes
+abbrev pub are_parameters : ℕ → Parameters → Bool
+are_parameters nodes p = may_point nodes p.pointers && (list_any (λ n. p.sets == n) set_counts && is_within 1 most_limit p.limit)
 
 -- a list of which the number of members has 32 bits
 abbrev pub is_short : {X : Type 0} → List X → Bool
@@ -51,7 +52,7 @@ tested fits line (x ∷ rest) = (line, fits x) ∷ tested fits (line + 1) rest
 unfoldable pub trace_tests : ℕ → TraceLines → List (ℕ × Bool)
 trace_tests nodes t =
     let at = behind_image t.image in
-    (at, are_parameters t.params) ∷ (at + 1, is_short t.journal) ∷ tested (fits_entry nodes t.params.sets) (at + 2) t.journal
+    (at, are_parameters nodes t.params) ∷ (at + 1, is_short t.journal) ∷ tested (fits_entry nodes t.params.sets) (at + 2) t.journal
 
 -- a claim has at most so many turns
 abbrev pub most_turns : ℕ
@@ -123,6 +124,7 @@ EntryIsStamped nodes sets entry = (1 ≤ entry.stamp) × ((entry.stamp < 2 ^ 32)
 pub record IsTrace (trace : Trace) : Type 0 where
   pub image : IsImage trace.image
   pub params : AreParameters trace.params
+  pub points : may_point (node_count trace.image) trace.params.pointers ≡ true
   pub evict : trace.params.evict ≡ 0
   pub journal : AllByRecursion (EntryIsStamped (node_count trace.image) trace.params.sets) trace.journal
 

@@ -1,27 +1,41 @@
 ghost use Rattle.std.specs.Prelude.{◌≡◌, ◌≤◌, ◌<◌, ◌^◌, ◌+◌, ◌↔◌, false, true, nat_lt, length, map, None, Some, IfOk, IfErr, IfSome, IfNone, IsTrue};
 ghost use Rattle.std.specs.List.{AllByRecursion};
 ghost use Rattle.alw_image.specs.Faults.{first_unfit};
+ghost use Rattle.alw_image.specs.Parameters.{may_point};
 ghost use Rattle.alw_trace.specs.Readings.{are_parameters, fits_entry, fits_event, tested, IsOfMachine, EntryIsStamped};
 ghost use Rattle.alw_trace.specs.Raw.{IsRangeFault, IsJournal, entry_of, event_of, params_of};
 
 use crate::faults::TextErr;
 use crate::raw::{RawEntry, RawEvent, RawParams};
-use alw_image::Params;
+use alw_image::{FEW_POINTERS, Params};
 use alw_msg::{Entry, Event, Journal};
 use alw_num::NodeNo;
 use std::alloc::Global;
 
-// The parameters of these numbers. None exactly where one is out of range.
-#[tactic(auto, using(crate::proofs::ParamRanges::fit, crate::proofs::ParamRanges::unfit))]
-pub fn params_of(raw: &RawParams) -> Option<Params>
+// The parameters of these numbers, of a machine of so many nodes. None exactly where one is out of range.
+#[tactic(auto, using(crate::proofs::ParamRanges::fit, crate::proofs::ParamRanges::unfit, crate::proofs::ParamRanges::unpointed))]
+pub fn params_of(raw: &RawParams, nodes: u32) -> Option<Params>
+    requires some { 1 ≤ nodes }
+    requires few { nodes ≤ 256 }
     ensures some { IfSome result (λ params. params ≡ params_of raw.now) }
-    ensures fits { IfSome result (λ params. are_parameters (params_of raw.now) ≡ true) }
-    ensures none { IfNone result (are_parameters (params_of raw.now) ≡ false) }
+    ensures fits { IfSome result (λ params. are_parameters nodes (params_of raw.now) ≡ true) }
+    ensures points { IfSome result (λ params. may_point nodes params.pointers ≡ true) }
+    ensures none { IfNone result (are_parameters nodes (params_of raw.now) ≡ false) }
 {
-    let pointers = u8::try_from(raw.pointers).ok()?;
+    let pointers = u16::try_from(raw.pointers).ok()?;
     let sets = u32::try_from(raw.sets).ok()?;
     let limit = u32::try_from(raw.limit).ok()?;
+    if !may_point(nodes, pointers) {
+        return None;
+    }
     Params::new(pointers, sets, limit, 0)
+}
+
+// An entry may have so many pointers in a machine of so many nodes.
+fn may_point(nodes: u32, pointers: u16) -> bool
+    ensures { result ≡ may_point nodes pointers }
+{
+    (1..=FEW_POINTERS).contains(&pointers) || u32::from(pointers) == nodes
 }
 
 // The journal of entries, of which the first line has this number, on a machine of so many nodes

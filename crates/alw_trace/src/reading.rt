@@ -28,14 +28,14 @@ pub fn trace_of(alloc: Global, lines: &RawTrace) -> Result<Trace, TextErr>
     ensures err { IfErr result (IsNoTrace (lines_of lines.now)) }
 {
     let image = image_of(alloc, lines.image.bytes())?;
+    let nodes = u32::from(image.nodes());
     let line = line_behind(&lines.image);
-    let Some(params) = params_of(&lines.params) else {
+    let Some(params) = params_of(&lines.params, nodes) else {
         return Err(TextErr::Range { line });
     };
     if lines.entries.len() as u64 > u64::from(u32::MAX) {
         return Err(TextErr::Range { line: line + 1 });
     }
-    let nodes = u32::from(image.nodes());
     let journal = journal_of(alloc, &lines.entries, nodes, params.sets(), line + 2)?;
     Ok(Trace {
         image,

@@ -101,7 +101,7 @@ fn image_of(alloc: Global, play: &Play) -> Result<Image, Fail> {
 // The parameters of a run.
 fn params_of(play: &Play) -> Result<Params, Fail> {
     let (pointers, sets, limit) = (
-        byte(play.sizes, 3),
+        short(play.sizes, 3),
         number(play.sizes, 4),
         number(play.sizes, 5),
     );

@@ -1,11 +1,11 @@
 ghost use Rattle.std.specs.Prelude.{◌≡◌, ◌<◌, ◌≤◌, ◌↔◌, ℕ, Bool, false, true, if◌then◌else◌};
 ghost use Rattle.alw_num.specs.NodeSets.{no_nodes, has_node, add_node, one_node, count_nodes, nodes_of};
 
-use crate::pointers::{MOST_POINTERS, Pointers};
+use crate::pointers::Pointers;
 use alw_num::{Line, MOST_NODES, Meta, NodeNo, NodeSet, State};
 
 /// What hardware keeps of a line at its home (ASPLOS 1991, section 4): its state, its meta state, a
-/// counter of the answers that are still to come, the line's bytes, and a few pointers.
+/// counter of the answers that are still to come, the line's bytes, and its pointers.
 #[derive(Drop)]
 pub struct HomeEntry {
     pub state: State,
@@ -15,7 +15,7 @@ pub struct HomeEntry {
     pub pointers: Pointers,
 }
 
-#[tactic(auto, using(crate::proofs::Lists::pointer_lists))]
+#[tactic(auto, using(crate::proofs::Counting::counting))]
 impl HomeEntry {
     /// The entry of a line with these bytes, before any message: Trap-Always where it is to be so.
     pub fn start(body: Line, always: bool) -> HomeEntry
@@ -36,9 +36,8 @@ impl HomeEntry {
 
     /// A node joins the pointers, of which at most `most` may stand there. False exactly where it is
     /// absent and `most` stand there.
-    pub fn add_pointer(&mut self, node: NodeNo, most: u8) -> bool
+    pub fn add_pointer(&mut self, node: NodeNo, most: u16) -> bool
         requires node { node.0 < MOST_NODES }
-        requires most { most ≤ MOST_POINTERS }
         requires few { count_nodes self.old.pointers ≤ most }
         ensures full { (result ≡ false) ↔ ((has_node self.old.pointers node.0 ≡ false) × (count_nodes self.old.pointers ≡ most)) }
         ensures entry { self.new ≡ (if result then record self.old { pointers = add_node self.old.pointers node.0 } else self.old) }

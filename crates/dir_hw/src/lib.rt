@@ -1,8 +1,8 @@
-//! A directory entry as hardware keeps it: a few pointers, packed.
+//! A directory entry as hardware keeps it: its pointers, counted.
 #![tactic(auto)]
 
 mod entries;
 mod pointers;
 
 pub use entries::HomeEntry;
-pub use pointers::{MOST_POINTERS, Pointers};
+pub use pointers::Pointers;

@@ -1,39 +1,35 @@
 ghost use Rattle.std.specs.Prelude.{◌≡◌, ◌<◌, ◌≤◌, ℕ, false, true};
-ghost use Rattle.alw_num.specs.NodeSets.{no_nodes, has_node, add_node, one_node, count_nodes, nodes_of};
+ghost use Rattle.alw_num.specs.NodeSets.{no_nodes, has_node, add_node, count_nodes, nodes_of};
 
 use alw_num::{MOST_NODES, NodeNo, NodeSet};
 use std::marker::Model;
 
-/// The most pointers that an entry can have.
-pub const MOST_POINTERS: u8 = 8;
-
-/// A set of at most `MOST_POINTERS` nodes, one byte for each. Contracts see the set.
+/// The nodes that hardware points at, counted. Contracts see the set.
 #[derive(Drop)]
 pub struct Pointers {
-    nodes: [u8; 8],
-    count: u8,
+    nodes: NodeSet,
+    count: u16,
 }
 
 impl Model for Pointers {
-    ghost use Rattle.std.specs.Prelude.{◌≡◌, ◌≤◌, take};
-    ghost use Rattle.alw_num.specs.NodeSets.{Nodes, count_nodes};
-    ghost use Rattle.dir_hw.specs.PointerSets.{set_of};
+    ghost use Rattle.std.specs.Prelude.{◌≡◌};
+    ghost use Rattle.alw_num.specs.NodeSets.{Nodes, count_nodes, nodes_of};
 
     ghost Value = { Nodes };
 
-    ghost view = { λ p. set_of (take p.count p.nodes) };
+    ghost view = { λ p. nodes_of p.nodes };
 
-    ghost invariant = { λ p. (p.count ≤ 8) × (count_nodes (set_of (take p.count p.nodes)) ≡ p.count) };
+    ghost invariant = { λ p. count_nodes (nodes_of p.nodes) ≡ p.count };
 }
 
-#[tactic(auto, using(crate::proofs::Lists::pointer_lists))]
+#[tactic(auto, using(crate::proofs::Counting::counting))]
 impl Pointers {
     /// The set without a member.
     pub fn none() -> Pointers
         ensures { result ≡ no_nodes }
     {
         Pointers {
-            nodes: [0; 8],
+            nodes: NodeSet::empty(),
             count: 0,
         }
     }
@@ -43,13 +39,12 @@ impl Pointers {
         requires { node.0 < MOST_NODES }
         ensures { result ≡ has_node self.now node.0 }
     {
-        self.nodes[..self.count as usize].contains(&(node.0 as u8))
+        self.nodes.has(node)
     }
 
     /// The number of members.
-    pub fn len(&self) -> u8
-        ensures len { result ≡ count_nodes self.now }
-        ensures most { result ≤ MOST_POINTERS }
+    pub fn len(&self) -> u16
+        ensures { result ≡ count_nodes self.now }
     {
         self.count
     }
@@ -58,10 +53,9 @@ impl Pointers {
     pub fn add(&mut self, node: NodeNo)
         requires node { node.0 < MOST_NODES }
         requires absent { has_node self.old node.0 ≡ false }
-        requires room { count_nodes self.old < MOST_POINTERS }
         ensures { self.new ≡ add_node self.old node.0 }
     {
-        self.nodes[self.count as usize] = node.0 as u8;
+        self.nodes.add(node);
         self.count += 1;
     }
 
@@ -71,10 +65,6 @@ impl Pointers {
         ensures set { nodes_of result ≡ self.now }
         ensures within { (k : ℕ) → has_node self.now k ≡ true → k < MOST_NODES }
     {
-        let mut set = NodeSet::empty();
-        for node in &self.nodes[..self.count as usize] {
-            set = set.with(NodeNo(*node as u16));
-        }
-        set
+        self.nodes
     }
 }

@@ -25,4 +25,4 @@ returns-in_err-machine c =
 pub returns : goal.returns
 returns c =
     let kept = c.in_ok-kept.ensures ∙ ap (λ (entries : List Entry). kept_by c.args.at entries) c.members.ensures in
-    cut_taken c.args.trace.now c.in_ok-check.ensures.sound c.args.at _ c.in_ok-machine.field-0.machine c.in_ok-machine.field-0.kept kept c.in_ok-machine.ensures
+    cut_taken c.args.trace.now c.in_ok-check.ensures.sound c.args.at _ c.in_ok-machine.field-0.machine c.in_ok-machine.field-0.kept kept c.in_ok-machine.ensures.1

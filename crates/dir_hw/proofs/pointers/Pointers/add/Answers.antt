@@ -1,16 +1,16 @@
--- The node stands behind the others.
-use Rattle.std.proofs.Common.{◌<◌, length, arith}
-use Rattle.dir_hw.proofs.Lists.{set_of-next, count-next}
+-- A node that was absent is one more.
+use Rattle.std.proofs.Common.{◌≡◌, ap, arith}
+use Rattle.alw_num.specs.NodeSets.{nodes_of, has_node, count_nodes}
+use Rattle.alw_num.specs.Weights.{digit}
+use Rattle.alw_num.proofs.Sets.{count-add}
+use Rattle.alw_num.proofs.Words.{count_at_most}
 use Rattle.dir_hw.proofs.pointers.Pointers.add.Goals as goal
 
--- there is a place for it
-place : (c : goal.After-self-1) → c.self.inside.count < length c.self.inside.nodes
-place c = let room = rw (← c.self.view_is) at c.requires.room in omega (arith, c.self.invariant.1, c.self.told)
+pub overflow_add-self : goal.overflow_add-self
+overflow_add-self c = let few = count_at_most c.self.inside.nodes in omega (arith, few, c.self.invariant)
 
 pub invariant_of-self : goal.invariant_of-self
 invariant_of-self c =
-    let here = place c in
-    (omega (arith, c.self.told), count-next c.self.inside.nodes c.self.inside.count c.args.node.0 here c.self.invariant.1 (rw (← c.self.view_is) at c.requires.absent))
-
-pub returns : goal.returns
-returns c = rw (← c.self.view_is) (set_of-next c.self.inside.nodes c.self.inside.count c.args.node.0 (place c))
+    let more = count-add (nodes_of c.self.inside.nodes) c.args.node.0 in
+    let gone : digit (has_node (nodes_of c.self.inside.nodes) c.args.node.0) ≡ 0 = ap digit (rw (← c.self.view_is) at c.requires.absent) in
+    omega (arith, ap count_nodes c.add.ensures, more, gone, c.self.invariant)
