@@ -3,6 +3,7 @@ use Rattle.std.proofs.Common.{◌≡◌, arith, ℕ, suc, List, refl, sym, ◌�
 use Rattle.std.specs.Prelude.{Err}
 use Rattle.std.proofs.lemmas.Bool.{false≢true}
 use Rattle.alw_model.proofs.Journals.{legal_take}
+use Rattle.alw_mesh.specs.Limits.{most_steps}
 use Rattle.alw_trace.specs.declared.values.Trace.{Trace}
 use Rattle.alw_config.specs.declared.commands.Form.{Form}
 use Rattle.alw_save.specs.declared.faults.RestoreErr.{RestoreErr}
@@ -24,7 +25,7 @@ use Rattle.alw_cuts.proofs.Resumable.{restored_so}
 pub route_kept : IsKept route_task
 route_kept = record {
   finished = λ bytes output made accepted. fine output.ending made.ending;
-  unrefused = λ bytes fault refused accepted. replay_unrefused bytes fault refused accepted;
+  unrefused = λ bytes fault refused accepted. replay_unrefused most_steps bytes fault refused accepted;
 }
 
 -- ---- save

@@ -53,6 +53,7 @@ module _ (bytes : List ℕ) (evict : ℕ) (machine : History) (is : IsCheckpoint
         limit = is.run.parameters.limit;
         evict = omega arith;
       };
+      points = is.points;
       evict = refl;
       journal = stamped machine.image machine.parameters machine.journal is.run.legal;
     };
@@ -74,7 +75,7 @@ module _ (bytes : List ℕ) (evict : ℕ) (machine : History) (is : IsCheckpoint
 
   pub restored_so : (fault : RestoreErr) → Restores bytes evict (Err fault) → fault ≡ NoMemory
   restored_so (Text fault) wrong = absurd (wrong.0 (front_back save_title bytes trace rest fault front wrong.1))
-  restored_so (DoesNotFit number most) wrong = absurd (let many = read_so wrong in omega (arith, many.0, many.1, is.run.fits))
+  restored_so (DoesNotFit number most) wrong = absurd (let many = read_so wrong in omega (arith, many.0, many.1, is.fits))
   restored_so (NotLegal k) wrong =
       let first = (read_so wrong).1 in
       absurd (first.here (legal_take machine.image (with_evict trace evict).params (suc k) machine.journal legal_so))
@@ -124,10 +125,11 @@ module _ (trace : Trace) (at evict : ℕ) (of : IsTrace trace) (types : HasTrace
           limit = of.params.limit;
           evict = few;
         };
-        fits = sound.fits;
         legal = legal_again;
         joined = omega arith;
       };
+      fits = sound.fits;
+      points = of.points;
       words = types.0;
       text = same_text;
     };

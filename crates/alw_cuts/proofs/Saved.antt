@@ -26,7 +26,8 @@ use Rattle.alw_runs.specs.Forms.{IsTold, output_of}
 use Rattle.alw_runs.specs.Replaying.{Spells}
 use Rattle.alw_cuts.specs.Saving.{Saves, IsNoCut}
 use Rattle.alw_cuts.specs.Resuming.{Resumes, IsNoCheckpoint}
-use Rattle.alw_runs.proofs.Ended.{told_of_run}
+use Rattle.alw_mesh.specs.Limits.{most_steps}
+use Rattle.alw_runs.proofs.Ended.{IsFitFor, told_of_run}
 
 -- ---- save
 
@@ -81,7 +82,9 @@ resumed seed evict form bytes machine after e checkpoint finished =
       machine = machine;
       checkpoint = checkpoint;
       goes_on = record { later = more.later; begins = begins; seeded = subst (λ (h : History). MachineIsSeeded machine seed h) same finished.seeded };
-      told = subst (λ (h : History). IsTold h.image h.parameters form (output_of after e form)) more.is (told_of_run after e form finished.run finished.end);
+      told = subst (λ (h : History). IsTold h.image h.parameters form (output_of after e form)) more.is
+          (told_of_run after e form finished.run
+          (subst (λ (h : History). IsFitFor most_steps h.image h.parameters) (sym more.is) (checkpoint.points, checkpoint.fits)) finished.end);
       merged = refl;
     }
 

@@ -2,6 +2,7 @@
 use Rattle.std.specs.Prelude.{◌≡◌, ◌≢◌, ℕ, true, List, Err}
 use Rattle.alw_model.specs.Machine.{IsLegal}
 use Rattle.law_order.specs.Orders.{kept_by}
+use Rattle.alw_mesh.specs.Limits.{most_steps}
 use Rattle.alw_trace.specs.declared.values.Trace.{Trace}
 use Rattle.alw_trace.specs.declared.faults.TextErr.TheVariants as text
 use Rattle.alw_trace.specs.Readings.{ReadsTrace}
@@ -30,8 +31,8 @@ pub record Saves (at : ℕ) (bytes : List ℕ) (output : Output) : Type 0 where
 -- the bytes are no trace, or one that isn't cut
 abbrev pub IsNoCut : List ℕ → InputErr → Type 0
 IsNoCut bytes (reason.Text fault) = (fault ≢ text.NoMemory) × ReadsTrace bytes (Err fault)
-IsNoCut bytes (reason.LimitDoesNotFit number most) = IsTraceThat (λ trace. IsTooMuch trace.image trace.params number most) bytes
-IsNoCut bytes (reason.NotLegal k) = IsTraceThat (λ trace. IsFit trace × IsFirstIllegal trace k) bytes
+IsNoCut bytes (reason.LimitDoesNotFit number most) = IsTraceThat (λ trace. IsTooMuch most_steps trace.image trace.params number most) bytes
+IsNoCut bytes (reason.NotLegal k) = IsTraceThat (λ trace. IsFit most_steps trace × IsFirstIllegal trace k) bytes
 IsNoCut bytes _ = ⊥
 
 -- a legal trace that fits is accepted, also one that is unfinished

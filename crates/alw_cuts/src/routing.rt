@@ -1,3 +1,4 @@
+ghost use Rattle.alw_mesh.specs.Limits.{most_steps};
 ghost use Rattle.alw_answers.specs.Outputs.{Gives};
 ghost use Rattle.alw_runs.specs.Replaying.{IsNoReplay};
 ghost use Rattle.alw_cuts.specs.Routing.{Routes};
@@ -12,7 +13,7 @@ use std::alloc::Global;
 /// Carries the messages of the trace that bytes spell through the routers of its mesh, in the order that a
 /// seed draws, and tells the loads of the wires.
 pub fn route_bytes(alloc: Global, seed: u64, bytes: &[u8]) -> Result<Output, Refusal>
-    ensures { Gives (Routes bytes.now) (IsNoReplay bytes.now) result }
+    ensures { Gives (Routes bytes.now) (IsNoReplay most_steps bytes.now) result }
 {
     let trace = read_trace(alloc, bytes)?;
     let Carried {

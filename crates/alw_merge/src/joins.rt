@@ -1,9 +1,8 @@
-ghost use Rattle.std.specs.Prelude.{◌≡◌, ◌≤◌, IfOk};
+ghost use Rattle.std.specs.Prelude.{◌≡◌, IfOk};
 ghost use Rattle.alw_model.specs.Threads.{merged};
 ghost use Rattle.alw_cells.specs.Leaving.{LogsAreWorked};
 ghost use Rattle.alw_cells.specs.Logs.{logged};
-ghost use Rattle.alw_mesh.specs.declared.errors.TheConstants.{MOST_STEPS};
-ghost use Rattle.alw_mesh.specs.Histories.{stamps_of, joined_of};
+ghost use Rattle.alw_mesh.specs.Histories.{joined_of};
 ghost use Rattle.alw_merge.specs.Joins.{holds_at};
 ghost use Rattle.alw_merge.specs.Spans.{IsOfWorked};
 
@@ -26,8 +25,7 @@ pub fn join(
     params: &Params,
     worked: Worked,
 ) -> Result<Machine, NoMemory>
-    requires fits { stamps_of image.now params.now ≤ MOST_STEPS }
-    requires worked { LogsAreWorked image.now params.now worked }
+    requires { LogsAreWorked image.now params.now worked }
     ensures { IfOk result (λ machine. machine ≡ joined_of image.now params.now (merged (logged worked.logs))) }
 {
     let Worked { logs, nodes, dids } = worked;
@@ -44,8 +42,7 @@ pub fn join_by<R: Threads + Sync>(
     worked: Worked,
     threads: u32,
 ) -> Result<Machine, NoMemory>
-    requires fits { stamps_of image.now params.now ≤ MOST_STEPS }
-    requires worked { LogsAreWorked image.now params.now worked }
+    requires { LogsAreWorked image.now params.now worked }
     ensures { IfOk result (λ machine. machine ≡ joined_of image.now params.now (merged (logged worked.logs))) }
 {
     let Worked { logs, nodes, dids } = worked;
@@ -71,8 +68,7 @@ fn machine_of(
     walked: Walked,
     nodes: Nodes,
 ) -> Result<Machine, NoMemory>
-    requires fits { stamps_of image.now params.now ≤ MOST_STEPS }
-    requires worked { IsOfWorked image.now params.now walked nodes }
+    requires { IsOfWorked image.now params.now walked nodes }
     ensures { IfOk result (λ machine. machine ≡ joined_of image.now params.now walked.journal) }
 {
     let _allowed = image.parts(); // for its clause

@@ -69,8 +69,8 @@ module _ (image : Parts) (parameters : Parameters) (journal : List Entry) (run :
   pub nothing_sent : [] ≡ last_sends (joined_of image parameters journal)
   nothing_sent = sym (ap sent_last (drop_all (length journal) (moments image parameters journal) (let long = moments_long image parameters journal in omega arith)))
 
-pub run_joined : (image : Parts) (parameters : Parameters) (journal : List Entry) → IsImage image → AreParameters parameters → stamps_of image parameters ≤ 8388608 → IsLegal image parameters journal → IsRun (joined_of image parameters journal)
-run_joined image parameters journal is are fits legal = record { image = is; parameters = are; fits = fits; legal = legal; joined = omega arith }
+pub run_joined : (image : Parts) (parameters : Parameters) (journal : List Entry) → IsImage image → AreParameters parameters → IsLegal image parameters journal → IsRun (joined_of image parameters journal)
+run_joined image parameters journal is are legal = record { image = is; parameters = are; legal = legal; joined = omega arith }
 
 -- the parts that a machine is made of, over the image and the parameters that they were made from
 pub parts_joined : {grid : Grid} {told : Told} (image : Parts) (parameters : Parameters) (journal : List Entry) (machine : MachineState) → IsGridOf image parameters machine grid → IsRun (joined_of image parameters journal)

@@ -36,6 +36,7 @@ use Rattle.alw_ready.proofs.MainEvents.{comes_from, filter_main}
 use Rattle.alw_mesh.specs.declared.stepping.Happening.{Happening}
 use Rattle.alw_mesh.specs.Grids.{Grid, grid_start, Happens}
 use Rattle.alw_mesh.specs.Histories.{History, state_of, entry_of, grown, stamps_of, may_be_next, IsRun, sent_last, last_sends}
+use Rattle.alw_mesh.specs.Limits.{most_timed_steps}
 use Rattle.alw_mesh.specs.Keeping.{IsMachine}
 use Rattle.alw_mesh.specs.Ends.{next_events, EndStays, HasPassed}
 use Rattle.alw_mesh.specs.Moments.{IsMomentOf}
@@ -43,13 +44,17 @@ use Rattle.alw_mesh.proofs.OneNode.{few_nodes}
 use Rattle.alw_mesh.proofs.Remaining.{remains_few}
 use Rattle.alw_mesh.proofs.Quiet.{quiet_rows, quiet_end}
 
+-- nodes times the limit
+pub stamps_within : (image : Parts) (parameters : Parameters) → IsImage image → AreParameters parameters → stamps_of image parameters ≤ most_timed_steps
+stamps_within image parameters is are = mul-le (node_count image) parameters.limit 256 1048576 (few_nodes image is) are.limit
+
 -- no machine's journal comes near 2^32 entries
 pub journal_fits : (h : History) → IsRun h → length h.journal < 4294967295
 journal_fits h run =
     let nodes = few_nodes h.image run.image in
     let sets = mul-le (node_count h.image) h.parameters.sets 256 4096 nodes (sets_range h.parameters run.parameters).1 in
     let lines = mul-le (node_count h.image) h.image.per_node 256 4096 nodes run.image.per_node.1 in
-    omega (arith, always_bounded h.image run.image h.parameters run.parameters h.journal run.legal, run.fits)
+    omega (arith, always_bounded h.image run.image h.parameters run.parameters h.journal run.legal, stamps_within h.image h.parameters run.image run.parameters)
 
 -- a journal has an event for each entry
 moments_from_long : (parts : Parts) (parameters : Parameters) (machine : MachineState) (journal : List Entry) → length (moments_from parts parameters machine journal) ≡ length journal
@@ -162,7 +167,6 @@ module _ {grid : Grid} {journal : List Entry} {joined : ℕ} {sent : Sending} {t
       run_grows = record {
         image = is.run.image;
         parameters = is.run.parameters;
-        fits = is.run.fits;
         legal = legal_push grid.image grid.parameters journal (entry_of here event) is.run.legal next_is;
         joined = omega (arith, is.run.joined, length-append journal (entry_of here event ∷ []));
       }
@@ -271,14 +275,14 @@ heads_fit_first image parameters starts is are = subst (λ (g : Grid). HeadsAreF
 
 -- the machine at the start
 pub machine_begins : {grid : Grid} {sent : Sending} {tally : Tallied} {ready : List Row} (image : Parts) (parameters : Parameters) → grid ≡ grid_start image parameters
-    → IsImage image → AreParameters parameters → stamps_of image parameters ≤ 8388608 → sent.room ≡ node_count image → sent.messages ≡ []
+    → IsImage image → AreParameters parameters → sent.room ≡ node_count image → sent.messages ≡ []
     → ((parts : Parts) → tally.told ≡ told_of parts []) → RowsFit grid.image grid.parameters grid.machine ready → IsMachine grid [] 0 sent tally ready
 unfolding state moments
-machine_begins {sent = sent} {tally = tally} {ready = ready} image parameters starts is are fits room empty told rows =
+machine_begins {sent = sent} {tally = tally} {ready = ready} image parameters starts is are room empty told rows =
     let rows_so : RowsFit image parameters (machine_start image) ready = subst (λ (g : Grid). RowsFit g.image g.parameters g.machine ready) starts rows in
     let begins : IsMachine (grid_start image parameters) [] 0 sent tally ready
     = record {
-      run = record { image = is; parameters = are; fits = fits; legal = tt; joined = omega arith };
+      run = record { image = is; parameters = are; legal = tt; joined = omega arith };
       state_is = refl;
       room = room;
       sends = empty;

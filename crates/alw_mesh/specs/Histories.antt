@@ -55,12 +55,10 @@ grown h event = record h { journal = h.journal ++ entry_of h event ∷ [] }
 abbrev pub stamps_of : Parts → Parameters → ℕ
 stamps_of image parameters = node_count image * parameters.limit
 
--- what holds of every machine: its image and its parameters are such, its nodes' stamps are no more than the most, its journal is legal,
--- and it was joined with no more entries than it has
+-- what holds of every machine: its image and its parameters are such, its journal is legal, and it was joined with no more entries than it has
 pub record IsRun (h : History) : Type 0 where
   pub image : IsImage h.image
   pub parameters : AreParameters h.parameters
-  pub fits : stamps_of h.image h.parameters ≤ most_steps
   pub legal : IsLegal h.image h.parameters h.journal
   pub joined : h.joined ≤ length h.journal
 

@@ -1,7 +1,8 @@
 ghost use Rattle.std.specs.Prelude.{◌≡◌, ◌<◌, ◌%◌, find, length, slice_get, filter, None, Some, MatchOption};
 ghost use Rattle.alw_image.specs.Images.{node_count};
 ghost use Rattle.alw_model.specs.Machine.{is_enabled, main_events};
-ghost use Rattle.alw_mesh.specs.Histories.{IsRun};
+ghost use Rattle.alw_ready.specs.Fits.{RowFits};
+ghost use Rattle.alw_mesh.specs.Histories.{IsRun, state_of};
 ghost use Rattle.alw_mesh.specs.Ends.{node_events, next_events, Ends};
 
 use crate::machines::Machine;
@@ -9,6 +10,7 @@ use crate::meshes::Mesh;
 use alw_model::Ended;
 use alw_msg::Event;
 use alw_num::NodeNo;
+use alw_ready::Row;
 
 impl Machine {
     /// How many main events may happen next: they are enabled and within the limit.
@@ -25,6 +27,15 @@ impl Machine {
         ensures { slice_get (next_events self.now) k ≡ Some result }
     {
         self.ready.nth(k)
+    }
+
+    /// Which of them are a node's.
+    #[inline(always)]
+    pub fn row(&self, node: NodeNo) -> Row
+        requires { node.0 < node_count self.now.image }
+        ensures { RowFits self.now.image self.now.parameters (state_of self.now) node.0 result }
+    {
+        self.ready.row(node)
     }
 
     /// The event that a number draws of them: all numbers of one remainder by their count draw the same.

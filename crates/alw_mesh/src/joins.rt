@@ -1,11 +1,10 @@
-ghost use Rattle.std.specs.Prelude.{◌≡◌, ◌≤◌, IfOk};
+ghost use Rattle.std.specs.Prelude.{◌≡◌, IfOk};
 ghost use Rattle.alw_model.specs.Machine.{IsLegal, state};
 ghost use Rattle.alw_model.specs.Runs.{moments};
 ghost use Rattle.alw_model.specs.Ends as ends;
-ghost use Rattle.alw_mesh.specs.Histories.{begun, stamps_of, joined_of};
+ghost use Rattle.alw_mesh.specs.Histories.{joined_of};
 ghost use Rattle.alw_mesh.specs.Joins.{AreOfJournal, PartsAreJoined};
 
-use crate::errors::{FitErr, MOST_STEPS};
 use crate::machines::{Machine, blank};
 use crate::meshes::Mesh;
 use crate::walks::tell_all;
@@ -41,8 +40,7 @@ impl Machine {
         params: &Params,
         parts: JoinedParts,
     ) -> Result<Machine, NoMemory>
-        requires fits { stamps_of image.now params.now ≤ MOST_STEPS }
-        requires parts { AreOfJournal image.now params.now parts }
+        requires { AreOfJournal image.now params.now parts }
         ensures { IfOk result (λ machine. machine ≡ joined_of image.now params.now parts.journal) }
     {
         let _exists = image.nodes(); // for its clause
@@ -96,7 +94,6 @@ fn trap_of(
     journal: &Journal,
     mesh: &Mesh,
 ) -> Result<Option<TrapAt>, NoMemory>
-    requires fits { stamps_of image.now params.now ≤ MOST_STEPS }
     requires legal { IsLegal image.now params.now journal.now }
     requires machine { mesh.now.machine ≡ state image.now params.now journal.now }
     ensures { IfOk result (λ trap. trap ≡ ends.first_trap 0 (moments image.now params.now journal.now)) }
@@ -115,11 +112,10 @@ fn first_trap(
     params: &Params,
     journal: &Journal,
 ) -> Result<Option<TrapAt>, NoMemory>
-    requires fits { stamps_of image.now params.now ≤ MOST_STEPS }
-    requires legal { IsLegal image.now params.now journal.now }
+    requires { IsLegal image.now params.now journal.now }
     ensures { IfOk result (λ trap. trap ≡ ends.first_trap 0 (moments image.now params.now journal.now)) }
 {
-    let mut machine = begin(alloc, image, params)?;
+    let mut machine = Machine::begin(alloc, image, params)?;
     let mut first = FirstTrap { trap: None };
     tell_all(&mut machine, journal, &mut first)?;
     Ok(first.trap)
@@ -138,17 +134,5 @@ impl Watch for FirstTrap {
         machine.take(entry.event)?;
         self.trap = machine.trap();
         Ok(())
-    }
-}
-
-/// A machine at the start of an image that fits.
-pub(crate) fn begin(alloc: Global, image: &Image, params: &Params) -> Result<Machine, NoMemory>
-    requires { stamps_of image.now params.now ≤ MOST_STEPS }
-    ensures { IfOk result (λ machine. machine ≡ begun image.now params.now) }
-{
-    match Machine::start(alloc, image, params) {
-        Ok(machine) => Ok(machine),
-        Err(FitErr::NoMemory) => Err(NoMemory),
-        Err(FitErr::DoesNotFit { .. }) => unreachable!(),
     }
 }

@@ -1,5 +1,5 @@
 ghost use Rattle.std.specs.Prelude.{◌≡◌, ◌≤◌, ◌&&◌, [], not, length, IfOk, IsTrue};
-ghost use Rattle.alw_mesh.specs.Histories.{Starts, Steps, may_be_next, entry_of, ArePartsOf};
+ghost use Rattle.alw_mesh.specs.Histories.{begun, Starts, Steps, may_be_next, entry_of, ArePartsOf};
 ghost use Rattle.alw_mesh.specs.Moments.{Takes};
 
 use crate::errors::{FitErr, StepErr, fit};
@@ -40,12 +40,20 @@ impl Model for Machine {
 }
 
 impl Machine {
-    /// A machine at the start of an image. It keeps a copy of both. DoesNotFit comes exactly where nodes
-    /// times the event limit is above `MOST_STEPS`.
+    /// A machine at the start of an image, as `begin` makes it. DoesNotFit comes exactly where nodes times the
+    /// event limit is above `MOST_STEPS`.
     pub fn start(alloc: Global, image: &Image, params: &Params) -> Result<Machine, FitErr>
         ensures { Starts image.now params.now result }
     {
         fit(image, params)?;
+        Ok(Machine::begin(alloc, image, params)?)
+    }
+
+    /// A machine at the start of an image, whatever its limit. It keeps a copy of both.
+    pub fn begin(alloc: Global, image: &Image, params: &Params) -> Result<Machine, NoMemory>
+        ensures { IfOk result (λ machine. machine ≡ begun image.now params.now) }
+    {
+        let _allowed = params.limit(); // for its clause
         let nodes = u32::from(image.nodes());
         let (sent, mut ready) = blank(alloc, nodes)?;
         let mesh = Mesh::start(alloc, image, params)?;

@@ -2,7 +2,6 @@ ghost use Rattle.std.specs.Prelude.{◌≡◌, OnOk};
 ghost use Rattle.alw_model.specs.Machine.{IsLegal};
 ghost use Rattle.alw_mesh.specs.Histories.{begun, whole};
 
-use crate::joins::begin;
 use crate::machines::Machine;
 use crate::watches::Watch;
 use alw_msg::Journal;
@@ -17,7 +16,7 @@ impl Machine {
         ensures { OnOk result (W.told watch.old (whole self.now.image self.now.parameters self.now.journal) watch.new) }
     {
         let journal = self.journal();
-        let mut second = begin(alloc, self.image(), self.params())?;
+        let mut second = Machine::begin(alloc, self.image(), self.params())?;
         tell_all(&mut second, journal, watch)
     }
 }

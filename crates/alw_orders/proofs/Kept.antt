@@ -14,7 +14,7 @@ use Rattle.alw_answers.specs.declared.answers.InputErr.TheVariants as reason
 use Rattle.alw_answers.proofs.Kept.{IsKept, ran}
 use Rattle.alw_serve.specs.declared.errors.Hindrance.{Hindrance}
 use Rattle.alw_serve.specs.declared.errors.Hindrance.TheVariants.{NotReady, NotCurrent, AboveLimit}
-use Rattle.alw_orders.specs.Scheduling.{IsClaimThat, IsHindered, IsNotScheduled, ComesToEnd, CanBeScheduled, schedule_task}
+use Rattle.alw_orders.specs.Scheduling.{parameters_to, IsClaimThat, IsHindered, IsNotScheduled, ComesToEnd, CanBeScheduled, schedule_task}
 
 -- the claim that was accepted is the one that was refused
 can_so : (parameters : Parameters) (bytes : List ℕ) (other : Claim) → IsClaimThat (CanBeScheduled parameters) bytes → SpellsClaim bytes other → CanBeScheduled parameters other
@@ -46,7 +46,7 @@ never_late parameters claim turn can (within, stands) = go (member_at claim.turn
         not (inr (other, trapped)) = absurd (false≢true (sym (can.early (take turn claim.turns) (drop (suc turn) claim.turns) c other all) ∙ trapped))
 
 -- and behind all of them it has come to an end
-never_unfinished : (parameters : Parameters) (claim : Claim) → CanBeScheduled parameters claim → IsUnfinished claim.image parameters claim.turns → ⊥
+never_unfinished : (parameters : Parameters) (claim : Claim) → CanBeScheduled parameters claim → IsUnfinished claim.image (parameters_to parameters claim) claim.turns → ⊥
 never_unfinished parameters claim can unfinished = go can.ends
   where
     go : ComesToEnd claim → ⊥

@@ -1,7 +1,8 @@
 -- The command `schedule`.
 use Rattle.std.specs.Prelude.{◌≡◌, ℕ, ◌*◌, ◌<◌, ◌≤◌, true, ◌⊎◌, List, length, Result, Ok, Err}
 use Rattle.alw_msg.specs.Statuses.{has_trapped}
-use Rattle.alw_image.specs.Parameters.{Parameters}
+use Rattle.alw_image.specs.Images.{node_count}
+use Rattle.alw_image.specs.Parameters.{Parameters, may_point, parameters_for}
 use Rattle.alw_model.specs.Ends.{IsEnd}
 use Rattle.alw_model.specs.Flat.{AreReady, flat_after, context_at}
 use Rattle.alw_outcomes.specs.Outcomes.{flat_halted}
@@ -44,26 +45,30 @@ pub record IsClaimThat (Holds : Claim → Type 0) (bytes : List ℕ) : Type 0 wh
   pub spelled : SpellsClaim bytes claim
   pub holds : Holds claim
 
+-- parameters for the image of a claim
+abbrev pub parameters_to : Parameters → Claim → Parameters
+parameters_to parameters claim = parameters_for (node_count claim.image) parameters
+
 -- the bytes are a claim, and the text is the trace of a coherent run that takes its turns, exactly these and in this order, up to an end
 pub record Schedules (parameters : Parameters) (bytes : List ℕ) (output : Output) : Type 0 where
   pub claim : Claim
   pub spelled : SpellsClaim bytes claim
-  pub told : IsTold claim.image parameters Trace output
-  pub taken : HasTaken claim.image parameters claim.turns (record (begun claim.image parameters) { journal = output.journal })
+  pub told : IsTold claim.image (parameters_to parameters claim) Trace output
+  pub taken : HasTaken claim.image (parameters_to parameters claim) claim.turns (record (begun claim.image (parameters_to parameters claim)) { journal = output.journal })
   pub merged : output.merged ≡ 0
 
 -- this stands against a turn of the claim
 abbrev pub IsHindered : Parameters → ℕ → Hindrance → Claim → Type 0
-IsHindered parameters turn why claim = (turn < length claim.turns) × StandsAgainst claim.image parameters claim.turns turn why
+IsHindered parameters turn why claim = (turn < length claim.turns) × StandsAgainst claim.image (parameters_to parameters claim) claim.turns turn why
 
 -- the bytes are no claim, or one that doesn't fit, or that has a turn that isn't taken, or that comes to no end
 abbrev pub IsNotScheduled : Parameters → List ℕ → InputErr → Type 0
 IsNotScheduled parameters bytes (reason.Text fault) = IsNoClaim bytes (reason.Text fault)
-IsNotScheduled parameters bytes (reason.LimitDoesNotFit number most) = IsClaimThat (λ claim. IsTooMuch claim.image parameters number most) bytes
+IsNotScheduled parameters bytes (reason.LimitDoesNotFit number most) = IsClaimThat (λ claim. IsTooMuch most_steps claim.image (parameters_to parameters claim) number most) bytes
 IsNotScheduled parameters bytes (reason.NotReady turn) = IsClaimThat (IsHindered parameters turn NotReady) bytes
 IsNotScheduled parameters bytes (reason.NotCurrent turn) = IsClaimThat (IsHindered parameters turn NotCurrent) bytes
 IsNotScheduled parameters bytes (reason.AboveLimit turn) = IsClaimThat (IsHindered parameters turn AboveLimit) bytes
-IsNotScheduled parameters bytes reason.Unfinished = IsClaimThat (λ claim. IsUnfinished claim.image parameters claim.turns) bytes
+IsNotScheduled parameters bytes reason.Unfinished = IsClaimThat (λ claim. IsUnfinished claim.image (parameters_to parameters claim) claim.turns) bytes
 IsNotScheduled parameters bytes _ = ⊥
 
 -- ---- the machine that takes the turns
@@ -72,7 +77,9 @@ IsNotScheduled parameters bytes _ = ⊥
 pub record IsOfClaim (parameters : Parameters) (bytes : List ℕ) (served : Served) : Type 0 where
   pub claim : Claim
   pub spelled : SpellsClaim bytes claim
-  pub taken : HasTaken claim.image parameters claim.turns served.machine
+  pub taken : HasTaken claim.image (parameters_to parameters claim) claim.turns served.machine
+  pub fits : stamps_of claim.image (parameters_to parameters claim) ≤ most_steps
+  pub points : may_point (node_count claim.image) (parameters_to parameters claim).pointers ≡ true
   pub end : IsEnd served.machine.image served.machine.parameters served.machine.journal served.ended
 
 abbrev pub TakesClaim : Parameters → List ℕ → Result Served Refusal → Type 0
@@ -89,7 +96,7 @@ ComesToEnd claim = (flat_halted (flat_after claim.image claim.turns) ≡ true) �
 -- trapped, behind all of them that has come to an end, and the limit leaves room for their events
 pub record CanBeScheduled (parameters : Parameters) (claim : Claim) : Type 0 where
   pub one : claim.image.contexts ≡ 1
-  pub fits : stamps_of claim.image parameters ≤ most_steps
+  pub fits : stamps_of claim.image (parameters_to parameters claim) ≤ most_steps
   pub ready : AreReady claim.image claim.turns
   pub early : NoneTrapsEarly claim.image claim.turns
   pub ends : ComesToEnd claim

@@ -26,7 +26,9 @@ fn serve_claim(alloc: Global, params: &Params, bytes: &[u8]) -> Result<Served, R
     ensures { TakesClaim params.now bytes.now result }
 {
     let claim = read_claim(alloc, bytes)?;
-    match serve(alloc, &claim.image, params, claim.turns.members()) {
+    let _allowed = params.limit(); // for its clause
+    let params = params.for_nodes(claim.image.nodes());
+    match serve(alloc, &claim.image, &params, claim.turns.members()) {
         Ok(served) => Ok(served),
         Err(fault) => Err(refusal_of_serve(fault)),
     }

@@ -1,9 +1,9 @@
 -- What a run is written as, by the form that is asked for.
-use Rattle.std.specs.Prelude.{◌≡◌, ℕ, ◌<◌, ◌≤◌, List}
+use Rattle.std.specs.Prelude.{◌≡◌, ℕ, ◌<◌, ◌≤◌, true, List}
 use Rattle.alw_msg.specs.declared.events.Entry.{Entry}
 use Rattle.alw_image.specs.declared.parts.Parts.{Parts}
-use Rattle.alw_image.specs.Images.{IsImage}
-use Rattle.alw_image.specs.Parameters.{Parameters, AreParameters}
+use Rattle.alw_image.specs.Images.{IsImage, node_count}
+use Rattle.alw_image.specs.Parameters.{Parameters, AreParameters, may_point}
 use Rattle.alw_model.specs.declared.ends.Ended.{Ended}
 use Rattle.alw_model.specs.Headline.{IsCoherentRun}
 use Rattle.alw_mesh.specs.Limits.{most_steps}
@@ -39,22 +39,24 @@ output_of machine ended form = output_with machine ended (run_text form machine.
 abbrev pub TextOf : Type 0
 TextOf = Parts → Parameters → List Entry → Ended → List ℕ
 
--- the headline, of an output: its journal is a coherent run of an image that fits, up to the end that it tells, and its text is this one of that run
-pub record IsToldBy (text_of : TextOf) (image : Parts) (parameters : Parameters) (output : Output) : Type 0 where
+-- the headline, of an output: its journal is a coherent run of an image that fits, up to the end that it tells, and its text is this one of that run;
+-- an entry has a few pointers, or one for each node
+pub record IsToldBy (most : ℕ) (text_of : TextOf) (image : Parts) (parameters : Parameters) (output : Output) : Type 0 where
   pub image_is : IsImage image
   pub parameters_are : AreParameters parameters
-  pub fits : stamps_of image parameters ≤ most_steps
+  pub points : may_point (node_count image) parameters.pointers ≡ true
+  pub fits : stamps_of image parameters ≤ most
   pub ended : Ended
   pub run : IsCoherentRun image parameters output.journal ended
   pub ending : output.ending ≡ ending_of ended
   pub text : output.text ≡ text_of image parameters output.journal ended
 
--- that in a form
+-- that in a form, where no time is kept
 abbrev pub IsTold : Parts → Parameters → Form → Output → Type 0
-IsTold image parameters form output = IsToldBy (run_text form) image parameters output
+IsTold image parameters form output = IsToldBy most_steps (run_text form) image parameters output
 
 -- the image doesn't fit, by these numbers
-pub record IsTooMuch (image : Parts) (parameters : Parameters) (number most : ℕ) : Type 0 where
-  pub most_is : most ≡ most_steps
+pub record IsTooMuch (bound : ℕ) (image : Parts) (parameters : Parameters) (number most : ℕ) : Type 0 where
+  pub most_is : most ≡ bound
   pub number_is : number ≡ stamps_of image parameters
-  pub above : most_steps < stamps_of image parameters
+  pub above : bound < stamps_of image parameters

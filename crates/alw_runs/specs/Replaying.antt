@@ -2,9 +2,9 @@
 use Rattle.std.specs.Prelude.{◌≡◌, ◌≢◌, ℕ, ◌≤◌, true, None, List, Result, Ok, Err}
 use Rattle.alw_msg.specs.declared.events.Entry.{Entry}
 use Rattle.alw_image.specs.declared.parts.Parts.{Parts}
-use Rattle.alw_image.specs.Images.{IsImage}
+use Rattle.alw_image.specs.Images.{IsImage, node_count}
 use Rattle.alw_image.specs.Numbers.{HasWords}
-use Rattle.alw_image.specs.Parameters.{Parameters, AreParameters}
+use Rattle.alw_image.specs.Parameters.{Parameters, AreParameters, may_point}
 use Rattle.alw_model.specs.declared.ends.Ended.{Ended}
 use Rattle.alw_model.specs.Ends.{IsEnd}
 use Rattle.alw_model.specs.Headline.{IsCoherentRun}
@@ -41,9 +41,9 @@ pub record IsTraceThat (Holds : Trace → Type 0) (bytes : List ℕ) : Type 0 wh
   pub spelled : Spells bytes trace
   pub holds : Holds trace
 
--- the trace fits
-abbrev pub IsFit : Trace → Type 0
-IsFit trace = stamps_of trace.image trace.params ≤ most_steps
+-- the trace fits: nodes times the limit are no more than the most
+abbrev pub IsFit : ℕ → Trace → Type 0
+IsFit most trace = stamps_of trace.image trace.params ≤ most
 
 -- an entry is the first that isn't legal
 abbrev pub IsFirstIllegal : Trace → ℕ → Type 0
@@ -55,49 +55,49 @@ pub record IsUnfinished (trace : Trace) : Type 0 where
   pub going : end_of trace.image trace.params (state trace.image trace.params trace.journal) ≡ None
 
 -- all entries of a trace that fits are legal, and an end holds after the last
-pub record IsFinishedTrace (trace : Trace) : Type 0 where
-  pub fits : IsFit trace
+pub record IsFinishedTrace (most : ℕ) (trace : Trace) : Type 0 where
+  pub fits : IsFit most trace
   pub legal : IsLegal trace.image trace.params trace.journal
   pub ended : end_of trace.image trace.params (state trace.image trace.params trace.journal) ≢ None
 
 -- why a trace isn't taken again
-abbrev pub IsNotTaken : Trace → InputErr → Type 0
-IsNotTaken trace (reason.LimitDoesNotFit number most) = IsTooMuch trace.image trace.params number most
-IsNotTaken trace (reason.NotLegal k) = IsFit trace × IsFirstIllegal trace k
-IsNotTaken trace reason.Unfinished = IsFit trace × IsUnfinished trace
-IsNotTaken trace _ = ⊥
+abbrev pub IsNotTaken : ℕ → Trace → InputErr → Type 0
+IsNotTaken most trace (reason.LimitDoesNotFit number above) = IsTooMuch most trace.image trace.params number above
+IsNotTaken most trace (reason.NotLegal k) = IsFit most trace × IsFirstIllegal trace k
+IsNotTaken most trace reason.Unfinished = IsFit most trace × IsUnfinished trace
+IsNotTaken most trace _ = ⊥
 
 -- the end that holds after a trace's entries, of which a machine has taken so many: all of them; or why there is none
-abbrev pub EndsTrace : Trace → History → Result Ended Refusal → Type 0
-EndsTrace trace machine (Ok ended) =
+abbrev pub EndsTrace : ℕ → Trace → History → Result Ended Refusal → Type 0
+EndsTrace most trace machine (Ok ended) =
     (machine ≡ record (begun trace.image trace.params) { journal = trace.journal }) × IsEnd machine.image machine.parameters machine.journal ended
-EndsTrace trace machine (Err (refusal.Fault fault)) = IsNotTaken trace fault
-EndsTrace trace machine (Err refusal.NoMemory) = ⊥
+EndsTrace most trace machine (Err (refusal.Fault fault)) = IsNotTaken most trace fault
+EndsTrace most trace machine (Err refusal.NoMemory) = ⊥
 
 -- ---- the command
 
 -- the bytes are the text of a trace, whose journal was answered, and the text is this one of its run
-pub record TakesAgain (text_of : TextOf) (bytes : List ℕ) (output : Output) : Type 0 where
+pub record TakesAgain (most : ℕ) (text_of : TextOf) (bytes : List ℕ) (output : Output) : Type 0 where
   pub trace : Trace
   pub spelled : Spells bytes trace
   pub same : output.journal ≡ trace.journal
-  pub told : IsToldBy text_of trace.image trace.params output
+  pub told : IsToldBy most text_of trace.image trace.params output
   pub merged : output.merged ≡ 0
 
 abbrev pub Replays : Form → List ℕ → Output → Type 0
-Replays form bytes output = TakesAgain (run_text form) bytes output
+Replays form bytes output = TakesAgain most_steps (run_text form) bytes output
 
 -- the bytes are no trace, or one that isn't taken again
-abbrev pub IsNoReplay : List ℕ → InputErr → Type 0
-IsNoReplay bytes (reason.Text fault) = (fault ≢ text.NoMemory) × ReadsTrace bytes (Err fault)
-IsNoReplay bytes fault = IsTraceThat (λ trace. IsNotTaken trace fault) bytes
+abbrev pub IsNoReplay : ℕ → List ℕ → InputErr → Type 0
+IsNoReplay most bytes (reason.Text fault) = (fault ≢ text.NoMemory) × ReadsTrace bytes (Err fault)
+IsNoReplay most bytes fault = IsTraceThat (λ trace. IsNotTaken most trace fault) bytes
 
 -- the bytes spell a trace which is finished
-abbrev pub IsFinishedText : List ℕ → Type 0
-IsFinishedText bytes = IsTraceThat IsFinishedTrace bytes
+abbrev pub IsFinishedText : ℕ → List ℕ → Type 0
+IsFinishedText most bytes = IsTraceThat (IsFinishedTrace most) bytes
 
 abbrev pub replay_task : Form → Task
-replay_task form = record { reads = true; Makes = Replays form; Refuses = IsNoReplay; Accepts = IsFinishedText; is_done = is_run }
+replay_task form = record { reads = true; Makes = Replays form; Refuses = IsNoReplay most_steps; Accepts = IsFinishedText most_steps; is_done = is_run }
 
 -- ---- the trace of a run
 
@@ -105,11 +105,12 @@ abbrev pub trace_of : Parts → Parameters → List Entry → Trace
 trace_of image parameters journal = record { image = image; params = parameters; journal = journal }
 
 -- a coherent run of an image that fits, whose words are of 32 bits: what `run` makes of an image that it read
-pub record IsRunThatFits (image : Parts) (parameters : Parameters) (journal : List Entry) (ended : Ended) : Type 0 where
+pub record IsRunThatFits (most : ℕ) (image : Parts) (parameters : Parameters) (journal : List Entry) (ended : Ended) : Type 0 where
   pub image_is : IsImage image
   pub words : HasWords image
   pub parameters_are : AreParameters parameters
-  pub fits : stamps_of image parameters ≤ most_steps
+  pub points : may_point (node_count image) parameters.pointers ≡ true
+  pub fits : stamps_of image parameters ≤ most
   pub run : IsCoherentRun image parameters journal ended
 
 -- an output that tells the same as this run does, by a text of it
@@ -117,6 +118,12 @@ pub record TellsTheSame (text_of : TextOf) (image : Parts) (parameters : Paramet
   pub same : output.journal ≡ journal
   pub end : output.ending ≡ ending_of ended
   pub text : output.text ≡ text_of image parameters journal ended
+
+-- an output that tells the same as another
+pub record TellsAgain (output again : Output) : Type 0 where
+  pub same : again.journal ≡ output.journal
+  pub end : again.ending ≡ output.ending
+  pub text : again.text ≡ output.text
 
 -- by its report
 abbrev pub ReportsTheSame : Parts → Parameters → List Entry → Ended → Output → Type 0

@@ -1,5 +1,5 @@
 ghost use Rattle.alw_answers.specs.Outputs.{Gives};
-ghost use Rattle.alw_runs.specs.Running.{Runs, IsNoRun};
+ghost use Rattle.alw_runs.specs.Running.{Runs, IsNoRun, parameters_in};
 
 use crate::forms::told;
 use alw_answers::{Output, Refusal};
@@ -17,10 +17,12 @@ pub fn run_bytes(
     form: Form,
     bytes: &[u8],
 ) -> Result<Output, Refusal>
-    ensures { Gives (Runs seed params.now form bytes.now) (IsNoRun params.now bytes.now) result }
+    ensures { Gives (Runs seed (parameters_in params.now bytes.now) form bytes.now) (IsNoRun (parameters_in params.now bytes.now) bytes.now) result }
 {
     let image = read_image(alloc, bytes)?;
-    let mut machine = Machine::start(alloc, &image, params)?;
+    let _allowed = params.limit(); // for its clause
+    let params = params.for_nodes(image.nodes());
+    let mut machine = Machine::start(alloc, &image, &params)?;
     let ended = finish(&mut machine, seed)?;
     let output = told(alloc, machine, ended, form)?;
     Ok(output)

@@ -76,7 +76,8 @@ IsUnfinished image parameters turns = image.contexts ≡ 1 → (flat_halted (fla
 
 -- what is answered: the machine that has taken the turns, with the end that holds behind them, or why there is none
 abbrev pub Serves : Parts → Parameters → List ℕ → Result Served ServeErr → Type 0
-Serves image parameters turns (Ok served) = HasTaken image parameters turns served.machine × IsEnd served.machine.image served.machine.parameters served.machine.journal served.ended
+Serves image parameters turns (Ok served) =
+    HasTaken image parameters turns served.machine × IsEnd served.machine.image served.machine.parameters served.machine.journal served.ended × (stamps_of image parameters ≤ most_steps)
 Serves image parameters turns (Err (errors.DoesNotFit number most)) = (most_steps < number) × (number ≡ stamps_of image parameters) × (most ≡ most_steps)
 Serves image parameters turns (Err (errors.NotTaken turn why)) = (turn < length turns) × StandsAgainst image parameters turns turn why
 Serves image parameters turns (Err errors.NotFinished) = IsUnfinished image parameters turns

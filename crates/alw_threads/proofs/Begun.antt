@@ -35,7 +35,7 @@ use Rattle.alw_answers.specs.Outputs.{Gives}
 use Rattle.alw_answers.specs.Refusals.{refusal_of_fit}
 use Rattle.alw_runs.specs.Forms.{IsTold, IsTooMuch, output_of}
 use Rattle.alw_threads.specs.Working.{IsJoinedByWorkers, IsBegun, KeepsCopies, Works, AreTooMany, HasRoom, IsNotWorked}
-use Rattle.alw_runs.proofs.Ended.{IsReadAs, told_of_run}
+use Rattle.alw_runs.proofs.Ended.{IsReadAs, IsFitFor, told_of_run}
 use Rattle.alw_threads.proofs.Trapped.{trapped_after, any_of}
 
 -- ---- no eviction among the entries of logs
@@ -124,20 +124,21 @@ module _ (image : Parts) (params : Parameters) (machine : History) (left : IsJoi
               (subst (λ (es : List Entry). MachineIsSeeded (record { image = image; parameters = params; journal = es; joined = length entries }) 0 after) (sym front_is) from_all);
         }
 
-    told_so : (form : Form) → IsTold image params form (record (output_of after e form) { merged = length machine.journal })
-    told_so form =
+    told_so : (form : Form) → IsFitFor most_steps image params → IsTold image params form (record (output_of after e form) { merged = length machine.journal })
+    told_so form fit =
+        let fit_after = subst (λ (h : History). IsFitFor most_steps h.image h.parameters) (sym after_is) fit in
         let told : IsTold image params form (output_of after e form) =
-        subst (λ (h : History). IsTold h.image h.parameters form (output_of after e form)) after_is (told_of_run after e form finished.run finished.end) in
-        record { image_is = told.image_is; parameters_are = told.parameters_are; fits = told.fits; ended = told.ended; run = told.run; ending = told.ending; text = told.text }
+        subst (λ (h : History). IsTold h.image h.parameters form (output_of after e form)) after_is (told_of_run after e form finished.run fit_after finished.end) in
+        record { image_is = told.image_is; parameters_are = told.parameters_are; points = told.points; fits = told.fits; ended = told.ended; run = told.run; ending = told.ending; text = told.text }
 
     -- and the bytes were read as the image
-    pub worked : (workers : ℕ) (form : Form) (bytes : List ℕ) → IsReadAs bytes image → workers ≤ node_count image →
+    pub worked : (workers : ℕ) (form : Form) (bytes : List ℕ) → IsReadAs bytes image → IsFitFor most_steps image params → workers ≤ node_count image →
         Works workers params form bytes (record (output_of after e form) { merged = length machine.journal })
-    worked workers form bytes read few = record {
+    worked workers form bytes read fit few = record {
       accepted = read.accepted;
       spelled = read.spelled ∙ ap spelling read.same;
       few = subst (λ (p : Parts). workers ≤ node_count p) read.same few;
-      told = subst (λ (p : Parts). IsTold p params form (record (output_of after e form) { merged = length machine.journal })) read.same (told_so form);
+      told = subst (λ (p : Parts). IsTold p params form (record (output_of after e form) { merged = length machine.journal })) read.same (told_so form fit);
       evicts = λ none. seeded_evicts _ 0 after from_all none (main none);
       begun = subst (λ (p : Parts). IsBegun p params after.journal (length machine.journal)) read.same
           (subst (λ (n : ℕ). IsBegun image params after.journal n) (sym (ap (λ (h : History). length h.journal) left.is)) begun_so);
@@ -147,7 +148,7 @@ module _ (image : Parts) (params : Parameters) (machine : History) (left : IsJoi
 pub not_worked : (Makes : Output → Type 0) (workers : ℕ) (params : Parameters) (bytes : List ℕ) (image : Parts) → IsReadAs bytes image → (why : Refusal) →
     HasRoom workers params image (Err why) → Gives Makes (IsNotWorked workers params bytes) (Err why)
 not_worked Makes workers params bytes image read (refusal.Fault (reason.LimitDoesNotFit number most)) is =
-    (read.accepted, subst (λ (p : Parts). IsTooMuch p params number most) read.same is)
+    (read.accepted, subst (λ (p : Parts). IsTooMuch most_steps p params number most) read.same is)
 not_worked Makes workers params bytes image read (refusal.Fault (reason.WorkersDoNotFit number most)) is =
     (read.accepted, (subst (λ (p : Parts). stamps_of p params ≤ most_steps) read.same is.0, subst (λ (p : Parts). AreTooMany p workers number most) read.same is.1))
 not_worked Makes workers params bytes image read (refusal.Fault _) is = absurd is

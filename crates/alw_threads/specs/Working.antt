@@ -24,6 +24,7 @@ use Rattle.alw_answers.specs.declared.outputs.Refusal.{Refusal}
 use Rattle.alw_answers.specs.declared.outputs.Refusal.TheVariants as refusal
 use Rattle.alw_answers.specs.Outputs.{is_run}
 use Rattle.alw_runs.specs.Forms.{IsTold, IsTooMuch}
+use Rattle.alw_runs.specs.Running.{parameters_in}
 use Rattle.alw_answers.specs.Tasks.{Task}
 
 -- What workers left of a journal: its first entries ascend by stamp and node, each node is spent after them unless a context has trapped, and the
@@ -57,7 +58,7 @@ pub record AreTooMany (image : Parts) (workers number most : ℕ) : Type 0 where
 
 -- the image doesn't fit, or it does, and there are more workers than nodes
 abbrev pub IsNoWork : ℕ → Parameters → Parts → InputErr → Type 0
-IsNoWork workers parameters image (reason.LimitDoesNotFit number most) = IsTooMuch image parameters number most
+IsNoWork workers parameters image (reason.LimitDoesNotFit number most) = IsTooMuch most_steps image parameters number most
 IsNoWork workers parameters image (reason.WorkersDoNotFit number most) =
     (stamps_of image parameters ≤ most_steps) × AreTooMany image workers number most
 IsNoWork workers parameters image _ = ⊥
@@ -82,9 +83,9 @@ pub record IsWorkable (workers : ℕ) (parameters : Parameters) (bytes : List �
 abbrev pub work_task : ℕ → Parameters → Form → Task
 work_task workers parameters form = record {
   reads = true;
-  Makes = Works workers parameters form;
-  Refuses = IsNotWorked workers parameters;
-  Accepts = IsWorkable workers parameters;
+  Makes = λ bytes. Works workers (parameters_in parameters bytes) form bytes;
+  Refuses = λ bytes. IsNotWorked workers (parameters_in parameters bytes) bytes;
+  Accepts = λ bytes. IsWorkable workers (parameters_in parameters bytes) bytes;
   is_done = is_run;
 }
 

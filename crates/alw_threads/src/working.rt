@@ -1,8 +1,7 @@
 ghost use Rattle.std.specs.Prelude.{◌≤◌, IfOk};
 ghost use Rattle.alw_image.specs.Images.{node_count};
-ghost use Rattle.alw_mesh.specs.Histories.{stamps_of};
-ghost use Rattle.alw_mesh.specs.declared.errors.TheConstants.{MOST_STEPS};
 ghost use Rattle.alw_answers.specs.Outputs.{Gives};
+ghost use Rattle.alw_runs.specs.Running.{parameters_in};
 ghost use Rattle.alw_threads.specs.Working.{Works, IsNotWorked, HasRoom, IsJoinedByWorkers};
 
 use alw_answers::{InputErr, Output, Refusal};
@@ -30,11 +29,13 @@ pub fn work_bytes<R: Threads + Wait + Sync, G: Gate>(
     gate: &G,
 ) -> Result<Output, Refusal>
     requires { 1 ≤ workers }
-    ensures { Gives (Works workers params.now form bytes.now) (IsNotWorked workers params.now bytes.now) result }
+    ensures { Gives (Works workers (parameters_in params.now bytes.now) form bytes.now) (IsNotWorked workers (parameters_in params.now bytes.now) bytes.now) result }
 {
     let image = read_image(alloc, bytes)?;
-    fit_workers(&image, params, workers)?;
-    let mut machine = joined::<R, G>(rt, alloc, &image, params, workers, gate)?;
+    let _allowed = params.limit(); // for its clause
+    let params = params.for_nodes(image.nodes());
+    fit_workers(&image, &params, workers)?;
+    let mut machine = joined::<R, G>(rt, alloc, &image, &params, workers, gate)?;
     let merged = machine.journal().len();
     let ended = finish(&mut machine, 0)?;
     let mut output = told(alloc, machine, ended, form)?;
@@ -66,7 +67,6 @@ fn joined<R: Threads + Wait + Sync, G: Gate>(
 ) -> Result<Machine, NoMemory>
     requires some { 1 ≤ workers }
     requires few { workers ≤ node_count image.now }
-    requires fits { stamps_of image.now params.now ≤ MOST_STEPS }
     ensures { IfOk result (λ machine. IsJoinedByWorkers image.now params.now machine) }
 {
     let worked = run_workers::<R, G>(rt, alloc, image, params, workers, gate)?;

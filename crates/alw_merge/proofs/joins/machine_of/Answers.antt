@@ -4,11 +4,11 @@ use Rattle.alw_merge.proofs.joins.machine_of.Goals as goal
 
 pub overflow_sub-counts : goal.overflow_sub-counts
 overflow_sub-counts c =
-    holds_of_walked c.requires.worked c.parts-allowed.ensures.allowed c.limit-read.ensures.allowed c.holds_of.result c.holds_of.ensures
+    holds_of_walked c.requires c.parts-allowed.ensures.allowed c.limit-read.ensures.allowed c.holds_of.result c.holds_of.ensures
 
-pub joined-requires-clause-parts : goal.joined-requires-clause-parts
-joined-requires-clause-parts c =
-    let worked = c.requires.worked in
+pub joined-requires : goal.joined-requires
+joined-requires c =
+    let worked = c.requires in
     record {
       legal = legal_of worked;
       nodes_are = nodes_of worked;

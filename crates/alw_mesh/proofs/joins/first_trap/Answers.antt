@@ -11,7 +11,7 @@ pub tell_all-requires-clause-begun : goal.tell_all-requires-clause-begun
 tell_all-requires-clause-begun c = c.in_ok-machine.ensures ∙ sym (ap (λ (h : History). begun h.image h.parameters) c.in_ok-machine.ensures)
 
 pub tell_all-requires-clause-legal : goal.tell_all-requires-clause-legal
-tell_all-requires-clause-legal c = subst (λ (h : History). IsLegal h.image h.parameters c.args.journal.now) (sym c.in_ok-machine.ensures) c.requires.legal
+tell_all-requires-clause-legal c = subst (λ (h : History). IsLegal h.image h.parameters c.args.journal.now) (sym c.in_ok-machine.ensures) c.requires
 
 pub tell_all-requires-clause-told : goal.tell_all-requires-clause-told
 tell_all-requires-clause-told c =

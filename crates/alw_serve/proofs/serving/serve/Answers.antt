@@ -16,4 +16,4 @@ pub returns : goal.returns
 returns c =
     let started = c.in_ok-machine.ensures in
     let taken = c.in_ok-ended.ensures in
-    (subst (λ (x : History). HasTaken x.image x.parameters c.args.turns.now c.take_turns.new.machine) started.0 taken.0, taken.1)
+    (subst (λ (x : History). HasTaken x.image x.parameters c.args.turns.now c.take_turns.new.machine) started.0 taken.0, taken.1, started.1)
