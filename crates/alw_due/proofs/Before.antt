@@ -12,10 +12,10 @@ heads_say x y true is = by_test (nat_lt x y) refl is
     by_test false lt is = inr (grind (arith, nat_tests, is), refl)
 heads_say x y false is = inl (grind (arith, nat_tests, is))
 
-heads_less : (x y : ℕ) (rest : Bool) → x < y → (nat_lt x y || (x == y && rest)) ≡ true
+pub heads_less : (x y : ℕ) (rest : Bool) → x < y → (nat_lt x y || (x == y && rest)) ≡ true
 heads_less x y rest lt = grind (arith, nat_tests, lt)
 
-heads_same : (x y : ℕ) (rest : Bool) → x ≡ y → rest ≡ true → (nat_lt x y || (x == y && rest)) ≡ true
+pub heads_same : (x y : ℕ) (rest : Bool) → x ≡ y → rest ≡ true → (nat_lt x y || (x == y && rest)) ≡ true
 heads_same x y rest same is = grind (arith, nat_tests, same, is)
 
 -- no list comes before itself

@@ -4,12 +4,13 @@ use Rattle.alw_num.specs.declared.addresses.NodeNo.{NodeNo}
 use Rattle.alw_msg.specs.declared.events.Event.{Event}
 use Rattle.alw_msg.specs.declared.events.Event.TheVariants.{Instr, Handle, Deliver, Evict}
 use Rattle.alw_msg.specs.Events.{node_of, is_evict}
-use Rattle.alw_mesh.specs.Histories.{History}
+use Rattle.alw_mesh.specs.Histories.{History, may_be_next}
 use Rattle.alw_times.specs.declared.costs.Costs.{Costs}
 use Rattle.alw_times.specs.Times.{Times}
-use Rattle.alw_due.specs.declared.picking.Due.{Due}
+use Rattle.alw_due.specs.declared.keys.Due.{Due}
 use Rattle.alw_due.specs.Due.{is_due_for, rank_of, sender_of, key_for, is_before}
-use Rattle.alw_due.specs.Picks.{numbers_of, earlier, IsDueOf, IsFirstOf, IsBestOf}
+use Rattle.alw_due.specs.Picks.{numbers_of, earlier, IsKeyOf, HasKey, IsFirstOf, IsBestOf}
+use Rattle.alw_due.specs.Bests.{IsEvent}
 use Rattle.alw_due.proofs.Before.{before_trans, before_or_same}
 
 -- ---- node, rank and sender decide which main event it is
@@ -18,10 +19,10 @@ node_is : (a b : NodeNo) → a.0 ≡ b.0 → a ≡ b
 node_is a b same = λ i. record { 0 = same i }
 
 -- the member of a list at a place
-abbrev at : List ℕ → ℕ → ℕ
-at [] k = 0
-at (x ∷ xs) zero = x
-at (x ∷ xs) (suc k) = at xs k
+abbrev number_at : List ℕ → ℕ → ℕ
+number_at [] k = 0
+number_at (x ∷ xs) zero = x
+number_at (x ∷ xs) (suc k) = number_at xs k
 
 pub one_key : (one other : Event) → is_evict one ≡ false → is_evict other ≡ false → node_of one ≡ node_of other → rank_of one ≡ rank_of other → sender_of one ≡ sender_of other → one ≡ other
 one_key (Instr a) (Instr b) main also node rank sender = ap Instr (node_is a b node)
@@ -43,15 +44,12 @@ module _ (h : History) (costs : Costs) (times : Times) where
   key event = key_for h costs times event
 
   pub same_event : (one other : Event) → is_evict one ≡ false → is_evict other ≡ false → key one ≡ key other → one ≡ other
-  same_event one other main also same = one_key one other main also (ap (λ ns. at ns 1) same) (ap (λ ns. at ns 2) same) (ap (λ ns. at ns 4) same)
+  same_event one other main also same = one_key one other main also (ap (λ ns. number_at ns 1) same) (ap (λ ns. number_at ns 2) same) (ap (λ ns. number_at ns 4) same)
 
   -- ---- a set of events
 
-  IsFirstBehind : (due : Due) → Event → Type 0
-  IsFirstBehind due other = IsFirstOf h costs times (Some due) other
-
   -- an event that stands in front of the first of others does so of each of them
-  in_front : (one two : Due) (other : Event) → is_before (key one.event) (key two.event) ≡ true → IsFirstOf h costs times (Some two) other → IsFirstOf h costs times (Some one) other
+  pub in_front : (one two : Due) (other : Event) → is_before (key one.event) (key two.event) ≡ true → IsFirstOf h costs times (Some two) other → IsFirstOf h costs times (Some one) other
   in_front one two other lt (inl same) = inr (subst (λ (e : Event). is_before (key one.event) (key e) ≡ true) (sym same) lt)
   in_front one two other lt (inr more) = inr (before_trans (key one.event) (key two.event) (key other) lt more)
 
@@ -64,17 +62,6 @@ module _ (h : History) (costs : Costs) (times : Times) where
       by_order (inl same) = subst (λ (e : Event). (other ≡ e) ⊎ (is_before (key e) (key other) ≡ true)) (same_event two.event one.event also main same) first
       by_order (inr lt) = in_front one two other lt first
 
-  -- one event alone
-  pub of_one : (event : Event) (due : Option Due) → IsDueOf h costs times event due → IsBestOf h costs times (λ other. other ≡ event) due
-  of_one event None isnt = record {
-    one = tt;
-    first = λ other same is. absurd (cc);
-  }
-  of_one event (Some due) is = record {
-    one = (is.0, is.1);
-    first = λ other same due_too. inl (same ∙ sym is.1);
-  }
-
   -- no event
   pub of_none : (In : Event → Type 0) → ((other : Event) → In other → ⊥) → IsBestOf h costs times In None
   of_none In none = record {
@@ -82,15 +69,30 @@ module _ (h : History) (costs : Costs) (times : Times) where
     first = λ other within is. absurd (none other within);
   }
 
-  -- the same set in other words
-  pub same_set : (In Also : Event → Type 0) → ((e : Event) → In e → Also e) → ((e : Event) → Also e → In e) → (best : Option Due) → IsBestOf h costs times In best → IsBestOf h costs times Also best
-  same_set In Also to back None best = record {
+  -- one event alone, where it may be next
+  none_is : (event other : Event) → may_be_next h event ≡ false → IsEvent h event other → ⊥
+  none_is event other isnt of = let may : may_be_next h event ≡ true = ap (may_be_next h) (sym of.0) ∙ of.1 in absurd (cc)
+
+  pub none_may : (event : Event) → may_be_next h event ≡ false → IsBestOf h costs times (IsEvent h event) None
+  none_may event isnt = of_none (IsEvent h event) (λ other of. none_is event other isnt of)
+
+  pub none_due : (event : Event) → is_due_for h costs times event ≡ false → IsBestOf h costs times (IsEvent h event) None
+  none_due event isnt = record {
     one = tt;
-    first = λ other within is. best.first other (back other within) is;
+    first = λ other of is. let due : is_due_for h costs times event ≡ true = ap (is_due_for h costs times) (sym of.0) ∙ is in absurd (cc);
   }
-  same_set In Also to back (Some due) best = record {
-    one = (best.one.0, to due.event best.one.1);
-    first = λ other within is. best.first other (back other within) is;
+
+  pub has_key : (event : Event) (due : Due) → IsKeyOf h costs times event due → is_due_for h costs times event ≡ true → HasKey h costs times due
+  has_key event due is due_is = record {
+    due_is = ap (is_due_for h costs times) is.event_is ∙ due_is;
+    key_is = is.key_is ∙ sym (ap (key_for h costs times) is.event_is);
+    early = is.early;
+  }
+
+  pub of_event : (event : Event) (due : Due) → IsKeyOf h costs times event due → is_due_for h costs times event ≡ true → may_be_next h event ≡ true → IsBestOf h costs times (IsEvent h event) (Some due)
+  of_event event due is due_is may = record {
+    one = (has_key event due is due_is, (is.event_is, ap (may_be_next h) is.event_is ∙ may));
+    first = λ other of due_too. inl (of.0 ∙ sym is.event_is);
   }
 
   -- two sets together
@@ -121,7 +123,7 @@ module _ (h : History) (costs : Costs) (times : Times) where
       by_side other is (inl here) = a.first other here is
       by_side other is (inr there) = absurd (b.first other there is)
   of_both A B C (Some one) (Some two) main left right apart a b =
-      by_test (is_before (numbers_of two.key) (numbers_of one.key)) (sym (λ i. is_before (b.one.0.key_is i) (a.one.0.key_is i)))
+      by_test (is_before (numbers_of two) (numbers_of one)) (sym (λ i. is_before (b.one.0.key_is i) (a.one.0.key_is i)))
     where
       main_one : is_evict one.event ≡ false
       main_one = main one.event (left one.event a.one.1)

@@ -7,7 +7,7 @@ use Rattle.alw_mesh.specs.Ends.{next_events}
 use Rattle.alw_times.specs.declared.costs.Costs.{Costs}
 use Rattle.alw_times.specs.Times.{Times, queue_at, is_later}
 use Rattle.alw_sched.proofs.Picking.{some_event}
-use Rattle.alw_due.specs.declared.picking.Due.{Due}
+use Rattle.alw_due.specs.declared.keys.Due.{Due}
 use Rattle.alw_due.specs.Due.{end_in, start_for, is_due_for, IsFirstDue}
 use Rattle.alw_due.specs.Picks.{IsBestOf}
 use Rattle.alw_due.proofs.Mains.{in_next}

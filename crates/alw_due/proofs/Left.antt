@@ -1,51 +1,61 @@
--- The first of the due events of a node stays where an event of another one sends nothing to it, and not every context halts with it.
-use Rattle.std.proofs.Common.{◌≡◌, ◌≢◌, ℕ, zero, suc, ◌<◌, Bool, true, false, not, ◌&&◌, ◌||◌, ◌==◌, IsTrue, Option, Some, None, List, [], ◌∷◌, slice_set, slice_index_or, inl, inr, refl, sym, ap, subst, ◌∙◌}
+-- The first of the due events of a node stays where an event of another one happens, and not every context halts with it, but for deliveries of what that event sent.
+use Rattle.std.proofs.Common.{◌≡◌, ◌≢◌, ℕ, zero, suc, ◌<◌, nat_le, Bool, true, false, not, ◌&&◌, ◌||◌, IsTrue, Option, Some, None, List, [], ◌∷◌, slice_set, slice_index_or, inl, inr, refl, sym, ap, subst, ◌∙◌}
 use Rattle.std.specs.List.{list_all}
-use Rattle.std.proofs.lemmas.Bool.{ne_eqb}
 use Rattle.alw_msg.specs.declared.messages.Msg.{Msg}
 use Rattle.alw_msg.specs.declared.events.Event.{Event}
 use Rattle.alw_msg.specs.declared.events.Event.TheVariants.{Instr, Handle, Deliver, Evict}
+use Rattle.alw_msg.specs.declared.events.Entry.{Entry}
 use Rattle.alw_msg.specs.Events.{node_of}
+use Rattle.alw_image.specs.declared.parts.Parts.{Parts}
 use Rattle.alw_image.specs.Images.{node_count}
+use Rattle.alw_image.specs.Parameters.{Parameters}
+use Rattle.alw_model.specs.declared.steps.Did.TheVariants.{Took}
 use Rattle.alw_model.specs.Contexts.{running, all_halted}
 use Rattle.alw_model.specs.NodeStates.{NodeState}
-use Rattle.alw_model.specs.Machine.{MachineState, node_at, no_node, is_enabled, has_halted, stepped_by, step}
+use Rattle.alw_model.specs.Machine.{MachineState, machine_start, node_at, no_node, is_enabled, has_halted, stepped_by, step, state, after, AreLegal, IsLegal}
+use Rattle.alw_model.specs.Runs.{moments, moments_from}
 use Rattle.alw_model.proofs.Journals.{and_parts, state_push}
-use Rattle.law_lines.specs.Links.{GoBelow, msgs_to}
-use Rattle.alw_proc.proofs.Keeping.{runs_within}
+use Rattle.law_lines.specs.Links.{GoBelow}
+use Rattle.law_order.specs.Orders.{SeesAlike}
 use Rattle.law_order.proofs.Aimed.{sends_below}
-use Rattle.law_order.proofs.Local.{node_kept}
+use Rattle.law_order.proofs.Local.{HasFront, node_kept, taken_kept, has_front, enabled_alike, stamp_alike}
 use Rattle.law_order.proofs.Clocks.{node_stepped}
-use Rattle.law_order.proofs.Reached.{state_aimed}
-use Rattle.law_machine.proofs.MachineRuns.{always_kept}
+use Rattle.law_times.proofs.Apart.{HasTime, start_kept, arrival_kept}
+use Rattle.law_times.proofs.Counted.{has_time, runs_within}
+use Rattle.law_times.proofs.Orders.{AreTimesOf, start_are, step_are, timed_at}
+use Rattle.alw_ready.specs.Fits.{may_happen}
 use Rattle.alw_ready.specs.Changes.{is_fed_for}
 use Rattle.alw_ready.proofs.Leaves.{other_stays}
 use Rattle.alw_mesh.specs.Histories.{History, IsRun, grown, entry_of, state_of, may_be_next, last_sends}
+use Rattle.alw_mesh.specs.Moments.{moment_in}
 use Rattle.alw_mesh.specs.Readings.{node_in}
 use Rattle.alw_mesh.proofs.Journals.{last_push}
 use Rattle.alw_times.specs.declared.costs.Costs.{Costs}
 use Rattle.alw_times.specs.declared.happenings.TimedMoment.{TimedMoment}
-use Rattle.alw_ready.specs.Fits.{may_happen}
-use Rattle.alw_times.specs.Times.{Times, queue_at, is_later, timed, start_by, start_of, finish_of, left_by}
+use Rattle.alw_times.specs.Times.{Times, times_start, queue_at, is_later, timed, timed_all, times_of, start_by, passed}
 use Rattle.alw_times.specs.Happening.{happened_of}
 use Rattle.alw_times.proofs.Rising.{times_push}
-use Rattle.alw_mesh.specs.Moments.{moment_in}
-use Rattle.alw_timing.specs.declared.timing.RunTimes.{RunTimes}
+use Rattle.alw_timing.specs.declared.timing.Timekeeper.{Timekeeper}
 use Rattle.alw_timing.specs.Timing.{TimesAreKept}
-use Rattle.alw_due.specs.declared.picking.Due.{Due}
+use Rattle.alw_due.specs.declared.keys.Due.{Due}
 use Rattle.alw_due.specs.Due.{times_in, slot_for, start_for, is_due_for, rank_of, arrived_at, sender_of, key_for, is_before}
-use Rattle.alw_due.specs.Picks.{IsFirstOf, IsBestOf}
-use Rattle.alw_due.specs.Bests.{IsOf, best_at, NoneTo, AreBests, AreBestsBut}
+use Rattle.alw_due.specs.Picks.{IsOneOf, IsFirstOf, IsBestOf}
+use Rattle.alw_due.specs.Bests.{IsOf, best_at, AreBests, IsBestBut, AreBestsBut}
 use Rattle.alw_due.proofs.Mains.{here}
-use Rattle.alw_due.proofs.Stays.{SlotIsWithin, packets_stay, start_stays, arrival_stays}
+use Rattle.alw_due.proofs.Stays.{packets_stay}
 
--- ---- the slot that runs exists
+-- ---- times and a machine
 
-slot_within : (h : History) → IsRun h → (n : ℕ) → n < node_count h.image → (o : Option ℕ) → running (node_in h n).slots (node_in h n).current ≡ o → SlotIsWithin h.image o
-slot_within h run n exists None runs = tt
-slot_within h run n exists (Some slot) runs =
-    let kept = (always_kept h.image run.image h.parameters run.parameters h.journal run.legal).has.contexts n exists in
-    subst (λ (k : ℕ). slot < k) kept.size (runs_within (node_in h n).slots (node_in h n).current slot runs)
+module _ (parts : Parts) (parameters : Parameters) (costs : Costs) where
+  are_after : (times : Times) (s : MachineState) (journal : List Entry) → AreTimesOf parts parameters costs times s → AreLegal parts parameters s journal →
+      AreTimesOf parts parameters costs (timed_all parts costs times (moments_from parts parameters s journal)) (after parts parameters s journal)
+  are_after times s [] are legal = are
+  are_after times s (entry ∷ rest) are legal =
+      are_after (timed_at parts parameters costs times s entry) (step parts parameters s entry.event) rest (step_are parts parameters costs times s entry legal.0.enabled are) legal.1
+
+  pub times_are_of : (journal : List Entry) → IsLegal parts parameters journal → AreTimesOf parts parameters costs (times_of parts parameters costs journal) (state parts parameters journal)
+  unfolding times_of moments state
+  times_are_of journal legal = are_after (times_start parts costs) (machine_start parts) journal (start_are parts parameters costs) legal
 
 -- ---- whether every context has halted
 
@@ -54,144 +64,156 @@ all_set test [] n node same = refl
 all_set test (first ∷ rest) zero node same = ap (λ b. b && list_all test rest) same
 all_set test (first ∷ rest) (suc n) node same = ap (λ b. test first && b) (all_set test rest n node same)
 
--- ---- nothing is sent to a node
-
-none_msgs : (m : ℕ) (sends : List (ℕ × Msg)) → NoneTo m sends → msgs_to m sends ≡ []
-none_msgs m [] none = refl
-none_msgs m (send ∷ rest) none = rw (ne_eqb m send.0 (λ same. none.0 (sym same))) (none_msgs m rest none.1)
-
-none_fed : (n : ℕ) (sends : List (ℕ × Msg)) (other : Event) → NoneTo (node_of other) sends → is_fed_for n sends other ≡ false
-none_fed n sends (Instr at) none = refl
-none_fed n sends (Handle at) none = refl
-none_fed n sends (Deliver from to) none = rw (none_msgs to.0 sends none) (never (from.0 == n))
-  where
-    never : (b : Bool) → (b && false) ≡ false
-    never true = refl
-    never false = refl
-none_fed n sends (Evict at set) none = refl
-
--- ---- the first of a set, by other times of another machine
-
-module _ (h g : History) (costs : Costs) (times later : Times) (In Also : Event → Type 0) (to : (e : Event) → In e → Also e) (back : (e : Event) → Also e → In e)
-    (due_stays : (e : Event) → In e → is_due_for g costs later e ≡ is_due_for h costs times e) (key_stays : (e : Event) → In e → key_for g costs later e ≡ key_for h costs times e) where
-  pub moved : (best : Option Due) → IsBestOf h costs times In best → IsBestOf g costs later Also best
-  moved None best = record {
-    one = tt;
-    first = λ other within is. best.first other (back other within) (sym (due_stays other (back other within)) ∙ is);
-  }
-  moved (Some due) best = record {
-    one = (record { due_is = due_stays due.event best.one.1 ∙ best.one.0.due_is; key_is = best.one.0.key_is ∙ sym (key_stays due.event best.one.1) }, to due.event best.one.1);
-    first = λ other within is. by_first other (back other within) (best.first other (back other within) (sym (due_stays other (back other within)) ∙ is));
-  }
-    where
-      by_first : (other : Event) → In other → IsFirstOf h costs times (Some due) other → IsFirstOf g costs later (Some due) other
-      by_first other within (inl same) = inl same
-      by_first other within (inr lt) = inr ((λ i. is_before (key_stays due.event best.one.1 i) (key_stays other within i)) ∙ lt)
-
 -- ---- an event
 
 module _ (h : History) (costs : Costs) (event : Event) (run : IsRun h) (may : may_be_next h event ≡ true) where
-  abbrev s : MachineState
+  abbrev pub s : MachineState
   s = state_of h
 
-  abbrev next : MachineState
+  abbrev pub next : MachineState
   next = step h.image h.parameters s event
 
-  abbrev sends : List (ℕ × Msg)
+  abbrev pub sends : List (ℕ × Msg)
   sends = (stepped_by h.image h.parameters s event).sends
 
-  after_is : state_of (grown h event) ≡ next
+  abbrev g : History
+  g = grown h event
+
+  abbrev pub times : Times
+  times = times_in h costs
+
+  abbrev pub later : Times
+  later = times_in g costs
+
+  pub after_is : state_of g ≡ next
   after_is = state_push h.image h.parameters h.journal (entry_of h event)
 
-  enabled : IsTrue (is_enabled h.image h.parameters s event)
-  enabled = (and_parts (is_enabled h.image h.parameters s event) _ may).0
+  able : (other : Event) → may_be_next h other ≡ true → IsTrue (is_enabled h.image h.parameters s other)
+  able other is = (and_parts (is_enabled h.image h.parameters s other) _ is).0
+
+  pub are : AreTimesOf h.image h.parameters costs times s
+  are = times_are_of h.image h.parameters costs h.journal run.legal
 
   -- where the event's node goes on as before, the machine does
-  pub halts_alike : all_halted (node_in (grown h event) (node_of event)).slots ≡ all_halted (node_in h (node_of event)).slots → has_halted next ≡ has_halted s
+  pub halts_alike : all_halted (node_in g (node_of event)).slots ≡ all_halted (node_in h (node_of event)).slots → has_halted next ≡ has_halted s
   halts_alike same =
       let n = node_of event in
-      let stepped : node_in (grown h event) n ≡ (stepped_by h.image h.parameters s event).node =
-      ap (λ (m : MachineState). node_at m n) after_is ∙ node_stepped h.image h.parameters s event (state_aimed h.image h.parameters h.journal run.legal) enabled in
+      let stepped : node_in g n ≡ (stepped_by h.image h.parameters s event).node =
+      ap (λ (m : MachineState). node_at m n) after_is ∙ node_stepped h.image h.parameters s event are.aimed (able event may) in
       all_set (λ node. all_halted node.slots) s.nodes n (stepped_by h.image h.parameters s event).node (ap (λ (node : NodeState). all_halted node.slots) (sym stepped) ∙ same)
 
-  abbrev happened : TimedMoment
+  -- what it sends goes to nodes
+  pub goes_below : GoBelow (node_count h.image) (last_sends g)
+  goes_below = subst (λ (all : List (ℕ × Msg)). GoBelow (node_count h.image) all) (sym (last_push h run.joined event)) (sends_below h.image h.parameters s event (able event may) are.aimed)
+
+  abbrev pub happened : TimedMoment
   happened = happened_of (moment_in h event)
 
   -- the times after it
-  times_are : (begin end : ℕ) → begin ≡ start_of h.image costs (times_in h costs) happened → end ≡ finish_of h.image costs (times_in h costs) happened sends →
-      times_in (grown h event) costs ≡ left_by h.image costs (times_in h costs) happened sends begin end
+  pub times_are : later ≡ passed h.image costs times happened sends
   unfolding timed
-  times_are begin end is was = times_push h.image h.parameters costs h.journal (entry_of h event) ∙ (λ i. left_by h.image costs (times_in h costs) happened sends (sym is i) (sym was i))
+  times_are = times_push h.image h.parameters costs h.journal (entry_of h event)
 
-  module _ (alike : has_halted next ≡ has_halted s) (m : ℕ) (apart : m ≢ node_of event) (exists : m < node_count h.image) (none : NoneTo m sends) where
-    abbrev g : History
-    g = grown h event
+  module _ (alike : has_halted next ≡ has_halted s) where
+    -- ---- an event of another node
 
-    abbrev times : Times
-    times = times_in h costs
+    pub before_too : (other : Event) → node_of other ≢ node_of event → node_of other < node_count h.image → is_fed_for (node_of event) sends other ≡ false → may_be_next g other ≡ may_be_next h other
+    before_too other apart exists fed =
+        ap (λ (m : MachineState). may_happen h.image h.parameters m other) after_is ∙ other_stays h.image h.parameters s event are.aimed (able event may) alike other apart exists fed
 
-    abbrev later : Times
-    later = times_in (grown h event) costs
+    module _ (other : Event) (apart : node_of other ≢ node_of event) (exists : node_of other < node_count h.image) (front : HasFront h.image h.parameters s.links other) where
+      sees : SeesAlike h.image other next s
+      sees = record {
+        node = node_kept h.image h.parameters s event (stepped_by h.image h.parameters s event) (node_of other) apart;
+        taken = taken_kept h.image h.parameters s event other (stepped_by h.image h.parameters s event) (here h event may) exists apart front;
+      }
 
-    abbrev began : ℕ
-    began = start_of h.image costs (times_in h costs) happened
+      pub may_alike : may_be_next g other ≡ may_be_next h other
+      may_alike =
+          ap (λ (m : MachineState). may_happen h.image h.parameters m other) after_is
+          ∙ (λ x. enabled_alike h.image h.parameters next s other sees x && (nat_le (stamp_alike h.image h.parameters next s other sees x) h.parameters.limit || alike x))
 
-    abbrev ended : ℕ
-    ended = finish_of h.image costs (times_in h costs) happened sends
+      has : HasTime h.image times.arrivals other
+      has = has_time h.image h.parameters times.arrivals s.links other are.arrivals front
 
-    below : GoBelow (node_count h.image) sends
-    below = sends_below h.image h.parameters s event enabled (state_aimed h.image h.parameters h.journal run.legal)
+      -- it, as one that happens
+      abbrev as_moment : TimedMoment
+      as_moment = record { event = other; slot = slot_for h other; last = 0; taken = None; did = Took; woken = [] }
 
-    may_stays : (other : Event) → node_of other ≡ m → may_be_next g other ≡ may_be_next h other
-    may_stays other is =
-        ap (λ (m : MachineState). may_happen h.image h.parameters m other) after_is
-        ∙ other_stays h.image h.parameters s event (state_aimed h.image h.parameters h.journal run.legal) enabled alike other
-        (λ same. apart (sym is ∙ same)) (subst (λ (n : ℕ). n < node_count h.image) (sym is) exists)
-        (none_fed (node_of event) sends other (subst (λ (n : ℕ). NoneTo n sends) (sym is) none))
+      slot_stays : slot_for g other ≡ slot_for h other
+      slot_stays = ap (λ (node : NodeState). running node.slots node.current) (ap (λ (m : MachineState). node_at m (node_of other)) after_is ∙ sees.node)
 
-    slot_stays : (other : Event) → node_of other ≡ m → slot_for g other ≡ slot_for h other
-    slot_stays other is =
-        let kept : node_in g (node_of other) ≡ node_in h (node_of other) =
-        ap (λ (m : MachineState). node_at m (node_of other)) after_is ∙ node_kept h.image h.parameters s event (stepped_by h.image h.parameters s event) (node_of other) (λ same. apart (sym is ∙ same)) in
-        ap (λ (node : NodeState). running node.slots node.current) kept
+      start_alike : start_for g costs later other ≡ start_for h costs times other
+      start_alike = (λ i. start_by h.image costs (times_are i) (slot_stays i) other)
+          ∙ start_kept h.image costs happened as_moment sends times (here h event may) exists apart (runs_within h.image s (node_of other) are.slots) has
 
-    starts_stay : (other : Event) → node_of other ≡ m → start_for g costs later other ≡ start_for h costs times other
-    starts_stay other is =
-        let within = slot_within h run (node_of other) (subst (λ (n : ℕ). n < node_count h.image) (sym is) exists) (slot_for h other) refl in
-        (λ i. start_by h.image costs (times_are began ended refl refl i) (slot_stays other is i) other)
-        ∙ start_stays h.image costs times happened sends began ended m apart exists (here h event may) below none (slot_for h other) other is within
+    -- one that might be next before has a message to take
+    fronts : (other : Event) → may_be_next h other ≡ true → HasFront h.image h.parameters s.links other
+    fronts other might = has_front h.image h.parameters s other (able other might)
 
-    arrivals_stay : (other : Event) → node_of other ≡ m → arrived_at h.image later other ≡ arrived_at h.image times other
-    arrivals_stay other is =
-        ap (λ (t : Times). arrived_at h.image t other) (times_are began ended refl refl) ∙ arrival_stays h.image costs times happened sends began ended m apart exists (here h event may) below none other is
+    pub start_stays : (other : Event) → node_of other ≢ node_of event → may_be_next h other ≡ true → start_for g costs later other ≡ start_for h costs times other
+    start_stays other apart might = start_alike other apart (here h other might) (fronts other might)
 
-    queue_stays : queue_at later.packets m ≡ queue_at times.packets m
-    queue_stays = ap (λ (t : Times). queue_at t.packets m) (times_are began ended refl refl) ∙ packets_stay h.image costs times happened sends began ended m apart exists (here h event may) below none
+    may_still : (other : Event) → node_of other ≢ node_of event → may_be_next h other ≡ true → may_be_next g other ≡ true
+    may_still other apart might = may_alike other apart (here h other might) (fronts other might) ∙ might
 
-    key_stays : (other : Event) → node_of other ≡ m → key_for g costs later other ≡ key_for h costs times other
-    key_stays other is = λ i. starts_stay other is i ∷ node_of other ∷ rank_of other ∷ arrivals_stay other is i ∷ sender_of other ∷ []
+    arrived_stays : (other : Event) → node_of other ≢ node_of event → may_be_next h other ≡ true → arrived_at h.image later other ≡ arrived_at h.image times other
+    arrived_stays (Instr at) apart might = refl
+    arrived_stays (Handle at) apart might = refl
+    arrived_stays (Deliver from to) apart might =
+        let other = Deliver from to in
+        ap (λ (t : Times). arrived_at h.image t other) times_are
+        ∙ arrival_kept h.image costs happened (as_moment other apart (here h other might) (fronts other might)) sends times (here h event may) (here h other might) apart
+        (has other apart (here h other might) (fronts other might))
+    arrived_stays (Evict at set) apart might = refl
 
-    due_stays : (other : Event) → node_of other ≡ m → is_due_for g costs later other ≡ is_due_for h costs times other
-    due_stays (Instr at) is =
-        let queue : queue_at later.packets at.0 ≡ queue_at times.packets at.0 = subst (λ (n : ℕ). queue_at later.packets n ≡ queue_at times.packets n) (sym is) queue_stays in
-        λ i. not (may_stays (Handle at) is i) || is_later (queue i) (starts_stay (Instr at) is i)
-    due_stays (Handle at) is = refl
-    due_stays (Deliver from to) is = refl
-    due_stays (Evict at set) is = refl
+    key_stays : (other : Event) → node_of other ≢ node_of event → may_be_next h other ≡ true → key_for g costs later other ≡ key_for h costs times other
+    key_stays other apart might = λ i. start_stays other apart might i ∷ node_of other ∷ rank_of other ∷ arrived_stays other apart might i ∷ sender_of other ∷ []
 
-    best_stays : (best : Option Due) → IsBestOf h costs times (IsOf h m) best → IsBestOf g costs later (IsOf g m) best
-    best_stays best is =
-        moved h g costs times later (IsOf h m) (IsOf g m) (λ e of. (may_stays e of.2 ∙ of.0, of.1, of.2)) (λ e of. (sym (may_stays e of.2) ∙ of.0, of.1, of.2))
-        (λ e of. due_stays e of.2) (λ e of. key_stays e of.2) best is
+    pub due_stays : (other : Event) → node_of other ≢ node_of event → may_be_next h other ≡ true → is_due_for g costs later other ≡ is_due_for h costs times other
+    due_stays (Instr at) apart might =
+        let queue : queue_at later.packets at.0 ≡ queue_at times.packets at.0 = ap (λ (t : Times). queue_at t.packets at.0) times_are ∙ packets_stay h.image costs times happened sends at.0 apart in
+        let handles = before_too (Handle at) apart (here h (Instr at) might) refl in
+        λ i. not (handles i) || is_later (queue i) (start_stays (Instr at) apart might i)
+    due_stays (Handle at) apart might = refl
+    due_stays (Deliver from to) apart might = refl
+    due_stays (Evict at set) apart might = refl
 
-  -- all but those of its own node, and of those that it sent to
-  pub bests_left : has_halted next ≡ has_halted s → (bests : List (Option Due)) → AreBests h costs (times_in h costs) bests →
-      AreBestsBut (grown h event) costs (times_in (grown h event) costs) (node_of event) (last_sends (grown h event)) bests
-  bests_left alike bests are = record {
-    counted = are.counted;
-    each = λ n exists apart none.
-        let none_too = subst (λ (all : List (ℕ × Msg)). NoneTo n all) (last_push h run.joined event) none in
-        best_stays alike n apart exists none_too (best_at bests n) (are.each n exists);
+    -- ---- another node
+
+    module _ (m : ℕ) (apart : m ≢ node_of event) (exists : m < node_count h.image) where
+      off : (other : Event) → node_of other ≡ m → node_of other ≢ node_of event
+      off other is same = apart (sym is ∙ same)
+
+      one_stays : (best : Option Due) → IsOneOf h costs times (IsOf h m) best → IsOneOf g costs later (IsOf g m) best
+      one_stays None one = tt
+      one_stays (Some due) one =
+          let away = off due.event one.1.2 in (
+            record { due_is = due_stays due.event away one.1.0 ∙ one.0.due_is; key_is = one.0.key_is ∙ sym (key_stays due.event away one.1.0); early = one.0.early },
+            (may_still due.event away one.1.0, one.1.1, one.1.2),
+          )
+
+      first_stays : (best : Option Due) (other : Event) → IsOneOf h costs times (IsOf h m) best → IsOf h m other → IsFirstOf h costs times best other → IsFirstOf g costs later best other
+      first_stays None other one of never = absurd never
+      first_stays (Some due) other one of (inl same) = inl same
+      first_stays (Some due) other one of (inr lt) =
+          inr ((λ i. is_before (key_stays due.event (off due.event one.1.2) one.1.0 i) (key_stays other (off other of.2) of.0 i)) ∙ lt)
+
+      best_stays : (best : Option Due) → IsBestOf h costs times (IsOf h m) best → IsBestBut g costs later (node_of event) sends m best
+      best_stays best is = record {
+        one = one_stays best is.one;
+        first = λ other of fed due.
+            let away = off other of.2 in
+            let might = sym (before_too other away (subst (λ (n : ℕ). n < node_count h.image) (sym of.2) exists) fed) ∙ of.0 in
+            first_stays best other is.one (might, of.1, of.2) (is.first other (might, of.1, of.2) (sym (due_stays other away might) ∙ due));
+      }
+
+  -- all but those of its own node, and but for deliveries of what it sent
+  pub bests_left : has_halted next ≡ has_halted s → (bests : List (Option Due)) → AreBests h costs times bests → AreBestsBut g costs later (node_of event) (last_sends g) bests
+  bests_left alike bests are_bests = record {
+    past = are_bests.past;
+    each = λ n exists apart. subst (λ (all : List (ℕ × Msg)). IsBestBut g costs later (node_of event) all n (best_at bests n)) (sym (last_push h run.joined event))
+        (best_stays alike n apart exists (best_at bests n) (are_bests.each n exists));
   }
 
 -- ---- after it
@@ -202,18 +224,19 @@ live_alike one other true false same is was = absurd (cc)
 live_alike one other false true same is was = absurd (cc)
 live_alike one other false false same is was = refl
 
-pub left_after : (h : History) (costs : Costs) (kept_times : RunTimes) (event : Event) (after : History) (after_costs : Costs) (after_times : RunTimes) (own : ℕ) (bests : List (Option Due)) (live was_live : Bool) →
-    IsRun h → may_be_next h event ≡ true → TimesAreKept costs h costs kept_times → AreBests h costs kept_times.clocks bests → after ≡ grown h event → TimesAreKept costs after after_costs after_times →
+pub left_after : (h : History) (now : Timekeeper) (event : Event) (after : History) (later : Timekeeper) (own : ℕ) (bests : List (Option Due)) (live was_live : Bool) →
+    IsRun h → may_be_next h event ≡ true → TimesAreKept now h now → AreBests h now.costs now.times.clocks bests → after ≡ grown h event → TimesAreKept now after later →
     own ≡ node_of event → live ≡ was_live → live ≡ not (all_halted (node_in after (node_of event)).slots) → was_live ≡ not (all_halted (node_in h (node_of event)).slots) →
-    AreBestsBut after after_costs after_times.clocks own (last_sends after) bests
-left_after h costs kept_times event after after_costs after_times own bests live was_live run may kept are after_is later own_is same is was =
+    AreBestsBut after later.costs later.times.clocks own (last_sends after) bests
+left_after h now event after later own bests live was_live run may kept are after_is more own_is same is was =
+    let costs = now.costs in
     let n = node_of event in
     let alike = live_alike live was_live (all_halted (node_in after n).slots) (all_halted (node_in h n).slots) same is was in
     let alike_too = subst (λ (g : History). all_halted (node_in g n).slots ≡ all_halted (node_in h n).slots) after_is alike in
     let before = subst (λ (t : Times). AreBests h costs t bests) kept.are.clocks are in
     let left = bests_left h costs event run may (halts_alike h costs event run may alike_too) bests before in
     let here_after : AreBestsBut after costs (times_in after costs) n (last_sends after) bests = subst (λ (g : History). AreBestsBut g costs (times_in g costs) n (last_sends g) bests) (sym after_is) left in
-    let timed : AreBestsBut after costs after_times.clocks n (last_sends after) bests = subst (λ (t : Times). AreBestsBut after costs t n (last_sends after) bests) (sym later.are.clocks) here_after in
-    let costed : AreBestsBut after after_costs after_times.clocks n (last_sends after) bests =
-    subst (λ (c : Costs). AreBestsBut after c after_times.clocks n (last_sends after) bests) (sym later.costs_are) timed in
-    subst (λ (k : ℕ). AreBestsBut after after_costs after_times.clocks k (last_sends after) bests) (sym own_is) costed
+    let timed : AreBestsBut after costs later.times.clocks n (last_sends after) bests = subst (λ (t : Times). AreBestsBut after costs t n (last_sends after) bests) (sym more.are.clocks) here_after in
+    let costed : AreBestsBut after later.costs later.times.clocks n (last_sends after) bests =
+    subst (λ (c : Costs). AreBestsBut after c later.times.clocks n (last_sends after) bests) (sym more.costs_are) timed in
+    subst (λ (k : ℕ). AreBestsBut after later.costs later.times.clocks k (last_sends after) bests) (sym own_is) costed

@@ -1,10 +1,13 @@
+pub mod Ascending
 pub mod Before
 pub mod Best
 pub mod Coming
+pub mod Deliveries
+pub mod Kept
 pub mod Left
 pub mod Mains
 pub mod Members
+pub mod OfNode
 pub mod Renewed
-pub mod Sorted
 pub mod Stays
 pub mod Timely

@@ -1,6 +1,5 @@
 -- Members of lists: the main events that may be next, and those of them that are due.
-use Rattle.std.proofs.Common.{◌≡◌, ℕ, zero, suc, ◌+◌, ◌<◌, ◌≤◌, Bool, true, false, cond, Some, List, [], ◌∷◌, filter, slice_get, length, ◌⊎◌, inl, inr, refl, sym, ap, subst, ◌∙◌, arith}
-use Rattle.alw_num.proofs.Weigh.{cases_lt_then}
+use Rattle.std.proofs.Common.{◌≡◌, ℕ, zero, suc, ◌≤◌, Bool, true, false, cond, Some, List, [], ◌∷◌, filter, slice_get, length, ◌⊎◌, inl, inr, refl, sym, ap, subst, arith}
 use Rattle.alw_msg.specs.declared.events.Event.{Event}
 use Rattle.alw_msg.specs.Events.{is_evict}
 use Rattle.alw_model.specs.Machine.{main_events}
@@ -66,38 +65,3 @@ next_may h event within = (of_kept (may_be_next h) (main_events h.image) event w
 
 pub next_main : (h : History) (event : Event) → IsIn (next_events h) event → is_evict event ≡ false
 next_main h event within = main_at h within.place event within.stands
-
--- the members of a front, and one more
-pub record IsBelow (xs : List Event) (count : ℕ) (x : Event) : Type 0 where
-  pub place : ℕ
-  pub early : place < count
-  pub stands : slice_get xs place ≡ Some x
-
-pub none_below : (xs : List Event) (x : Event) → IsBelow xs 0 x → ⊥
-none_below xs x below = omega (arith, below.early)
-
-pub in_below : (xs : List Event) (count : ℕ) (x : Event) → IsBelow xs count x → IsIn xs x
-in_below xs count x below = record { place = below.place; stands = below.stands }
-
-pub below_more : (xs : List Event) (count : ℕ) (x : Event) → IsBelow xs count x → IsBelow xs (count + 1) x
-below_more xs count x below = record { place = below.place; early = omega (arith, below.early); stands = below.stands }
-
-pub last_below : (xs : List Event) (count : ℕ) (y x : Event) → slice_get xs count ≡ Some y → x ≡ y → IsBelow xs (count + 1) x
-last_below xs count y x there same = record { place = count; early = omega arith; stands = there ∙ ap Some (sym same) }
-
-pub below_cases : (xs : List Event) (count : ℕ) (y x : Event) → slice_get xs count ≡ Some y → IsBelow xs (count + 1) x → IsBelow xs count x ⊎ (x ≡ y)
-below_cases xs count y x there below = cases_lt_then count below.place
-    (λ lt. inl (record { place = below.place; early = lt; stands = below.stands }))
-    (λ from. let at : below.place ≡ count = omega (arith, below.early, from) in
-    inr (some_is x y (sym below.stands ∙ (ap (λ k. slice_get xs k) at ∙ there))))
-
-pub get_within : (xs : List Event) (k : ℕ) (x : Event) → slice_get xs k ≡ Some x → k < length xs
-get_within [] k x got = absurd (cc)
-get_within (y ∷ xs) zero x got = omega arith
-get_within (y ∷ xs) (suc k) x got = let rest = get_within xs k x got in omega (arith, rest)
-
-pub all_below : (xs : List Event) (count : ℕ) (x : Event) → length xs ≤ count → IsIn xs x → IsBelow xs count x
-all_below xs count x all within = record { place = within.place; early = (let few = get_within xs within.place x within.stands in omega (arith, few, all)); stands = within.stands }
-
-pub next_may_at : (h : History) (k : ℕ) (event : Event) → slice_get (next_events h) k ≡ Some event → may_be_next h event ≡ true
-next_may_at h k event got = next_may h event (record { place = k; stands = got })

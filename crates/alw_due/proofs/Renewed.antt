@@ -1,218 +1,172 @@
--- Of each node the first of its due events: renewed node by node, and the first of all.
-use Rattle.std.proofs.Common.{◌≡◌, ◌≢◌, ℕ, zero, suc, ◌+◌, ◌<◌, ◌≤◌, Bool, true, false, not, Option, Some, None, List, [], ◌∷◌, drop, length, slice_get, slice_set, ◌⊎◌, inl, inr, refl, sym, ap, subst, ◌∙◌, arith}
-use Rattle.std.proofs.lemmas.List.{get_or-set_same, get_or-set_other, length-set}
-use Rattle.alw_num.proofs.Weigh.{cases_lt_then, is_node}
+-- Of each node the first of its due events: renewed node by node, or compared with a delivery of what was sent.
+use Rattle.std.proofs.Common.{◌≡◌, ◌≢◌, ℕ, zero, suc, ◌+◌, ◌<◌, ◌≤◌, ◌==◌, ◌&&◌, Bool, true, false, cond, Option, Some, None, List, [], ◌∷◌, drop, length, replicate, slice_get, ◌⊎◌, inl, inr, refl, sym, ap, subst, ◌∙◌, arith}
+use Rattle.std.proofs.lemmas.Bool.{eqb-true, ne_eqb}
+use Rattle.alw_num.proofs.Weigh.{is_node}
 use Rattle.alw_msg.specs.declared.messages.Msg.{Msg}
 use Rattle.alw_msg.specs.declared.events.Event.{Event}
+use Rattle.alw_msg.specs.declared.events.Event.TheVariants.{Instr, Handle, Deliver, Evict}
 use Rattle.alw_msg.specs.Events.{node_of, is_evict}
+use Rattle.alw_msg.specs.Lists.{is_nonempty}
 use Rattle.alw_image.specs.Images.{node_count}
-use Rattle.alw_mesh.specs.Histories.{History, may_be_next}
-use Rattle.alw_mesh.specs.Ends.{next_events}
+use Rattle.alw_model.proofs.Journals.{and_parts}
+use Rattle.law_lines.specs.Links.{GoBelow, msgs_to}
+use Rattle.alw_ready.specs.Rows.{delivery}
+use Rattle.alw_ready.specs.Changes.{is_fed_for}
+use Rattle.alw_mesh.specs.Histories.{History}
 use Rattle.alw_times.specs.declared.costs.Costs.{Costs}
 use Rattle.alw_times.specs.Times.{Times}
 use Rattle.alw_times.proofs.Walks.{drop_get}
-use Rattle.alw_due.specs.declared.picking.Due.{Due}
-use Rattle.alw_due.specs.Due.{end_in, IsFirstDue}
-use Rattle.alw_due.specs.Picks.{earlier, IsDueOf, IsBestOf}
-use Rattle.alw_due.specs.Bests.{IsOf, least_of, best_at, NoneTo, AreBests, AreBestsBut, NodeIsRenewed, NodeBegins}
-use Rattle.alw_due.proofs.Best.{of_one, of_none, of_both, same_set}
-use Rattle.alw_due.proofs.Members.{IsIn, IsBelow, next_may, next_main, in_below, below_more, last_below, below_cases, all_below}
-use Rattle.alw_due.proofs.Mains.{here, in_next}
-use Rattle.alw_due.proofs.Coming.{first_is, never_none}
-use Rattle.alw_due.proofs.Sorted.{in_order_or_same}
+use Rattle.alw_due.specs.declared.keys.Due.{Due}
+use Rattle.alw_due.specs.Due.{is_due_for}
+use Rattle.alw_due.specs.Picks.{earlier, IsOneOf, IsFirstOf, IsBestOf}
+use Rattle.alw_due.specs.Bests.{IsOf, IsEvent, best_at, IsPut, NoneIsPast, AreBests, IsBestBut, AreBestsBut, NodeIsRenewed, DeliveryIsCompared}
+use Rattle.alw_due.proofs.Best.{of_both}
+
+-- ---- what was sent
+
+-- each of some sends goes to a node below a number
+pub below_at : (count : ℕ) (sends : List (ℕ × Msg)) (i : ℕ) (send : ℕ × Msg) → GoBelow count sends → slice_get sends i ≡ Some send → send.0 < count
+below_at count [] i send below got = absurd (cc)
+below_at count (first ∷ rest) zero send below got = subst (λ (s : ℕ × Msg). s.0 < count) (some_is first send got) below.0
+  where
+    some_is : (a b : ℕ × Msg) → Some a ≡ Some b → a ≡ b
+    some_is a b same = cc
+below_at count (first ∷ rest) (suc i) send below got = below_at count rest i send below.1 got
+
+never_fed : (b : Bool) → (b && false) ≡ false
+never_fed true = refl
+never_fed false = refl
+
+none_fed : (own : ℕ) (event : Event) → is_fed_for own [] event ≡ false
+none_fed own (Instr at) = refl
+none_fed own (Handle at) = refl
+none_fed own (Deliver from to) = never_fed (from.0 == own)
+none_fed own (Evict at set) = refl
+
+-- what is sent to another node doesn't matter
+fed_elsewhere : (own : ℕ) (send : ℕ × Msg) (rest : List (ℕ × Msg)) (event : Event) → node_of event ≢ send.0 → is_fed_for own (send ∷ rest) event ≡ is_fed_for own rest event
+fed_elsewhere own send rest (Instr at) apart = refl
+fed_elsewhere own send rest (Handle at) apart = refl
+fed_elsewhere own send rest (Deliver from to) apart = ap (λ b. from.0 == own && is_nonempty (cond b (send.1 ∷ msgs_to to.0 rest) (msgs_to to.0 rest))) (ne_eqb to.0 send.0 apart)
+fed_elsewhere own send rest (Evict at set) apart = refl
+
+-- what was sent to is a delivery from its sender
+pub fed_is : (own to : ℕ) (sends : List (ℕ × Msg)) (event : Event) → is_fed_for own sends event ≡ true → node_of event ≡ to → event ≡ delivery own to
+fed_is own to sends (Instr at) fed node = absurd (cc)
+fed_is own to sends (Handle at) fed node = absurd (cc)
+fed_is own to sends (Deliver from at) fed node = let same = eqb-true from.0 own (and_parts (from.0 == own) (is_nonempty (msgs_to at.0 sends)) fed).0 in λ i. delivery (same i) (node i)
+fed_is own to sends (Evict at set) fed node = absurd (cc)
+
+pub none_stands : (count n : ℕ) → best_at (replicate count None) n ≡ None
+none_stands zero n = refl
+none_stands (suc count) zero = refl
+none_stands (suc count) (suc n) = none_stands count n
 
 module _ (h : History) (costs : Costs) (times : Times) where
-  -- ---- the events of a node, from the place where they begin
+  -- what stands for a node once one was put
+  at_put : (P : Option Due → Type 0) (n m : ℕ) (best : Option Due) (before after : List (Option Due)) → IsPut n best before after → (m ≡ n → P best) → (m ≢ n → P (best_at before m)) → P (best_at after m)
+  at_put P n m best before after put here others = is_node (P (best_at after m)) m n
+      (λ same. subst P (sym (ap (best_at after) same ∙ put.here)) (here same))
+      (λ other. subst P (sym (put.others m other)) (others other))
 
-  -- an event of a node that stands below a place
-  abbrev pub IsOfBelow : ℕ → ℕ → Event → Type 0
-  IsOfBelow n count event = IsBelow (next_events h) count event × (node_of event ≡ n)
+  past_put : (n : ℕ) (best : Option Due) (before after : List (Option Due)) → n < node_count h.image → IsPut n best before after → NoneIsPast (node_count h.image) before → NoneIsPast (node_count h.image) after
+  past_put n best before after exists put past m from = put.others m (λ same. omega (arith, same, exists, from)) ∙ past m from
 
-  abbrev pub IsBestOfBelow : ℕ → ℕ → Option Due → Type 0
-  IsBestOfBelow n count best = IsBestOf h costs times (IsOfBelow n count) best
-
-  begins : (n first : ℕ) → NodeBegins h n first → IsBestOfBelow n first None
-  begins n first are = of_none h costs times (IsOfBelow n first)
-      (λ other of. let lower = are.below of.0.place other of.0.early of.0.stands in let at = of.1 in omega (arith, lower, at))
-
-  goes_on : (n count : ℕ) (best : Option Due) (event : Event) (due : Option Due) → IsBestOfBelow n count best → slice_get (next_events h) count ≡ Some event →
-      node_of event ≡ n → IsDueOf h costs times event due → IsBestOfBelow n (count + 1) (earlier best due)
-  goes_on n count best event due so_far there at is =
-      of_both h costs times (IsOfBelow n count) (λ other. other ≡ event) (IsOfBelow n (count + 1)) best due
-      (λ e of. next_main h e (in_below (next_events h) (count + 1) e of.0))
-      (λ e of. (below_more (next_events h) count e of.0, of.1))
-      (λ e same. (last_below (next_events h) count event e there same, ap node_of same ∙ at))
-      (λ e of. by_cases e of.1 (below_cases (next_events h) count event e there of.0))
-      so_far (of_one h costs times event due is)
-    where
-      by_cases : (e : Event) → node_of e ≡ n → IsBelow (next_events h) count e ⊎ (e ≡ event) → IsOfBelow n count e ⊎ (e ≡ event)
-      by_cases e of (inl below) = inl (below, of)
-      by_cases e of (inr same) = inr same
-
-  -- all of the node's events stand below a place
-  of_all : (n count : ℕ) (best : Option Due) → ((e : Event) → IsOf h n e → IsOfBelow n count e) → IsBestOfBelow n count best → IsBestOf h costs times (IsOf h n) best
-  of_all n count best all is = same_set h costs times (IsOfBelow n count) (IsOf h n)
-      (λ e of. let within = in_below (next_events h) count e of.0 in (next_may h e within, next_main h e within, of.1)) all best is
-
-  ends_at_another : (n first count : ℕ) (best : Option Due) (event : Event) → NodeBegins h n first → first ≤ count → IsBestOfBelow n count best →
-      slice_get (next_events h) count ≡ Some event → node_of event ≢ n → IsBestOf h costs times (IsOf h n) best
-  ends_at_another n first count best event are le is there other = of_all n count best stands is
-    where
-      above : n < node_of event
-      above = let from = are.above count event le there in omega (arith, from, other)
-
-      stands : (e : Event) → IsOf h n e → IsOfBelow n count e
-      stands e of = by_place (in_next h e of.1 of.0)
-        where
-          by_place : IsIn (next_events h) e → IsOfBelow n count e
-          by_place within = cases_lt_then count within.place
-              (λ lt. (record { place = within.place; early = lt; stands = within.stands }, of.2))
-              (λ le. absurd (not_behind (in_order_or_same h count within.place event e le there within.stands)))
-            where
-              not_behind : node_of event ≤ node_of e → ⊥
-              not_behind le = let at = of.2 in omega (arith, le, at, above)
-
-  ends_at_end : (n count : ℕ) (best : Option Due) → length (next_events h) ≤ count → IsBestOfBelow n count best → IsBestOf h costs times (IsOf h n) best
-  ends_at_end n count best all is = of_all n count best (λ e of. (all_below (next_events h) count e all (in_next h e of.1 of.0), of.2)) is
-
-  -- the first of a node's events so far
-  pub record IsWalked (n count : ℕ) (best : Option Due) : Type 0 where
-    pub first : ℕ
-    pub begun : NodeBegins h n first
-    pub reached : first ≤ count
-    pub best_is : IsBestOfBelow n count best
-
-  pub walk_begins : (n first : ℕ) → NodeBegins h n first → IsWalked n first None
-  walk_begins n first begun = record { first = first; begun = begun; reached = omega arith; best_is = begins n first begun }
-
-  pub walk_goes_on : (n count : ℕ) (best : Option Due) (event : Event) (due : Option Due) → IsWalked n count best → slice_get (next_events h) count ≡ Some event →
-      node_of event ≡ n → IsDueOf h costs times event due → IsWalked n (count + 1) (earlier best due)
-  walk_goes_on n count best event due so_far there at is = record {
-    first = so_far.first;
-    begun = so_far.begun;
-    reached = omega (arith, so_far.reached);
-    best_is = goes_on n count best event due so_far.best_is there at is;
-  }
-
-  pub walk_ends_early : (n count : ℕ) (best : Option Due) (event : Event) → IsWalked n count best → slice_get (next_events h) count ≡ Some event → node_of event ≢ n →
-      IsBestOf h costs times (IsOf h n) best
-  walk_ends_early n count best event so_far there other = ends_at_another n so_far.first count best event so_far.begun so_far.reached so_far.best_is there other
-
-  pub walk_ends : (n count : ℕ) (best : Option Due) → length (next_events h) ≤ count → IsWalked n count best → IsBestOf h costs times (IsOf h n) best
-  walk_ends n count best all so_far = ends_at_end n count best all so_far.best_is
+  -- a node that was looked at again, among others
+  node_renewed : (n m : ℕ) (before after : List (Option Due)) → NodeIsRenewed h costs times n before after → (m ≢ n → IsBestOf h costs times (IsOf h m) (best_at before m)) → IsBestOf h costs times (IsOf h m) (best_at after m)
+  node_renewed n m before after again others =
+      at_put (IsBestOf h costs times (IsOf h m)) n m again.best before after again.put (λ same. subst (λ (k : ℕ). IsBestOf h costs times (IsOf h k) again.best) (sym same) again.best_is) others
 
   -- ---- node by node
 
-  -- what stands for a node once one was looked at again
-  node_renewed : (n m : ℕ) (before after : List (Option Due)) → NodeIsRenewed h costs times n before after → (m ≢ n → IsBestOf h costs times (IsOf h m) (best_at before m)) →
-      m < length before → IsBestOf h costs times (IsOf h m) (best_at after m)
-  node_renewed n m before after again others within = is_node (IsBestOf h costs times (IsOf h m) (best_at after m)) m n
-      (λ same.
-      let at : best_at after m ≡ again.best = ap (λ bs. best_at bs m) again.after_is ∙ (ap (λ k. best_at (slice_set before k again.best) m) (sym same) ∙ get_or-set_same before m again.best None within) in
-      subst (λ (due : Option Due). IsBestOf h costs times (IsOf h m) due) (sym at) (subst (λ (k : ℕ). IsBestOf h costs times (IsOf h k) again.best) (sym same) again.best_is))
-      (λ other.
-      let at : best_at after m ≡ best_at before m = ap (λ bs. best_at bs m) again.after_is ∙ get_or-set_other before n m again.best None other in
-      subst (λ (due : Option Due). IsBestOf h costs times (IsOf h m) due) (sym at) (others other))
-
-  length_renewed : (n : ℕ) (before after : List (Option Due)) → NodeIsRenewed h costs times n before after → length after ≡ length before
-  length_renewed n before after again = ap (λ bs. length bs) again.after_is ∙ length-set before n again.best
-
   -- the nodes below a number were looked at again
   pub record AreBestsBelow (count : ℕ) (bests : List (Option Due)) : Type 0 where
-    pub counted : length bests ≡ node_count h.image
-    pub each : (n : ℕ) → n < count → n < node_count h.image → IsBestOf h costs times (IsOf h n) (best_at bests n)
+    pub past : NoneIsPast (node_count h.image) bests
+    pub each : (n : ℕ) → n < count → IsBestOf h costs times (IsOf h n) (best_at bests n)
 
-  pub none_renewed : (bests : List (Option Due)) → length bests ≡ node_count h.image → AreBestsBelow 0 bests
-  none_renewed bests counted = record { counted = counted; each = λ n lt exists. absurd (omega (arith, lt)) }
+  pub none_renewed : (bests : List (Option Due)) → NoneIsPast (node_count h.image) bests → AreBestsBelow 0 bests
+  none_renewed bests past = record { past = past; each = λ n lt. absurd (omega (arith, lt)) }
 
-  pub one_renewed : (count : ℕ) (before after : List (Option Due)) → AreBestsBelow count before → NodeIsRenewed h costs times count before after → AreBestsBelow (count + 1) after
-  one_renewed count before after are again = record {
-    counted = length_renewed count before after again ∙ are.counted;
-    each = λ n lt exists. node_renewed count n before after again (λ other. are.each n (omega (arith, lt, other)) exists) (omega (arith, exists, are.counted));
+  pub one_renewed : (count : ℕ) (before after : List (Option Due)) → count < node_count h.image → AreBestsBelow count before → NodeIsRenewed h costs times count before after → AreBestsBelow (count + 1) after
+  one_renewed count before after exists are again = record {
+    past = past_put count again.best before after exists again.put are.past;
+    each = λ n lt. node_renewed count n before after again (λ other. are.each n (omega (arith, lt, other)));
   }
 
   pub all_renewed : (count : ℕ) (bests : List (Option Due)) → node_count h.image ≤ count → AreBestsBelow count bests → AreBests h costs times bests
-  all_renewed count bests all are = record { counted = are.counted; each = λ n exists. are.each n (omega (arith, exists, all)) exists }
+  all_renewed count bests all are = record { past = are.past; each = λ n exists. are.each n (omega (arith, exists, all)) }
 
-  -- the nodes but those of some sends are right
-  pub record AreBestsAside (sends : List (ℕ × Msg)) (bests : List (Option Due)) : Type 0 where
-    pub counted : length bests ≡ node_count h.image
-    pub each : (n : ℕ) → n < node_count h.image → NoneTo n sends → IsBestOf h costs times (IsOf h n) (best_at bests n)
+  -- ---- an event's own node, and what it sent
 
-  pub own_renewed : (own : ℕ) (sends : List (ℕ × Msg)) (before after : List (Option Due)) → AreBestsBut h costs times own sends before → NodeIsRenewed h costs times own before after →
-      AreBestsAside sends after
-  own_renewed own sends before after are again = record {
-    counted = length_renewed own before after again ∙ are.counted;
-    each = λ n exists none. node_renewed own n before after again (λ other. are.each n exists other none) (omega (arith, exists, are.counted));
-  }
+  module _ (own : ℕ) where
+    best_but : (n : ℕ) (sends : List (ℕ × Msg)) (best : Option Due) → IsBestOf h costs times (IsOf h n) best → IsBestBut h costs times own sends n best
+    best_but n sends best is = record { one = is.one; first = λ other of fed due. is.first other of due }
 
-  pub send_renewed : (sends : List (ℕ × Msg)) (i : ℕ) (send : ℕ × Msg) (before after : List (Option Due)) → AreBestsAside (drop i sends) before → slice_get sends i ≡ Some send →
-      NodeIsRenewed h costs times send.0 before after → AreBestsAside (drop (i + 1) sends) after
-  send_renewed sends i send before after are got again = record {
-    counted = length_renewed send.0 before after again ∙ are.counted;
-    each = λ n exists none. node_renewed send.0 n before after again
-        (λ other. are.each n exists (subst (λ (rest : List (ℕ × Msg)). NoneTo n rest) (sym (drop_get sends i send got)) ((λ same. other (sym same)), none)))
-        (omega (arith, exists, are.counted));
-  }
+    -- each node is right but for deliveries of some sends
+    pub record AreBestsAside (sends : List (ℕ × Msg)) (bests : List (Option Due)) : Type 0 where
+      pub past : NoneIsPast (node_count h.image) bests
+      pub each : (n : ℕ) → n < node_count h.image → IsBestBut h costs times own sends n (best_at bests n)
 
-  pub sends_renewed : (sends : List (ℕ × Msg)) (i : ℕ) (bests : List (Option Due)) → length sends ≤ i → AreBestsAside (drop i sends) bests → AreBests h costs times bests
-  sends_renewed sends i bests all are = record {
-    counted = are.counted;
-    each = λ n exists. are.each n exists (subst (λ (rest : List (ℕ × Msg)). NoneTo n rest) (sym (none_left sends i all)) tt);
-  }
-    where
-      none_left : (xs : List (ℕ × Msg)) (i : ℕ) → length xs ≤ i → drop i xs ≡ []
-      none_left [] zero le = refl
-      none_left [] (suc i) le = refl
-      none_left (x ∷ xs) zero le = absurd (omega (arith, le))
-      none_left (x ∷ xs) (suc i) le = none_left xs i (omega (arith, le))
+    pub own_renewed : (sends : List (ℕ × Msg)) (before after : List (Option Due)) → own < node_count h.image → AreBestsBut h costs times own sends before → NodeIsRenewed h costs times own before after →
+        AreBestsAside sends after
+    own_renewed sends before after exists are again = record {
+      past = past_put own again.best before after exists again.put are.past;
+      each = λ n here. at_put (IsBestBut h costs times own sends n) own n again.best before after again.put
+          (λ same. best_but n sends again.best (subst (λ (k : ℕ). IsBestOf h costs times (IsOf h k) again.best) (sym same) again.best_is)) (are.each n here);
+    }
 
-  -- ---- the first of all
+    -- what stood for a node, and a delivery from there
+    module _ (to : ℕ) (sends : List (ℕ × Msg)) (best due : Option Due) (but : IsBestBut h costs times own sends to best) (is : IsBestOf h costs times (IsEvent h (delivery own to)) due) where
+      -- an event of the node that isn't before what stands there
+      abbrev IsBehind : Event → Type 0
+      IsBehind event = IsOf h to event × (is_due_for h costs times event ≡ true → IsFirstOf h costs times best event)
 
-  -- an event of a node below a number
-  abbrev IsUpTo : ℕ → Event → Type 0
-  IsUpTo count event = (may_be_next h event ≡ true) × (is_evict event ≡ false) × (node_of event < count)
+      one_behind : (b : Option Due) → b ≡ best → IsOneOf h costs times (IsOf h to) b → IsOneOf h costs times IsBehind b
+      one_behind None same one = tt
+      one_behind (Some due) same one = (one.0, (one.1, λ due_is. subst (λ (o : Option Due). IsFirstOf h costs times o due.event) same (inl refl)))
 
-  least_is : (xs : List (Option Due)) (k : ℕ) (best : Option Due) → IsBestOf h costs times (IsUpTo k) best → ((n : ℕ) → n < length xs → IsBestOf h costs times (IsOf h (k + n)) (best_at xs n)) →
-      IsBestOf h costs times (IsUpTo (k + length xs)) (least_of best xs)
-  least_is [] k best so_far each = let same : k ≡ k + 0 = omega arith in subst (λ (c : ℕ). IsBestOf h costs times (IsUpTo c) best) same so_far
-  least_is (x ∷ xs) k best so_far each =
-      let first : IsBestOf h costs times (IsOf h k) x = let at : k + 0 ≡ k = omega arith in subst (λ (n : ℕ). IsBestOf h costs times (IsOf h n) x) at (each 0 (omega arith)) in
-      let more : IsBestOf h costs times (IsUpTo (k + 1)) (earlier best x) = of_both h costs times (IsUpTo k) (IsOf h k) (IsUpTo (k + 1)) best x
-      (λ e of. of.1) (λ e of. (of.0, of.1, let lt = of.2 in omega (arith, lt))) (λ e of. (of.0, of.1, let at = of.2 in omega (arith, at))) (λ e of. by_node e of) so_far first in
-      let all = least_is xs (k + 1) (earlier best x) more
-      (λ n lt. let at : k + suc n ≡ k + 1 + n = omega arith in subst (λ (m : ℕ). IsBestOf h costs times (IsOf h m) (best_at xs n)) at (each (suc n) (omega (arith, lt)))) in
-      let count : k + 1 + length xs ≡ k + suc (length xs) = omega arith in
-      subst (λ (c : ℕ). IsBestOf h costs times (IsUpTo c) (least_of (earlier best x) xs)) count all
-    where
-      by_node : (e : Event) → IsUpTo (k + 1) e → IsUpTo k e ⊎ IsOf h k e
-      by_node e of = cases_lt_then k (node_of e) (λ lt. inl (of.0, of.1, lt)) (λ from. inr (of.0, of.1, let lt = of.2 in omega (arith, lt, from)))
+      behind_or_fed : (event : Event) → IsOf h to event → (b : Bool) → is_fed_for own sends event ≡ b → IsBehind event ⊎ IsEvent h (delivery own to) event
+      behind_or_fed event of true fed = inr (fed_is own to sends event fed of.2, of.0)
+      behind_or_fed event of false fed = inl (of, λ due_is. but.first event of fed due_is)
 
-  all_best : (bests : List (Option Due)) → AreBests h costs times bests → IsBestOf h costs times (IsUpTo (length bests)) (least_of None bests)
-  all_best bests are =
-      let none = of_none h costs times (IsUpTo 0) (λ e of. let lt = of.2 in omega (arith, lt)) in
-      let all = least_is bests 0 None none (λ n lt. let at : n ≡ 0 + n = omega arith in subst (λ (m : ℕ). IsBestOf h costs times (IsOf h m) (best_at bests n)) at (are.each n (omega (arith, lt, are.counted)))) in
-      let count : 0 + length bests ≡ length bests = omega arith in
-      subst (λ (c : ℕ). IsBestOf h costs times (IsUpTo c) (least_of None bests)) count all
+      compared : IsBestOf h costs times (IsOf h to) (earlier best due)
+      compared = of_both h costs times IsBehind (IsEvent h (delivery own to)) (IsOf h to) best due (λ event of. of.1) (λ event of. of.0)
+          (λ event of. (of.1, ap is_evict of.0, ap node_of of.0)) (λ event of. behind_or_fed event of (is_fed_for own sends event) refl)
+          (record { one = one_behind best refl but.one; first = λ other of due_is. of.1 due_is }) is
 
-  up_to : (bests : List (Option Due)) → AreBests h costs times bests → (e : Event) → IsIn (next_events h) e → IsUpTo (length bests) e
-  up_to bests are e within = let may = next_may h e within in (may, next_main h e within, let exists = here h e may in omega (arith, exists, are.counted))
+    pub send_compared : (sends : List (ℕ × Msg)) (i : ℕ) (send : ℕ × Msg) (before after : List (Option Due)) → send.0 < node_count h.image → AreBestsAside (drop i sends) before →
+        slice_get sends i ≡ Some send → DeliveryIsCompared h costs times own send.0 before after → AreBestsAside (drop (i + 1) sends) after
+    send_compared sends i send before after exists are got is = record {
+      past = past_put send.0 (earlier (best_at before send.0) is.due) before after exists is.put are.past;
+      each = λ n here. at_put (IsBestBut h costs times own (drop (i + 1) sends) n) send.0 n (earlier (best_at before send.0) is.due) before after is.put
+          (λ same. best_but n (drop (i + 1) sends) (earlier (best_at before send.0) is.due) (subst (λ (k : ℕ). IsBestOf h costs times (IsOf h k) (earlier (best_at before send.0) is.due)) (sym same)
+          (compared send.0 (drop i sends) (best_at before send.0) is.due (are.each send.0 exists) is.due_is)))
+          (λ other. elsewhere n other (subst (λ (all : List (ℕ × Msg)). IsBestBut h costs times own all n (best_at before n)) (drop_get sends i send got) (are.each n here)));
+    }
+      where
+        elsewhere : (n : ℕ) → n ≢ send.0 → IsBestBut h costs times own (send ∷ drop (i + 1) sends) n (best_at before n) → IsBestBut h costs times own (drop (i + 1) sends) n (best_at before n)
+        elsewhere n other but = record {
+          one = but.one;
+          first = λ event of fed due. but.first event of (fed_elsewhere own send (drop (i + 1) sends) event (λ same. other (sym of.2 ∙ same)) ∙ fed) due;
+        }
 
-  pub never : (bests : List (Option Due)) → AreBests h costs times bests → end_in h ≡ None → least_of None bests ≡ None → ⊥
-  never bests are going none =
-      never_none h costs times (IsUpTo (length bests)) (up_to bests are) going (subst (λ (due : Option Due). IsBestOf h costs times (IsUpTo (length bests)) due) none (all_best bests are))
+    pub sends_compared : (sends : List (ℕ × Msg)) (i : ℕ) (bests : List (Option Due)) → length sends ≤ i → AreBestsAside (drop i sends) bests → AreBests h costs times bests
+    sends_compared sends i bests all are = record {
+      past = are.past;
+      each = λ n here. let but = subst (λ (rest : List (ℕ × Msg)). IsBestBut h costs times own rest n (best_at bests n)) (none_left sends i all) (are.each n here) in
+          record { one = but.one; first = λ other of due. but.first other of (none_fed own other) due };
+    }
+      where
+        none_left : (xs : List (ℕ × Msg)) (i : ℕ) → length xs ≤ i → drop i xs ≡ []
+        none_left [] zero le = refl
+        none_left [] (suc i) le = refl
+        none_left (x ∷ xs) zero le = absurd (omega (arith, le))
+        none_left (x ∷ xs) (suc i) le = none_left xs i (omega (arith, le))
 
-  pub first_of_all : (bests : List (Option Due)) (due : Due) → AreBests h costs times bests → least_of None bests ≡ Some due → IsFirstDue h costs times due.event
-  first_of_all bests due are some =
-      first_is h costs times (IsUpTo (length bests)) due (λ e of. in_next h e of.1 of.0) (up_to bests are)
-      (subst (λ (o : Option Due). IsBestOf h costs times (IsUpTo (length bests)) o) some (all_best bests are))
+-- a comparison with nothing
+pub earlier_none : (best : Option Due) → earlier best None ≡ best
+earlier_none None = refl
+earlier_none (Some due) = refl
 
--- ---- tests
-
-pub not_true : (b : Bool) → not b ≡ true → b ≡ false
-not_true true is = absurd (cc)
-not_true false is = refl
-
-pub not_false : (b : Bool) → not b ≡ false → b ≡ true
-not_false true is = refl
-not_false false is = absurd (cc)
+pub nothing_put : (to : ℕ) (bests : List (Option Due)) → IsPut to (earlier (best_at bests to) None) bests bests
+nothing_put to bests = record { here = sym (earlier_none (best_at bests to)); others = λ m other. refl }

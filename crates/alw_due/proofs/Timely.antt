@@ -15,13 +15,15 @@ use Rattle.law_machine.proofs.Bound.{sets_range}
 use Rattle.law_machine.proofs.RunFacts.{always_bounded}
 use Rattle.alw_mesh.specs.Histories.{History, IsRun, begun, grown, entry_of, state_of, may_be_next}
 use Rattle.alw_mesh.specs.Ends.{next_events}
+use Rattle.alw_mesh.proofs.Journals.{stamps_within}
 use Rattle.alw_mesh.proofs.OneNode.{few_nodes}
 use Rattle.alw_times.specs.declared.costs.Costs.{Costs}
 use Rattle.alw_times.specs.Times.{Times}
 use Rattle.alw_times.specs.Within.{TimesAreWithin}
 use Rattle.alw_times.proofs.Bounds.{wider}
 use Rattle.alw_timing.specs.declared.timing.RunTimes.{RunTimes}
-use Rattle.alw_timing.specs.Timing.{TimesAreKept}
+use Rattle.alw_timing.specs.declared.timing.Timekeeper.{Timekeeper}
+use Rattle.alw_timing.specs.Timing.{TimesAreOf, TimesAreKept}
 use Rattle.alw_due.specs.Due.{end_in, times_in, start_for, is_due_for, due_events, rank_of, arrived_at, sender_of, key_for, is_before, IsFirstDue, EventIsTimed, EventsAreTimed, MachineIsTimed, IsTimedRun}
 use Rattle.alw_due.proofs.Before.{not_both, first_le}
 use Rattle.alw_due.proofs.Members.{IsIn, of_kept, next_may, next_main}
@@ -31,8 +33,12 @@ use Rattle.alw_due.proofs.Members.{IsIn, of_kept, next_may, next_main}
 some_is : (a b : Event) → Some a ≡ Some b → a ≡ b
 some_is a b same = cc
 
-in_next_of : (h : History) (costs : Costs) (times : Times) (event : Event) → IsFirstDue h costs times event → IsIn (next_events h) event
+pub in_next_of : (h : History) (costs : Costs) (times : Times) (event : Event) → IsFirstDue h costs times event → IsIn (next_events h) event
 in_next_of h costs times event first = (of_kept (is_due_for h costs times) (next_events h) event (record { place = first.place; stands = first.stands })).0
+
+-- it is due
+pub first_due : (h : History) (costs : Costs) (times : Times) (event : Event) → IsFirstDue h costs times event → is_due_for h costs times event ≡ true
+first_due h costs times event first = (of_kept (is_due_for h costs times) (next_events h) event (record { place = first.place; stands = first.stands })).1
 
 -- it may be next, and is no eviction
 pub first_may : (h : History) (costs : Costs) (times : Times) (event : Event) → IsFirstDue h costs times event → may_be_next h event ≡ true
@@ -101,15 +107,6 @@ none_earlier h costs event timed k other got = by_first (timed.first.first k oth
 
 -- ---- the loop
 
--- no time of a machine comes near 2^63
-pub far_within : (begun_by : Costs) (h : History) (costs : Costs) (times : RunTimes) → IsRun h → TimesAreKept begun_by h costs times → TimesAreWithin (2 ^ 63) times.clocks
-far_within begun_by h costs times run kept =
-    let nodes = few_nodes h.image run.image in
-    let sets = mul-le (node_count h.image) h.parameters.sets 256 4096 nodes (sets_range h.parameters run.parameters).1 in
-    let lines = mul-le (node_count h.image) h.image.per_node 256 4096 nodes run.image.per_node.1 in
-    let few : length h.journal ≤ 2 ^ 30 = omega (arith, always_bounded h.image run.image h.parameters run.parameters h.journal run.legal, run.fits, sets, lines) in
-    wider (length h.journal * 2 ^ 33) (2 ^ 63) (omega (arith, few)) times.clocks kept.within
-
 -- the entry of an event that may be next is the next one
 pub next_is : (h : History) (event : Event) (entry : Entry) → may_be_next h event ≡ true → entry.event ≡ event → entry.stamp ≡ (entry_of h event).stamp → IsNext h.image h.parameters (state_of h) entry
 next_is h event entry may event_is stamp_is =
@@ -117,22 +114,33 @@ next_is h event entry may event_is stamp_is =
     record { enabled = rw event_is parts.0; within = rw event_is parts.1; stamp = stamp_is ∙ ap (λ e. stamp_at h.image (state_of h) e) (sym event_is) }
 
 -- the events so far are timed, and the times are kept
-pub record IsUnderWay (before : History) (costs : Costs) (h : History) (kept_costs : Costs) (times : RunTimes) : Type 0 where
+pub record IsUnderWay (before : History) (start : Timekeeper) (h : History) (now : Timekeeper) : Type 0 where
   pub events : List Event
-  pub timed_are : EventsAreTimed before costs events h
-  pub kept : TimesAreKept costs h kept_costs times
+  pub timed_are : EventsAreTimed before start.costs events h
+  pub kept : TimesAreKept start h now
 
-pub begins : (before : History) (costs : Costs) (times : RunTimes) → TimesAreKept costs before costs times → IsUnderWay before costs before costs times
-begins before costs times kept = record { events = []; timed_are = refl; kept = kept }
+pub begins : (before : History) (start : Timekeeper) → TimesAreKept start before start → IsUnderWay before start before start
+begins before start kept = record { events = []; timed_are = refl; kept = kept }
 
-pub goes_on : (before : History) (costs : Costs) (h : History) (kept_costs : Costs) (times : RunTimes) (event : Event) (after : History) (after_costs : Costs) (after_times : RunTimes) →
-    IsUnderWay before costs h kept_costs times → end_in h ≡ None → IsFirstDue h kept_costs times.clocks event → after ≡ grown h event →
-    TimesAreKept kept_costs after after_costs after_times → IsUnderWay before costs after after_costs after_times
-goes_on before costs h kept_costs times event after after_costs after_times so_far going first after_is kept = record {
+-- times that are kept on, from what was kept
+pub kept_on : (start : Timekeeper) (h : History) (now : Timekeeper) (after : History) (later : Timekeeper) → TimesAreKept start h now → TimesAreKept now after later → TimesAreKept start after later
+kept_on start h now after later so_far more = record {
+  costs_are = more.costs_are ∙ so_far.costs_are;
+  are = subst (λ (costs : Costs). TimesAreOf costs after later.times) so_far.costs_are more.are;
+  waits_stay = more.waits_stay ∙ so_far.waits_stay;
+  spans_stay = more.spans_stay ∙ so_far.spans_stay;
+  within = more.within;
+  legal = more.legal;
+}
+
+pub goes_on : (before : History) (start : Timekeeper) (h : History) (now : Timekeeper) (event : Event) (after : History) (later : Timekeeper) →
+    IsUnderWay before start h now → end_in h ≡ None → IsFirstDue h now.costs now.times.clocks event → after ≡ grown h event →
+    TimesAreKept now after later → IsUnderWay before start after later
+goes_on before start h now event after later so_far going first after_is kept = record {
   events = so_far.events ++ event ∷ [];
-  timed_are = rw after_is (timed_more before costs so_far.events h event so_far.timed_are (record { going = going; first = first_too }));
-  kept = subst (λ (cs : Costs). TimesAreKept cs after after_costs after_times) so_far.kept.costs_are kept;
+  timed_are = rw after_is (timed_more before start.costs so_far.events h event so_far.timed_are (record { going = going; first = first_too }));
+  kept = kept_on start h now after later so_far.kept kept;
 }
   where
-    first_too : IsFirstDue h costs (times_in h costs) event
-    first_too = let c = so_far.kept.costs_are in let t = so_far.kept.are.clocks in subst (λ (ts : Times). IsFirstDue h costs ts event) t (subst (λ (cs : Costs). IsFirstDue h cs times.clocks event) c first)
+    first_too : IsFirstDue h start.costs (times_in h start.costs) event
+    first_too = let c = so_far.kept.costs_are in let t = so_far.kept.are.clocks in subst (λ (ts : Times). IsFirstDue h start.costs ts event) t (subst (λ (cs : Costs). IsFirstDue h cs now.times.clocks event) c first)

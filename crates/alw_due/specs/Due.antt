@@ -1,5 +1,5 @@
 -- The timed schedule: of the events that are due, the one that starts first comes next, up to an end.
-use Rattle.std.specs.Prelude.{◌≡◌, ℕ, ◌||◌, ◌&&◌, ◌==◌, not, nat_lt, Bool, true, false, Option, None, Some, Result, Ok, Err, List, [], ◌∷◌, ◌⊎◌, slice_get, filter}
+use Rattle.std.specs.Prelude.{◌≡◌, ℕ, ◌≤◌, ◌||◌, ◌&&◌, ◌==◌, not, nat_lt, Bool, true, false, Option, None, Some, Result, Ok, Err, List, [], ◌∷◌, ◌⊎◌, slice_get, filter}
 use Rattle.alw_num.specs.declared.memory.NoMemory.{NoMemory}
 use Rattle.alw_msg.specs.declared.events.Event.{Event}
 use Rattle.alw_msg.specs.declared.events.Event.TheVariants.{Instr, Handle, Deliver, Evict}
@@ -9,7 +9,7 @@ use Rattle.alw_image.specs.declared.parts.Parts.{Parts}
 use Rattle.alw_image.specs.Parameters.{Parameters}
 use Rattle.alw_model.specs.declared.ends.Ended.{Ended}
 use Rattle.alw_model.specs.Contexts.{running}
-use Rattle.alw_model.specs.Machine.{End, end_of}
+use Rattle.alw_model.specs.Machine.{End, end_of, has_halted}
 use Rattle.alw_model.specs.Ends.{IsEnd}
 use Rattle.alw_mesh.specs.Histories.{History, begun, state_of, may_be_next, grown, IsRun}
 use Rattle.alw_mesh.specs.Ends.{next_events}
@@ -92,6 +92,14 @@ abbrev pub EventsAreTimed : History → Costs → List Event → History → Typ
 EventsAreTimed h costs [] after = h ≡ after
 EventsAreTimed h costs (event ∷ rest) after = EventIsTimed h costs event × EventsAreTimed (grown h event) costs rest after
 
+-- of two events one after the other the second starts no earlier, where not every context halts with the first
+abbrev pub StartsAscend : History → Costs → List Event → Type 0
+StartsAscend h costs [] = Unit {0}
+StartsAscend h costs (event ∷ []) = Unit {0}
+StartsAscend h costs (event ∷ other ∷ rest) =
+    (has_halted (state_of (grown h event)) ≡ has_halted (state_of h) → start_for h costs (times_in h costs) event ≤ start_for (grown h event) costs (times_in (grown h event) costs) other)
+    × StartsAscend (grown h event) costs (other ∷ rest)
+
 -- the timed schedule takes a machine to another
 pub record MachineIsTimed (before : History) (costs : Costs) (after : History) : Type 0 where
   pub events : List Event
@@ -102,13 +110,13 @@ abbrev pub IsTimedRun : Parts → Parameters → Costs → List Entry → Type 0
 IsTimedRun image parameters costs journal = MachineIsTimed (begun image parameters) costs (record { image = image; parameters = parameters; journal = journal; joined = 0 })
 
 -- the timed schedule has taken a machine to an end, and these are its times
-pub record FinishesByTime (before : History) (costs : Costs) (after : History) (ended : Ended) (keeper : Timekeeper) : Type 0 where
-  pub timed : MachineIsTimed before costs after
+pub record FinishesByTime (before : History) (start : Timekeeper) (after : History) (ended : Ended) (keeper : Timekeeper) : Type 0 where
+  pub timed : MachineIsTimed before start.costs after
   pub run : IsRun after
   pub end : IsEnd after.image after.parameters after.journal ended
-  pub kept : TimesAreKept costs after keeper.costs keeper.times
+  pub kept : TimesAreKept start after keeper
 
 -- what the timed schedule leaves and answers: an end; or memory was refused
-abbrev pub Finishes : History → Costs → History → Timekeeper → Result Ended NoMemory → Type 0
-Finishes before costs after keeper (Ok ended) = FinishesByTime before costs after ended keeper
-Finishes before costs after keeper (Err refused) = Unit {0}
+abbrev pub Finishes : History → Timekeeper → History → Timekeeper → Result Ended NoMemory → Type 0
+Finishes before start after keeper (Ok ended) = FinishesByTime before start after ended keeper
+Finishes before start after keeper (Err refused) = Unit {0}

@@ -5,7 +5,10 @@ mod bests;
 mod keys;
 mod laws;
 mod picking;
+mod renewing;
 mod schedules;
 
-pub use laws::{nothing_due_starts_earlier, one_run_by_time, timed_runs_are_scheduled};
+pub use laws::{
+    nothing_due_starts_earlier, one_run_by_time, starts_never_decrease, timed_runs_are_scheduled,
+};
 pub use schedules::finish_by_time;

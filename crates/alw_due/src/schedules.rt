@@ -4,8 +4,8 @@ ghost use Rattle.alw_timing.specs.Timing.{TimesAreKept};
 ghost use Rattle.alw_due.specs.Due.{Finishes};
 ghost use Rattle.alw_due.specs.Bests.{AreBests};
 
-use crate::bests::{bests_of, least, renew_all, renew_touched};
-use crate::picking::Due;
+use crate::bests::Bests;
+use crate::renewing::{bests_of, renew_all, renew_touched};
 use alw_mesh::{Machine, Watch};
 use alw_model::Ended;
 use alw_msg::{Entry, Event};
@@ -19,15 +19,15 @@ pub fn finish_by_time(
     machine: &mut Machine,
     keeper: &mut Timekeeper,
 ) -> Result<Ended, NoMemory>
-    requires { TimesAreKept keeper.old.costs machine.old keeper.old.costs keeper.old.times }
-    ensures { Finishes machine.old keeper.old.costs machine.new keeper.new result }
+    requires { TimesAreKept keeper.old machine.old keeper.old }
+    ensures { Finishes machine.old keeper.old machine.new keeper.new result }
 {
     let mut bests = first_bests(alloc, machine, keeper)?;
     loop {
         if let Some(ended) = machine.ended() {
             return Ok(ended);
         }
-        let Some(due) = least(&bests) else {
+        let Some(due) = bests.first() else {
             unreachable!();
         };
         pass(machine, keeper, &mut bests, due.event)?;
@@ -35,32 +35,28 @@ pub fn finish_by_time(
 }
 
 // Of each node the first of its events that are due, at the beginning.
-fn first_bests(
-    alloc: Global,
-    machine: &Machine,
-    keeper: &Timekeeper,
-) -> Result<Vec<Option<Due>>, NoMemory>
-    requires { TimesAreKept keeper.now.costs machine.now keeper.now.costs keeper.now.times }
-    ensures { IfOk result (λ bests. AreBests machine.now keeper.now.costs keeper.now.times.clocks bests.items) }
+fn first_bests(alloc: Global, machine: &Machine, keeper: &Timekeeper) -> Result<Bests, NoMemory>
+    requires { TimesAreKept keeper.now machine.now keeper.now }
+    ensures { IfOk result (λ bests. AreBests machine.now keeper.now.costs keeper.now.times.clocks bests) }
 {
     let _run = machine.journal(); // for its clause
     bests_of(alloc, machine, &keeper.times.clocks, &keeper.costs)
 }
 
-// An event that may be next happens, its times are kept, and the nodes that it touches are looked at again:
-// all of them, where its node halts with it.
+// An event that may be next happens, its times are kept, and what it touches is looked at again: all nodes,
+// where its node halts with it.
 fn pass(
     machine: &mut Machine,
     keeper: &mut Timekeeper,
-    bests: &mut Vec<Option<Due>>,
+    bests: &mut Bests,
     event: Event,
 ) -> Result<(), NoMemory>
     requires may { IsTrue (may_be_next machine.old event) }
-    requires kept { TimesAreKept keeper.old.costs machine.old keeper.old.costs keeper.old.times }
-    requires bests { AreBests machine.old keeper.old.costs keeper.old.times.clocks bests.old.items }
+    requires kept { TimesAreKept keeper.old machine.old keeper.old }
+    requires bests { AreBests machine.old keeper.old.costs keeper.old.times.clocks bests.old }
     ensures machine { OnOk result (machine.new ≡ grown machine.old event) }
-    ensures kept { OnOk result (TimesAreKept keeper.old.costs machine.new keeper.new.costs keeper.new.times) }
-    ensures bests { OnOk result (AreBests machine.new keeper.new.costs keeper.new.times.clocks bests.new.items) }
+    ensures kept { OnOk result (TimesAreKept keeper.old machine.new keeper.new) }
+    ensures bests { OnOk result (AreBests machine.new keeper.new.costs keeper.new.times.clocks bests.new) }
 {
     let _before = machine.journal(); // for its clause
     let was_live = machine.is_live(event.node());
@@ -83,9 +79,9 @@ fn pass(
 // An event that may be next happens, and its times are kept.
 fn take(machine: &mut Machine, keeper: &mut Timekeeper, event: Event) -> Result<(), NoMemory>
     requires may { IsTrue (may_be_next machine.old event) }
-    requires kept { TimesAreKept keeper.old.costs machine.old keeper.old.costs keeper.old.times }
+    requires kept { TimesAreKept keeper.old machine.old keeper.old }
     ensures machine { OnOk result (machine.new ≡ grown machine.old event) }
-    ensures kept { OnOk result (TimesAreKept keeper.old.costs machine.new keeper.new.costs keeper.new.times) }
+    ensures kept { OnOk result (TimesAreKept keeper.old machine.new keeper.new) }
 {
     let stamp = machine.stamp(event);
     keeper.event(machine, Entry { stamp, event })

@@ -13,6 +13,7 @@ use alw_num::NodeNo;
 
 impl Clocks {
     /// When an event would start, where this slot of its node would run.
+    #[inline(always)]
     pub fn start(&self, image: &Image, costs: &Costs, slot: Option<u8>, event: Event) -> u64
         requires { TimesAreWithin (2 ^ 63) self.now }
         ensures start { result ≡ start_by image.now costs.now self.now slot event }
@@ -25,6 +26,7 @@ impl Clocks {
 
     /// Nothing at an event's node comes before the event: no packet has come by the start of an
     /// instruction.
+    #[inline(always)]
     pub fn is_due(&self, image: &Image, costs: &Costs, slot: Option<u8>, event: Event) -> bool
         requires { TimesAreWithin (2 ^ 63) self.now }
         ensures { result ≡ is_due image.now costs.now self.now slot event }
@@ -39,6 +41,7 @@ impl Clocks {
     }
 
     /// When the message that an event takes arrived, or the packet that it handles came.
+    #[inline(always)]
     pub fn arrival(&self, image: &Image, event: Event) -> u64
         ensures { result ≡ arrival_of image.now self.now event }
     {
@@ -50,6 +53,7 @@ impl Clocks {
     }
 
     // When what an event waits for is there.
+    #[inline(always)]
     fn begin(&self, image: &Image, slot: Option<u8>, event: Event) -> u64
         ensures { result ≡ begin_by image.now self.now slot event }
     {
@@ -65,6 +69,7 @@ impl Clocks {
     }
 
     // When what the slot that runs waited for came.
+    #[inline(always)]
     fn woken_at(&self, image: &Image, node: NodeNo, slot: Option<u8>) -> u64
         ensures { result ≡ woken_at image.now self.now node.0 slot }
     {

@@ -1,3 +1,4 @@
 pub mod Looking
+pub mod Seen
 pub mod Keeping
 pub mod Lines

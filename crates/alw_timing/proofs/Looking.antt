@@ -1,6 +1,6 @@
 -- What is read of a node before an event, and what its moment says.
-use Rattle.std.proofs.Common.{◌≡◌, ℕ, ◌*◌, ◌<◌, ◌≤◌, ◌^◌, Bool, true, false, cond, Option, None, Some, find, List, [], ◌∷◌, length, refl, sym, ap, subst, ◌∙◌, ◌⊎◌, inl, inr, arith}
-use Rattle.std.proofs.lemmas.Bool.{true≢false, cases_lt, ltb-true}
+use Rattle.std.proofs.Common.{◌≡◌, ℕ, ◌*◌, ◌<◌, ◌≤◌, ◌^◌, false, Option, None, Some, List, length, refl, ap, subst, ◌∙◌, arith}
+use Rattle.std.proofs.lemmas.Bool.{ltb-true}
 use Rattle.std.proofs.lemmas.List.{get_or-set_same}
 use Rattle.std.proofs.Math.ListN.{get_or-eq_default}
 use Rattle.std.proofs.lemmas.Nat.{mul-le}
@@ -10,15 +10,17 @@ use Rattle.alw_msg.specs.declared.events.Entry.{Entry}
 use Rattle.alw_msg.specs.Events.{node_of}
 use Rattle.alw_msg.specs.Statuses.{is_ready}
 use Rattle.alw_image.specs.Images.{node_count}
-use Rattle.alw_model.specs.Contexts.{Slot, no_slot, running, turn_order}
+use Rattle.alw_model.specs.Contexts.{Slot, no_slot, running}
 use Rattle.alw_model.specs.Machine.{MachineState, no_node, node_at, stepped_by, IsNext}
 use Rattle.alw_model.proofs.Journals.{and_parts, state_push}
+use Rattle.alw_proc.proofs.Keeping.{runs_within}
 use Rattle.law_machine.proofs.Bound.{sets_range}
 use Rattle.law_machine.proofs.MachineRuns.{always_kept}
 use Rattle.law_machine.proofs.RunFacts.{always_bounded}
 use Rattle.alw_mesh.specs.Histories.{History, IsRun, state_of, entry_of, grown}
 use Rattle.alw_mesh.specs.Moments.{moment_in}
 use Rattle.alw_mesh.specs.Readings.{node_in}
+use Rattle.alw_mesh.proofs.Journals.{stamps_within}
 use Rattle.alw_mesh.proofs.OneNode.{few_nodes}
 use Rattle.alw_waits.specs.Waits.{asked_by, asked_in}
 use Rattle.alw_timing.specs.Timing.{is_ready_at, asked_of}
@@ -26,21 +28,6 @@ use Rattle.alw_timing.specs.Timing.{is_ready_at, asked_of}
 -- no slot is Ready where there is none
 pub not_ready : (slots : List Slot) (slot : ℕ) → length slots ≤ slot → is_ready_at slots slot ≡ false
 not_ready slots slot le = ap (λ (s : Slot). is_ready s.status) (get_or-eq_default slots no_slot le)
-
-found_passes : (p : ℕ → Bool) (xs : List ℕ) (x : ℕ) → find p xs ≡ Some x → p x ≡ true
-found_passes p [] x e = absurd (cc)
-found_passes p (y ∷ ys) x e = go (p y) refl e (found_passes p ys x)
-  where
-    go : (b : Bool) → p y ≡ b → cond b (Some y) (find p ys) ≡ Some x → (find p ys ≡ Some x → p x ≡ true) → p x ≡ true
-    go true here f next = let same : y ≡ x = cc in rw (← same) here
-    go false here f next = next f
-
-runs_within : (slots : List Slot) (current slot : ℕ) → running slots current ≡ Some slot → slot < length slots
-runs_within slots current slot runs = go (cases_lt slot (length slots))
-  where
-    go : (slot < length slots) ⊎ (length slots ≤ slot) → slot < length slots
-    go (inl l) = l
-    go (inr m) = absurd (true≢false (sym (found_passes (is_ready_at slots) (turn_order current (length slots)) slot runs) ∙ not_ready slots slot m))
 
 module _ (h : History) (run : IsRun h) where
   -- how many slots a node has
@@ -57,7 +44,7 @@ module _ (h : History) (run : IsRun h) where
       let nodes = few_nodes h.image run.image in
       let sets = mul-le (node_count h.image) h.parameters.sets 256 4096 nodes (sets_range h.parameters run.parameters).1 in
       let lines = mul-le (node_count h.image) h.image.per_node 256 4096 nodes run.image.per_node.1 in
-      omega (arith, always_bounded h.image run.image h.parameters run.parameters h.journal run.legal, run.fits)
+      omega (arith, always_bounded h.image run.image h.parameters run.parameters h.journal run.legal, stamps_within h.image h.parameters run.image run.parameters)
 
   -- the node of an event after it is what it leaves
   pub node_after : (event : Event) → node_of event < node_count h.image

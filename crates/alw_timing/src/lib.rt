@@ -7,4 +7,4 @@ mod texts;
 mod timing;
 
 pub use texts::{cycles_text, moments_text};
-pub use timing::{RunTimes, TimedRun, Timekeeper, time};
+pub use timing::{RunTimes, Tells, TimedRun, Timekeeper, time};

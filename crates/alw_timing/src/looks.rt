@@ -1,9 +1,9 @@
-ghost use Rattle.std.specs.Prelude.{◌≡◌, ◌<◌};
+ghost use Rattle.std.specs.Prelude.{◌≡◌, ◌<◌, List};
 ghost use Rattle.alw_msg.specs.Events.{node_of};
 ghost use Rattle.alw_image.specs.Images.{node_count};
-ghost use Rattle.alw_model.specs.Contexts.{running};
+ghost use Rattle.alw_model.specs.Contexts.{Slot, running};
 ghost use Rattle.alw_mesh.specs.Readings.{node_in};
-ghost use Rattle.alw_timing.specs.Timing.{is_ready_at, AreReady, AreWoken, IsLookAt, asked_at, asked_of};
+ghost use Rattle.alw_timing.specs.Timing.{is_ready_at, ready_in, woken_in, for_delivery, AreWoken, IsLookAt, asked_at, asked_of};
 
 use alw_mesh::Machine;
 use alw_msg::Event;
@@ -13,8 +13,9 @@ use alw_waits::Access;
 use sparc_exec::need;
 use sparc_table::Need;
 
-/// What times look at before an event happens: of its node the slot that could run, the one that ran last, and
-/// which are Ready; the access that an instruction asks for; and when the message that a delivery takes arrived.
+/// What times look at before an event happens: of its node the slot that could run and the one that ran last;
+/// for a delivery, which of the slots are Ready; and for waits alone, the access that an instruction asks for, and
+/// when the message that a delivery takes arrived.
 #[derive(Clone, Copy)]
 pub struct Look {
     pub slot: Option<u8>,
@@ -24,26 +25,55 @@ pub struct Look {
     pub arrival: u64,
 }
 
-/// Looks at an event that is to happen.
-pub fn look_at(machine: &Machine, clocks: &Clocks, event: Event) -> Look
+/// Looks at an event that is to happen: at what waits need only where they are told.
+pub fn look_at(machine: &Machine, clocks: &Clocks, event: Event, told: bool) -> Look
     requires { node_of event < node_count machine.now.image }
-    ensures { IsLookAt machine.now clocks.now event result }
+    ensures { IsLookAt machine.now clocks.now event told result }
 {
-    let node = event.node();
-    let slot = machine.current(node);
-    Look {
+    let slot = machine.current(event.node());
+    let look = Look {
         slot,
-        last: machine.last(node),
-        ready: ready_slots(machine, node),
+        last: machine.last(event.node()),
+        ready: ready_before(machine, event),
+        asked: None,
+        arrival: 0,
+    };
+    if !told {
+        return look;
+    }
+    Look {
         asked: asked(machine, event, slot),
         arrival: clocks.arrival(machine.image(), event),
+        ..look
     }
 }
 
-/// Which slots of a node have become Ready since.
-pub fn woken_since(machine: &Machine, node: NodeNo, ready: &[bool; 4]) -> [bool; 4]
+// Which slots of its node a delivery finds Ready.
+fn ready_before(machine: &Machine, event: Event) -> [bool; 4]
+    requires { node_of event < node_count machine.now.image }
+    ensures { result ≡ for_delivery event (ready_in (node_in machine.now (node_of event)).slots) }
+{
+    match event {
+        Event::Deliver { to, .. } => ready_slots(machine, to),
+        Event::Instr { .. } | Event::Handle { .. } | Event::Evict { .. } => [false; 4],
+    }
+}
+
+/// Which slots of its node have become Ready since a delivery looked at them.
+pub fn woken_since(machine: &Machine, event: Event, ready: &[bool; 4]) -> [bool; 4]
+    requires { node_of event < node_count machine.now.image }
+    ensures { AreWoken event ready.now (node_in machine.now (node_of event)).slots result }
+{
+    match event {
+        Event::Deliver { to, .. } => woken_slots(machine, to, ready),
+        Event::Instr { .. } | Event::Handle { .. } | Event::Evict { .. } => [false; 4],
+    }
+}
+
+// Which slots of a node have become Ready since.
+fn woken_slots(machine: &Machine, node: NodeNo, ready: &[bool; 4]) -> [bool; 4]
     requires { node.0 < node_count machine.now.image }
-    ensures { AreWoken ready.now (node_in machine.now node.0).slots result }
+    ensures { (before : List Slot) → ready.now ≡ ready_in before → result ≡ woken_in before (node_in machine.now node.0).slots }
 {
     let now = ready_slots(machine, node);
     [
@@ -57,7 +87,7 @@ pub fn woken_since(machine: &Machine, node: NodeNo, ready: &[bool; 4]) -> [bool;
 // Which slots of a node are Ready.
 fn ready_slots(machine: &Machine, node: NodeNo) -> [bool; 4]
     requires { node.0 < node_count machine.now.image }
-    ensures { AreReady (node_in machine.now node.0).slots result }
+    ensures { result ≡ ready_in (node_in machine.now node.0).slots }
 {
     [
         is_ready(machine, node, 0),

@@ -2,7 +2,6 @@ ghost use Rattle.std.specs.Prelude.{◌≡◌, ◌++◌, IfOk, OnOk};
 ghost use Rattle.alw_timing.specs.Texts.{turn_costs, message_costs, home_costs, handler_costs, retry_costs, costs_line, head_text, cycles_title, cycles_line, moments_title, moment_lines, moment_line, entries_text, cycles_text, moments_text};
 
 use crate::tables::{put_nodes, put_totals};
-use crate::timing::RunTimes;
 use alw_image::{Image, Params};
 use alw_mesh::Machine;
 use alw_model::Ended;
@@ -10,8 +9,9 @@ use alw_msg::{Entry, Event};
 use alw_num::NoMemory;
 use alw_report::{put_ended_line, put_heading, put_params, put_sizes};
 use alw_text::{Spell, Text, put_number};
-use alw_times::{Costs, Span};
+use alw_times::{Clocks, Costs, Span};
 use alw_trace::put_event;
+use alw_waits::Waits;
 use std::alloc::Global;
 
 /// The text of a run's cycles: `ALEWIFE CYCLES 1`.
@@ -21,23 +21,19 @@ pub fn cycles_text(
     machine: &Machine,
     ended: &Ended,
     costs: &Costs,
-    times: &RunTimes,
+    clocks: &Clocks,
+    waits: &Waits,
 ) -> Result<Text, NoMemory>
-    ensures { IfOk result (λ text. text ≡ cycles_text machine.now.image machine.now.parameters costs.now ended.now times.now.clocks.latest times.now.waits) }
+    ensures { IfOk result (λ text. text ≡ cycles_text machine.now.image machine.now.parameters costs.now ended.now clocks.now.latest waits.now) }
 {
-    let cycles = times.clocks.cycles();
+    let cycles = clocks.cycles();
     let mut text = Text::empty(alloc);
     put_cycles_title(&mut text)?;
     put_head(&mut text, machine.image(), machine.params(), costs)?;
     put_ended_line(&mut text, ended)?;
     put_cycles(&mut text, cycles)?;
-    put_totals(&mut text, &times.waits)?;
-    put_nodes(
-        &mut text,
-        machine.image().nodes(),
-        cycles,
-        times.waits.spent(),
-    )?;
+    put_totals(&mut text, waits)?;
+    put_nodes(&mut text, machine.image().nodes(), cycles, waits.spent())?;
     text.put(b"end\n")?;
     Ok(text)
 }
@@ -48,14 +44,14 @@ pub fn moments_text(
     alloc: Global,
     machine: &Machine,
     costs: &Costs,
-    times: &RunTimes,
+    spans: &[Span],
 ) -> Result<Text, NoMemory>
-    ensures { IfOk result (λ text. text ≡ moments_text machine.now.image machine.now.parameters costs.now machine.now.journal times.now.spans.items) }
+    ensures { IfOk result (λ text. text ≡ moments_text machine.now.image machine.now.parameters costs.now machine.now.journal spans.now) }
 {
     let mut text = Text::empty(alloc);
     put_moments_title(&mut text)?;
     put_head(&mut text, machine.image(), machine.params(), costs)?;
-    put_entries(&mut text, machine, &times.spans)?;
+    put_entries(&mut text, machine, spans)?;
     text.put(b"end\n")?;
     Ok(text)
 }

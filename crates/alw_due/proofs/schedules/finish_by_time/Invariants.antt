@@ -5,7 +5,7 @@ use Rattle.alw_due.proofs.Timely.{IsUnderWay}
 use Rattle.alw_due.proofs.schedules.finish_by_time.Given as goal
 
 abbrev pub invariant-loop-ended : goal.invariant-loop-ended
-invariant-loop-ended l = IsUnderWay l.fn.machine l.fn.keeper.costs l.machine l.keeper.costs l.keeper.times × AreBests l.machine l.keeper.costs l.keeper.times.clocks l.bests.items
+invariant-loop-ended l = IsUnderWay l.fn.machine l.fn.keeper l.machine l.keeper × AreBests l.machine l.keeper.costs l.keeper.times.clocks l.bests
 
 abbrev pub decreases-loop-ended : goal.decreases-loop-ended
 decreases-loop-ended l = 4294967296 - length l.machine.journal

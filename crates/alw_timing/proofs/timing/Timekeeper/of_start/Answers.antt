@@ -2,5 +2,5 @@
 use Rattle.alw_timing.proofs.Keeping.{begins}
 use Rattle.alw_timing.proofs.timing.Timekeeper.of_start.Goals as goal
 
-pub returns : goal.returns
-returns c = λ parameters. begins c.args.image.now parameters c.args.costs.now _ c.in_ok-of_start.ensures c.in_ok-of_start-2.ensures c.new.ensures.items
+pub returns-clause-kept : goal.returns-clause-kept
+returns-clause-kept c = λ parameters. begins c.args.image.now parameters _ c.in_ok-of_start.ensures c.in_ok-first_waits.ensures.none c.first_spans.ensures.none

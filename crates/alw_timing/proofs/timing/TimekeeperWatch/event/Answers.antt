@@ -1,14 +1,13 @@
 -- The times of an event more are kept.
-use Rattle.std.proofs.Common.{◌≡◌, map, refl, ap, ◌∙◌}
-use Rattle.std.specs.List.{range_with_len}
+use Rattle.std.proofs.Common.{◌≡◌, Bool, refl, ap, subst, ◌∙◌}
+use Rattle.std.specs.Option.{option_map}
 use Rattle.alw_image.specs.declared.parts.Parts.{Parts}
-use Rattle.alw_times.specs.Happening.{becomes_ready}
 use Rattle.alw_times.specs.Times.{start_of, finish_of, passed}
 use Rattle.alw_times.specs.declared.happenings.TimedMoment.{TimedMoment}
 use Rattle.alw_waits.specs.declared.waits.Waited.{Waited}
 use Rattle.alw_waits.specs.Waits.{told_by}
 use Rattle.alw_mesh.specs.Histories.{History}
-use Rattle.alw_mesh.specs.Readings.{node_in}
+use Rattle.alw_timing.specs.Timing.{IsLookAt}
 use Rattle.alw_timing.proofs.Looking.{next_node}
 use Rattle.alw_timing.proofs.Keeping.{IsTold, few_times, goes_on}
 use Rattle.alw_timing.proofs.timing.TimekeeperWatch.event.Goals as goal
@@ -16,15 +15,16 @@ use Rattle.alw_timing.proofs.timing.TimekeeperWatch.event.Goals as goal
 pub pass-requires : goal.pass-requires
 pass-requires c =
     let (start, so_far) = c.requires.so_far in
-    few_times start.costs c.args.machine.now c.args.self.now.costs c.args.self.now.times c.journal-run.ensures.run so_far
+    few_times start c.args.machine.now c.args.self.now c.journal-run.ensures.run so_far
 
 pub returns-clause-told : goal.returns-clause-told
 returns-clause-told c start so_far =
     let h = c.args.machine.now in
     let after = c.take.new.self in
     let event = c.args.entry.event in
-    let costs = c.args.self.now.costs in
-    let times = c.args.self.now.times in
+    let now = c.args.self.now in
+    let costs = now.costs in
+    let times = now.times in
     let look = c.look_at-before.result in
     let moment = c.in_ok-moment.moment in
     let span = c.in_ok-span.span in
@@ -39,8 +39,8 @@ returns-clause-told c start so_far =
     } in
     let what : Waited = record { asked = look.asked; taken = moment.taken; arrival = look.arrival; span = span } in
     let grew = c.in_ok-moment.ensures.0.after_is in
-    let told : IsTold h after event times.clocks look moment.taken happened = record {
-      look_is = c.look_at-before.ensures;
+    let told : IsTold h after event times.clocks times.waits look moment.taken happened = record {
+      look_is = subst (λ (waits : Bool). IsLookAt h times.clocks event waits look) c.is_some-waits.ensures c.look_at-before.ensures;
       message_is = c.in_ok-moment.ensures.1.taken;
       sends = c.in_ok-moment.ensures.1.sends;
       event_is = refl;
@@ -48,16 +48,16 @@ returns-clause-told c start so_far =
       last = refl;
       taken = c.kind_of.ensures;
       did = c.in_ok-moment.ensures.1.did;
-      woken = λ before ready. c.woken_since.ensures before ready
-          ∙ (λ i. map (becomes_ready before (node_in after (c.node-node.ensures i)).slots) (range_with_len 0 4));
+      woken = c.woken_since.ensures;
     } in
     let image : c.image.result.now ≡ h.image = c.image.ensures ∙ ap (λ (g : History). g.image) grew in
     let other : c.image-2.result.now ≡ h.image = c.image-2.ensures ∙ ap (λ (g : History). g.image) grew in
     goes_on h after c.journal-run.ensures.run event (next_node h c.args.entry c.requires.next) grew c.in_ok-moment.ensures.0.run.legal
-    start.costs costs times _ look moment.taken happened sends span so_far told c.last_sent.ensures
+    start now _ look moment.taken happened sends span so_far told c.last_sent.ensures
     (c.in_ok-span.ensures.start ∙ ap (λ (parts : Parts). start_of parts costs times.clocks happened) image)
     (c.in_ok-span.ensures.finish ∙ ap (λ (parts : Parts). finish_of parts costs times.clocks happened sends) image)
+    refl
     (c.in_ok-span.ensures.passed ∙ ap (λ (parts : Parts). passed parts costs times.clocks happened sends) image)
     c.in_ok-span.ensures.within
-    (c.in_ok-pass.ensures ∙ ap (λ (parts : Parts). told_by parts costs times.waits happened what event) other)
-    c.in_ok-push.ensures.items
+    (c.in_ok-tell.ensures ∙ ap (λ (parts : Parts). option_map (λ so_far. told_by parts costs so_far happened what event) times.waits) other)
+    c.in_ok-keep.ensures

@@ -1,0 +1,6 @@
+//! Numbers by place, and the first place of the least of them.
+#![tactic(auto)]
+
+mod leasts;
+
+pub use leasts::Leasts;
