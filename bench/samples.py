@@ -109,6 +109,7 @@ RUNS = [
     ['--seed', '3', '--limit', '60'],
     ['--seed', '9', '--pointers', '1', '--sets', '4', '--evict', '90'],
     ['--seed', '18446744073709551615', '--pointers', '8', '--evict', '255', '--limit', '25'],
+    ['--cycles', '3', '--pointers', 'all', '--limit', '90'],
 ]
 STAMPS = ['0', '5', '12', '4294967295']
 MOST_BYTES = 4000

@@ -45,10 +45,22 @@ def takers(kind):
 # ---- refused words
 
 
-def of_unknown_option(word, command):
-    """Why a word is no option of a command."""
+def options_behind(command, before):
+    """The options of a command that stand open behind some words, by name: one that stands so behind another alone goes before it."""
+    named = {}
+    for option in COMMANDS[command]['options']:
+        if not option['behind'] or option['behind'] in before[1::2]:
+            named[option['name']] = option
+    return named
+
+
+def of_unknown_option(word, command, options):
+    """Why a word is none of the options of a command that stand open."""
     name, equals, value = word.partition('=')
-    names, reads = [option['name'] for option in COMMANDS[command]['options']], COMMANDS[command]['reads']
+    names, reads = list(options), COMMANDS[command]['reads']
+    behind = next((option['behind'] for option in COMMANDS[command]['options'] if option['name'] == word and option['behind']), None)
+    if behind:
+        return f'{shown(word)}: behind {behind} alone'
     if equals and name in names:
         return f'{shown(word)}: a value stands behind its option, as {name} {shown(value)}'
     if word.startswith('--') or not reads:
@@ -63,12 +75,12 @@ def of_word(at, words):
     if at == 0:
         return f'{shown(words[0])} is no command; the commands are {listed(list(COMMANDS))}, and --help says more'
     command = words[0]
-    options = {option['name']: option for option in COMMANDS[command]['options']}
+    options = options_behind(command, words[:at] if at % 2 else words[:at - 1])
     if at % 2:
         option = options.get(words[at])
         if option is None:
-            return of_unknown_option(words[at], command)
-        other = next(name for name in words[1:at:2] if options[name]['choice'] == option['choice'])
+            return of_unknown_option(words[at], command, options)
+        other = next(name for name in words[1:at:2] if options[name]['choice'] == option['choice'] or name in option['apart'])
         return f'{words[at]} stands twice' if other == words[at] else f'{words[at]}: not with {other}'
     option = options[words[at - 1]]
     if at == len(words):
@@ -78,7 +90,7 @@ def of_word(at, words):
 
 def of_value(word, option, rule):
     """Why a word is no value of an option. A number in its range is against the command's rule."""
-    if option['names']:
+    if option['names'] or option['word']:
         return f'{shown(word)}: {option["name"]} is {option["values"]}'
     if not (word.isascii() and word.isdecimal()):
         return f'{shown(word)}: {option["name"]} is a number, {option["values"]}'
@@ -91,14 +103,14 @@ def of_value(word, option, rule):
 
 def is_value(word, option):
     """Whether a word is a value of an option."""
-    if option['names']:
-        return word in option['names']
+    if option['names'] or word == option['word'] != '':
+        return word in option['names'] or word == option['word'] != ''
     return word.isascii() and word.isdecimal() and word == str(int(word)) and option['first'] <= int(word) <= option['last']
 
 
 def place_against(rule, chosen, words):
     """The place of the number that is against a command's rule, or None. Chosen is where the value of each choice stands."""
-    value = {choice: int(words[at]) for choice, at in chosen.items()}
+    value = {choice: int(words[at]) for choice, at in chosen.items() if words[at].isdecimal()}
     is_above = rule and any(value.get(rule[name], 0) > rule['above'] for name in ('one', 'other'))
     return chosen[rule['third']] if is_above and value.get(rule['third'], 0) > rule['most'] else None
 
@@ -108,10 +120,9 @@ def refused_place(words):
     if not words or words[0] not in COMMANDS:
         return 0
     command, chosen = COMMANDS[words[0]], {}
-    options = {option['name']: option for option in command['options']}
     for at in range(1, len(words), 2):
-        option = options.get(words[at])
-        if option is None or option['choice'] in chosen:
+        option = options_behind(words[0], words[:at]).get(words[at])
+        if option is None or option['choice'] in chosen or any(name in option['apart'] for name in words[1:at:2]):
             return at
         if at + 1 == len(words) or not is_value(words[at + 1], option):
             return at + 1

@@ -13,7 +13,7 @@ import json
 import math
 import re
 import sys
-from dataclasses import asdict, dataclass, field
+from dataclasses import asdict, dataclass, field, replace
 
 sys.dont_write_bytecode = True
 from alewife import MOST_WORDS, ROOT
@@ -34,7 +34,9 @@ MOST_LISTED = 16
 # The greatest cost in cycles.
 MOST_COST = 2**16 - 1
 GREATEST = {'u64::MAX': 2**64 - 1, 'u32::MAX': 2**32 - 1}
-FORMS = {'AsmForm': 'ASM_FORMS', 'AuditForm': 'AUDIT_FORMS', 'TimeForm': 'TIME_FORMS', 'Form': 'FORMS'}
+FORMS = {'AsmForm': 'ASM_FORMS', 'AuditForm': 'AUDIT_FORMS', 'TimeForm': 'TIME_FORMS', 'Form': 'FORMS', 'RunForm': 'FORMS', 'TimedForm': 'TIMED_FORMS'}
+# Of each command that an option makes another one of: the option, the table of options that stand open before it, and the part of the program's tables behind it.
+TURNING = {'run': ('--cycles', 'UNDECIDED_OPTIONS', 'Timed')}
 
 # Of each text that is read or written how it begins, where that tells it from others, what it is called, and how one comes by it where it is read.
 KINDS = {
@@ -74,10 +76,16 @@ COMMANDS = {
 # The forms of a command that are other texts than those of their names.
 OTHER = {('audit', 'log'): 'claim_log'}
 ORDER, FORM, EVICT = 'the number that the order of events is drawn from', 'what is written', 'how often of 256 an eviction is tried'
+POINTERS = 'hardware pointers of a directory entry, of which all is one for each node'
+COSTS = {'--hit': 'cycles of an instruction', '--switch': 'more, where another slot runs than the last', '--hop': 'cycles of a message for each wire of its route',
+         '--send': 'cycles that a message holds its port', '--data': 'more, with a line', '--home': 'cycles of a delivery to memory',
+         '--fill': 'cycles of a delivery to a cache, or of an eviction', '--trap': 'cycles of the handler before it acts',
+         '--inv': 'more, for each message that it sends behind the first', '--retry': 'the bound below which a wait after a BUSY is drawn'}
 PHRASES = {
     'asm': {'--write': FORM},
-    'run': {'--seed': ORDER, '--workers': 'workers on threads, in place of the schedule of a seed', '--pointers': 'hardware pointers of a directory entry',
-            '--sets': "sets of a node's cache", '--limit': 'the greatest stamp of an event before all contexts have halted', '--evict': EVICT, '--write': FORM},
+    'run': {'--seed': ORDER, '--workers': 'workers on threads, in place of the schedule of a seed', '--pointers': POINTERS,
+            '--sets': "sets of a node's cache", '--limit': 'the greatest stamp of an event before all contexts have halted', '--evict': EVICT, '--write': FORM,
+            '--cycles': 'the timed schedule, and the number that the waits after a BUSY are drawn from', **COSTS},
     'replay': {'--write': FORM},
     'audit': {'--write': FORM},
     'gen': {'--seed': 'the number that the operations are drawn from', '--width': 'columns of the mesh', '--height': 'rows of the mesh',
@@ -86,13 +94,9 @@ PHRASES = {
     'save': {'--at': 'the greatest stamp that is kept'},
     'resume': {'--seed': ORDER, '--evict': EVICT, '--write': FORM},
     'outcomes': {'--most': 'the places that are kept at most'},
-    'schedule': {'--pointers': 'hardware pointers of a directory entry', '--sets': "sets of a node's cache",
+    'schedule': {'--pointers': POINTERS, '--sets': "sets of a node's cache",
                  '--limit': 'the greatest stamp of an event before all contexts have halted'},
-    'time': {'--seed': 'the number that the waits after a BUSY are drawn from', '--hit': 'cycles of an instruction',
-             '--switch': 'more, where another slot runs than the last', '--hop': 'cycles of a message for each wire of its route',
-             '--send': 'cycles that a message holds its port', '--data': 'more, with a line', '--home': 'cycles of a delivery to memory',
-             '--fill': 'cycles of a delivery to a cache, or of an eviction', '--trap': 'cycles of the handler before it acts',
-             '--inv': 'more, for each message that it sends behind the first', '--retry': 'the bound below which a wait after a BUSY is drawn', '--write': FORM},
+    'time': {'--seed': 'the number that the waits after a BUSY are drawn from', **COSTS, '--write': FORM},
     'dis': {},
 }
 OWN = {
@@ -110,7 +114,8 @@ OWN = {
 
 @dataclass(frozen=True)
 class Option:
-    """An option: its name, the choice that it makes, what it is for, the values that it takes, and the default, None where it is never chosen unasked."""
+    """An option: its name, the choice that it makes, what it is for, the values that it takes, the default, None where it is never chosen unasked, a word that it takes
+    beside a number, the option behind which alone it stands so, and those beside which it doesn't stand."""
     name: str
     choice: int
     phrase: str
@@ -118,6 +123,9 @@ class Option:
     last: int = 0
     names: tuple = ()
     default: str = None
+    word: str = ''
+    behind: str = ''
+    apart: tuple = ()
 
     def value(self):
         """What stands for its value."""
@@ -125,12 +133,13 @@ class Option:
 
     def few(self):
         """Its values, where they are few enough to list."""
-        return self.names or tuple(map(str, range(self.first, self.last + 1 if self.last - self.first < MOST_LISTED else self.first)))
+        numbers = range(self.first, self.last + 1 if self.last - self.first < MOST_LISTED else self.first)
+        return self.names or (*map(str, numbers), *([self.word] if self.word else []))
 
     def values(self):
         """Which values it takes, in words."""
         if not self.names:
-            return f'{self.first} to {self.last}'
+            return f'{self.first} to {self.last}' + (f', or {self.word}' if self.word else '')
         if self.value() == 'N':
             return f'a power of two from {self.names[0]} to {self.names[-1]}'
         return ' or '.join([', '.join(self.names[:-1]), self.names[-1]])
@@ -147,12 +156,21 @@ class Command:
     writes: str
     does: str
     options: tuple = ()
+    behind: tuple = ()
     rule: dict = field(default_factory=dict)
 
     def written(self):
         """Each text that it can write, with the options that choose it."""
         forms = next((option.names for option in self.options if option.name == '--write'), ())
-        return {form: ['--write', form] for form in forms} or {self.writes: []}
+        written = {form: ['--write', form] for form in forms} or {self.writes: []}
+        for option in self.behind:
+            if option.name == '--write':
+                written |= {form: [option.behind, '0', '--write', form] for form in option.names if form not in written}
+        return written
+
+    def completed(self):
+        """Its options, each once, with all that it takes: those that stand open, and those behind one of them."""
+        return tuple(({option.name: option for option in self.options} | {option.name: option for option in self.behind}).values())
 
     def rule_told(self):
         """The rule, in words."""
@@ -193,6 +211,8 @@ def kind_of(text, rows):
         return {'names': tuple(str(constant(count)) for count in declared('SET_COUNTS').strip('[]').split(','))}
     if text in FORMS:
         return {'names': names_in(rows, FORMS[text])}
+    if text == 'Pointers':
+        return {'first': 1, 'last': constant('FEW_POINTERS'), 'word': 'all'}
     bounds = re.search(rf'Kind::{text} => [^;]*?number_between\(word, (.*?), (.*?)\)\?', LOOKUPS.read_text(), re.S)
     if not bounds:
         sys.exit(f'words: {LOOKUPS.relative_to(ROOT)} has no bounds for the kind {text}')
@@ -214,20 +234,35 @@ def default_of(text):
 
 def table_of(rows, command, kind):
     """The rows of a command's table of options or of defaults. Commands without any share one."""
-    name = re.search(rf'Name::{command.capitalize()} => &(\w+_{kind}),', CHOOSING.read_text())[1]
-    return re.search(rf'const {name}: [^=]*= \[(.*?)\];', rows, re.S)[1]
+    open_first = TURNING[command][1] if command in TURNING and kind == 'OPTIONS' else None
+    name = open_first or re.search(rf'Name::{command.capitalize()} => &(\w+_{kind}),', CHOOSING.read_text())[1]
+    body = re.search(rf'const {name}: [^=]*= \[(.*?)\];', rows, re.S)[1]
+    alone = {row: text for row, text in re.findall(r'^(?:pub\(crate\) )?const (\w+): Row<Meaning> = (\(.*?^\));', rows, re.S | re.M)}
+    return re.sub(r'\b[A-Z][A-Z_]+\b(?=,|\s*$)', lambda found: alone.get(found[0], found[0]), body)
 
 
-def options_of(rows, command):
+def options_of(rows, command, said=None):
     """The options of a command. A default is that of the first option that makes its choice."""
     body = table_of(rows, command, 'OPTIONS')
     defaults = re.findall(r'Value::\w+\((?:[^()]|\([^()]*\))*\)', table_of(rows, command, 'DEFAULTS'))
     made, seen = [], set()
     for option, choice, kind in re.findall(r'b"(--\w+)",\s*Meaning \{\s*choice: (\d+),\s*kind: Kind::(\w+(?:\([^)]*\))?),', body):
-        default = None if choice in seen else default_of(defaults[int(choice)])
+        default = None if choice in seen or int(choice) >= len(defaults) else default_of(defaults[int(choice)])
         seen.add(choice)
-        made.append(Option(option, int(choice), said_of(PHRASES.get(command, {}), option), default=default, **kind_of(kind, rows)))
+        made.append(Option(option, int(choice), said_of(PHRASES.get(said or command, {}), option), default=default, **kind_of(kind, rows)))
     return tuple(made)
+
+
+def turned_of(rows, name, options):
+    """The options of a command, each with those beside which it doesn't stand, and those that stand only, or otherwise, behind the option that turns it."""
+    if name not in TURNING:
+        return options, ()
+    turning, _, part = TURNING[name]
+    behind = options_of(rows, part, name)
+    lost = tuple(option.name for option in options if option.name not in {other.name for other in behind})
+    apart = {turning: lost, **{other: (turning,) for other in lost}}
+    options = tuple(replace(option, apart=apart.get(option.name, ())) for option in sorted(options, key=lambda option: option.name == turning))
+    return options, tuple(replace(option, behind=turning) for option in behind if option not in options and option.name != turning)
 
 
 def rule_of(rows, command):
@@ -238,7 +273,7 @@ def rule_of(rows, command):
 
 def command_of(rows, name):
     """A command, of which each text has a row, which writes its default form, and of which a colon parts what it does and what comes of it."""
-    command = Command(*said_of(COMMANDS, name), options_of(rows, name), rule_of(rows, name))
+    command = Command(*said_of(COMMANDS, name), *turned_of(rows, name, options_of(rows, name)), rule_of(rows, name))
     for kind in filter(None, (command.reads, *command.written())):
         said_of(KINDS, kind)
     if command.writes != next((option.default for option in command.options if option.name == '--write'), command.writes):
@@ -269,7 +304,7 @@ def table_page(commands):
     kinds = {name: dict(zip(('title', 'called', 'made'), row)) for name, row in KINDS.items()}
     data = {'mnemonics': mnemonics, 'directives': directives, 'most_words': MOST_WORDS, 'kinds': kinds, 'commands': {}}
     for name, command in commands.items():
-        options = [{**asdict(option), 'values': option.values()} for option in command.options]
+        options = [{**asdict(option), 'values': option.values()} for option in command.options + command.behind]
         data['commands'][name] = {'reads': command.reads, 'options': options, 'rule': command.rule_told() if command.rule else '', 'bounds': command.rule}
     return '{\n' + ',\n'.join(f'"{name}": ' + json.dumps(value) for name, value in data.items()) + '\n}\n'
 
@@ -284,6 +319,8 @@ def help_page(commands):
         call = f'  alewife {name}' + (' [OPTION VALUE]..' if command.options else '') + (f' < {command.reads.upper()}' if command.reads else '')
         lines.append(f'{call:<{WIDTH}} {command.does}')
         lines += [f'      {option.name + " " + option.value():<15} {option.told()}' for option in command.options]
+        lines += [f'    behind {command.behind[0].behind}:'] if command.behind else []
+        lines += [f'      {option.name + " " + option.value():<15} {option.told()}' for option in command.behind]
     lines += [f'{f"  alewife {name} {value}":<{WIDTH}} {phrase}' for name, (value, phrase) in OWN.items()]
     return '\n'.join(lines) + '\n'
 
@@ -301,9 +338,21 @@ def synopsis(commands):
         for option in command.options:
             alike.setdefault(option.choice, []).append(f'{bold(option.name)} \\fI{option.value().lower()}\\fR')
         words = [bold(f'alewife {name}'), *(f'[{" | ".join(options)}]' for options in alike.values())]
+        words += [f'[{bold(option.name)} \\fI{option.value().lower()}\\fR]' for option in command.completed() if option.behind and option.choice not in alike]
         calls.append(' '.join(words + ([f'< \\fI{command.reads}\\fR'] if command.reads else [])))
     calls += [' '.join([bold(f'alewife {name}'), *([f'\\fI{value.lower()}\\fR'] if value else [])]) for name, (value, _) in OWN.items()]
     return '\n.br\n'.join(calls) + '\n'
+
+
+def option_lines(options):
+    """The lines of options, for the manual."""
+    lines = []
+    for option in options:
+        phrase = option.phrase[0].upper() + option.phrase[1:]
+        default = f' Default {option.default}.' if option.default is not None else ''
+        not_with = f' Not with {" or ".join(map(bold, option.apart))}.' if option.apart else ''
+        lines += ['.TP', f'.BI \\-\\-{option.name[2:]} " {option.value().lower()}"', f'{phrase}: {option.values()}.{default}{not_with}']
+    return lines
 
 
 def manual_page(commands):
@@ -313,11 +362,9 @@ def manual_page(commands):
         if not command.options:
             continue
         lines += [f'.SH OPTIONS OF {name.upper()}']
-        for option in command.options:
-            phrase = option.phrase[0].upper() + option.phrase[1:]
-            default = f' Default {option.default}.' if option.default is not None else ''
-            value = option.value().lower()
-            lines += ['.TP', f'.BI \\-\\-{option.name[2:]} " {value}"', f'{phrase}: {option.values()}.{default}']
+        lines += option_lines(command.options)
+        if command.behind:
+            lines += ['.PP', f'Behind {bold(command.behind[0].behind)}, and only there:', *option_lines(command.behind)]
         if command.rule:
             lines += ['.PP', command.rule_told().replace('-', '\\-')]
     return '\n'.join(lines) + '\n'
@@ -351,10 +398,11 @@ def bash_page(commands):
     """The completions for bash. Where they have nothing, as behind < and >, files are completed, but for numbers."""
     lines = []
     for name, command in commands.items():
-        names = [option.name for option in command.options]
-        numbers = [f'{name}:{option.name}' for option in command.options if not option.few()]
+        options = command.completed()
+        names = [option.name for option in options]
+        numbers = [f'{name}:{option.name}' for option in options if not option.few()]
         lines.append(f"        {name}:{name}) words='{' '.join([*names, '--help'])}' ;;")
-        lines += [f"        {name}:{option.name}) words='{' '.join(option.few())}' ;;" for option in command.options if option.few()]
+        lines += [f"        {name}:{option.name}) words='{' '.join(option.few())}' ;;" for option in options if option.few()]
         lines += [f'        {" | ".join(numbers)}) compopt +o default ;;'] if numbers else []
         lines += [f"        {name}:*) words='{' '.join(names)}' ;;"] if names else []
     return BASH_HEAD % {'commands': ' '.join(commands), 'own': ' '.join(OWN)} + '\n'.join(lines) + '\n' + BASH_TAIL
@@ -402,7 +450,8 @@ def zsh_page(commands):
     """The completions for zsh."""
     cases = ''
     for name, command in commands.items():
-        words = [zsh_option(option, [other.name for other in command.options if other != option and other.choice == option.choice]) for option in command.options]
+        options = command.completed()
+        words = [zsh_option(option, [other.name for other in options if other != option and other.choice == option.choice] + [*option.apart]) for option in options]
         cases += f'    {name})\n        _arguments ' + ' \\\n            '.join([*words, "'--help[say the words of this command]'"]) + '\n        ;;\n'
     described = ''.join(f"        '{name}:{command.does.replace(':', chr(92) + ':')}'\n" for name, command in commands.items())
     own = ''.join(f"        '{name}:{phrase}'\n" for name, (_, phrase) in OWN.items())
@@ -417,14 +466,19 @@ def paragraphs(commands, before):
 
 def option_cell(options):
     """The options that make one choice, for a table, the last with its values where two are all that it has."""
-    names = ' or '.join(f'`{option.name}`' for option in options)
+    names = [f'`{option.name}`' for option in options]
+    names = ' or '.join([', '.join(names[:-1]), names[-1]] if names[1:] else names)
     return f'{names[:-1]} {"` or `".join(options[-1].names)}`' if len(options[-1].names) == 2 else names
 
 
 def option_cells(options):
-    """The options of a command, for a table, by the choices that they make. Of costs the first and the last stand for all."""
+    """The options of a command, for a table, by the choices that they make. One that stands beside no other of a choice goes with it, those behind it are left
+    out, and forms that the text below lists; of costs the first and the last stand for all."""
+    options = [option for option in options if option.name != '--write' or len(option.names) == 2 or len(options) == 1]
+    options = [replace(option, choice=options[0].choice) if options[0].name in option.apart and not option.behind else option for option in options]
     costs = [option for option in options if option.last == MOST_COST]
-    for choice in dict.fromkeys(option.choice for option in options if option not in costs[1:]):
+    behind = [option for option in costs if option.behind]
+    for choice in dict.fromkeys(option.choice for option in options if option not in (behind or costs[1:])):
         alike = [option for option in options if option.choice == choice]
         yield f'costs `{costs[0].name}` to `{costs[-1].name}`' if alike == costs[:1] else option_cell(alike)
 
@@ -434,7 +488,7 @@ def overview(commands):
     rows = ''
     for name, command in commands.items():
         reads = f'{"an" if command.reads[0] in "aeiou" else "a"} {command.reads}' if command.reads else 'nothing'
-        cells = f'`{name}`', reads, command.does.partition(': ')[2], ', '.join(option_cells(command.options))
+        cells = f'`{name}`', reads, command.does.partition(': ')[2], ', '.join(option_cells(command.completed()))
         rows += f'| {" | ".join(cells).rstrip()} |\n'
     return rows
 

@@ -10,12 +10,13 @@ use Rattle.alw_runs.proofs.Kept.{run_kept, replay_kept}
 use Rattle.alw_threads.proofs.Kept.{work_kept}
 use Rattle.alw_cuts.proofs.Kept.{route_kept, save_kept, resume_kept}
 use Rattle.alw_orders.proofs.Kept.{schedule_kept}
-use Rattle.alw_cycles.proofs.Kept.{time_kept}
+use Rattle.alw_cycles.proofs.Kept.{time_kept, by_time_kept}
 
 pub each_kept : (command : Command) → IsKept (task_of command)
 each_kept (commands.Asm form) = asm_kept form
 each_kept (commands.Run (hows.Seed n) params form) = run_kept n params form
 each_kept (commands.Run (hows.Workers n) params form) = work_kept n params form
+each_kept (commands.RunByTime costs params form) = by_time_kept costs params form
 each_kept (commands.Replay form) = replay_kept form
 each_kept (commands.Audit form) = audit_kept form
 each_kept (commands.Gen seed width height size) = gen_kept (record { seed = seed; width = width; height = height; size = size })

@@ -8,7 +8,9 @@ use Rattle.alw_image.specs.Images.{node_count}
 use Rattle.alw_image.specs.Parameters.{Parameters}
 use Rattle.alw_model.specs.Headline.{IsCoherentRun, IsScheduled}
 use Rattle.law_machine.proofs.RunFacts.{always_bounded}
+use Rattle.alw_mesh.specs.Limits.{most_steps, most_timed_steps}
 use Rattle.alw_sched.specs.Schedules.{IsSeededRun}
+use Rattle.alw_due.specs.Due.{IsTimedRun}
 use Rattle.alw_sched.proofs.Bounded.{seeded_bounded}
 use Rattle.alw_config.specs.declared.commands.Form.TheVariants.{Trace}
 use Rattle.alw_config.specs.declared.commands.Command.{Command}
@@ -28,8 +30,9 @@ use Rattle.alw_runs.specs.Replaying.{replay_task}
 use Rattle.alw_cuts.specs.Resuming.{resume_task}
 use Rattle.alw_orders.specs.Scheduling.{schedule_task}
 use Rattle.alw_cycles.specs.Timing.{time_text, time_task}
+use Rattle.alw_cycles.specs.ByTime.{timed_text, by_time_task}
 use Rattle.alw_cli.specs.Answers.{task_of, Answers}
-use Rattle.alw_cli.specs.Headline.{has_journal, IsCoherent, Promised, Headline}
+use Rattle.alw_cli.specs.Headline.{has_journal, parameters_on, IsCoherent, Promised, Headline}
 use Rattle.alw_cli.proofs.Completing.{answered_to}
 
 -- an answer with a journal is an output, whose end is its cause, unless a write failed
@@ -52,13 +55,13 @@ has_output task input input' out out' cause.WriteFault journal merged made has =
 has_output task input input' out out' _ journal merged made has = absurd (false≢true has)
 
 -- what is told of a run is coherent
-module _ (text_of : TextOf) (image : Parts) (parameters : Parameters) (output : Output) (told : IsToldBy text_of image parameters output) (c : Cause) (journal : List Entry)
+module _ (most : ℕ) (text_of : TextOf) (image : Parts) (parameters : Parameters) (output : Output) (told : IsToldBy most text_of image parameters output) (c : Cause) (journal : List Entry)
     (same : journal ≡ output.journal) where
   end_of : (c ≡ cause_of output.ending) ⊎ (c ≡ cause.WriteFault) → (c ≡ cause_of (ending_of told.ended)) ⊎ (c ≡ cause.WriteFault)
   end_of (inl whole) = inl (whole ∙ ap cause_of told.ending)
   end_of (inr part) = inr part
 
-  coherent : (c ≡ cause_of output.ending) ⊎ (c ≡ cause.WriteFault) → IsCoherent image parameters c journal
+  coherent : (c ≡ cause_of output.ending) ⊎ (c ≡ cause.WriteFault) → IsCoherent most image parameters c journal
   coherent end = record {
     image_is = told.image_is;
     parameters_are = told.parameters_are;
@@ -76,17 +79,18 @@ promised (commands.Run (hows.Seed seed) parameters form) input input' out out' c
     let made = has_output (run_task seed parameters form) input input' out out' c journal merged answer has in
     let runs = made.reads.holds in
     let image = image_in made.reads.bytes in
+    let under = parameters_on image parameters in
     record {
       bytes = made.reads.bytes;
       read = made.reads.read;
       accepted = runs.accepted;
       spelled = runs.spelled;
       holds = record {
-        coherent = coherent (run_text form) image parameters made.output runs.told c journal made.journal_is made.told;
-        scheduled = subst (λ (j : List Entry). IsScheduled image parameters j) (sym made.journal_is) runs.scheduled;
-        seeded = subst (λ (j : List Entry). IsSeededRun image parameters seed j) (sym made.journal_is) runs.seeded;
-        fewer = subst (λ (j : List Entry). length j ≤ node_count image * parameters.limit + 2 * (node_count image * image.per_node)) (sym made.journal_is)
-            (seeded_bounded image runs.told.image_is parameters runs.told.parameters_are seed made.output.journal runs.seeded);
+        coherent = coherent most_steps (run_text form) image under made.output runs.told c journal made.journal_is made.told;
+        scheduled = subst (λ (j : List Entry). IsScheduled image under j) (sym made.journal_is) runs.scheduled;
+        seeded = subst (λ (j : List Entry). IsSeededRun image under seed j) (sym made.journal_is) runs.seeded;
+        fewer = subst (λ (j : List Entry). length j ≤ node_count image * under.limit + 2 * (node_count image * image.per_node)) (sym made.journal_is)
+            (seeded_bounded image runs.told.image_is under runs.told.parameters_are seed made.output.journal runs.seeded);
       };
     }
 promised (commands.Run (hows.Workers n) parameters form) input input' out out' c journal merged answer has =
@@ -97,7 +101,23 @@ promised (commands.Run (hows.Workers n) parameters form) input input' out out' c
       read = made.reads.read;
       accepted = works.accepted;
       spelled = works.spelled;
-      holds = coherent (run_text form) (image_in made.reads.bytes) parameters made.output works.told c journal made.journal_is made.told;
+      holds = coherent most_steps (run_text form) (image_in made.reads.bytes) (parameters_on (image_in made.reads.bytes) parameters) made.output works.told c journal made.journal_is made.told;
+    }
+promised (commands.RunByTime costs parameters form) input input' out out' c journal merged answer has =
+    let made = has_output (by_time_task costs parameters form) input input' out out' c journal merged answer has in
+    let runs = made.reads.holds in
+    let image = image_in made.reads.bytes in
+    let under = parameters_on image parameters in
+    record {
+      bytes = made.reads.bytes;
+      read = made.reads.read;
+      accepted = runs.accepted;
+      spelled = runs.spelled;
+      holds = record {
+        coherent = coherent most_timed_steps (timed_text costs form) image under made.output runs.told c journal made.journal_is made.told;
+        scheduled = subst (λ (j : List Entry). IsScheduled image under j) (sym made.journal_is) runs.scheduled;
+        timed = subst (λ (j : List Entry). IsTimedRun image under costs j) (sym made.journal_is) runs.timed;
+      };
     }
 promised (commands.Replay form) input input' out out' c journal merged answer has =
     let made = has_output (replay_task form) input input' out out' c journal merged answer has in
@@ -105,7 +125,7 @@ promised (commands.Replay form) input input' out out' c journal merged answer ha
     record {
       image = replays.trace.image;
       parameters = replays.trace.params;
-      coherent = coherent (run_text form) replays.trace.image replays.trace.params made.output replays.told c journal made.journal_is made.told;
+      coherent = coherent most_steps (run_text form) replays.trace.image replays.trace.params made.output replays.told c journal made.journal_is made.told;
     }
 promised (commands.Resume seed evict form) input input' out out' c journal merged answer has =
     let made = has_output (resume_task seed evict form) input input' out out' c journal merged answer has in
@@ -113,7 +133,7 @@ promised (commands.Resume seed evict form) input input' out out' c journal merge
     record {
       image = resumes.machine.image;
       parameters = resumes.machine.parameters;
-      coherent = coherent (run_text form) resumes.machine.image resumes.machine.parameters made.output resumes.told c journal made.journal_is made.told;
+      coherent = coherent most_steps (run_text form) resumes.machine.image resumes.machine.parameters made.output resumes.told c journal made.journal_is made.told;
     }
 promised (commands.Time costs form) input input' out out' c journal merged answer has =
     let made = has_output (time_task costs form) input input' out out' c journal merged answer has in
@@ -121,14 +141,14 @@ promised (commands.Time costs form) input input' out out' c journal merged answe
     record {
       image = takes.trace.image;
       parameters = takes.trace.params;
-      coherent = coherent (time_text costs form) takes.trace.image takes.trace.params made.output takes.told c journal made.journal_is made.told;
+      coherent = coherent most_timed_steps (time_text costs form) takes.trace.image takes.trace.params made.output takes.told c journal made.journal_is made.told;
     }
 promised (commands.Schedule parameters) input input' out out' c journal merged answer has =
     let made = has_output (schedule_task parameters) input input' out out' c journal merged answer has in
     let schedules = made.reads.holds in
     record {
       image = schedules.claim.image;
-      coherent = coherent (run_text Trace) schedules.claim.image parameters made.output schedules.told c journal made.journal_is made.told;
+      coherent = coherent most_steps (run_text Trace) schedules.claim.image (parameters_on schedules.claim.image parameters) made.output schedules.told c journal made.journal_is made.told;
     }
 promised _ input input' out out' c journal merged answer has = tt
 

@@ -24,6 +24,7 @@ use Rattle.alw_cuts.specs.Resuming.{resume_task}
 use Rattle.alw_checks.specs.Searching.{search_task}
 use Rattle.alw_orders.specs.Scheduling.{schedule_task}
 use Rattle.alw_cycles.specs.Timing.{time_task}
+use Rattle.alw_cycles.specs.ByTime.{by_time_task}
 use Rattle.alw_answers.specs.ErrLines.{err_line}
 
 -- ---- the answers
@@ -33,6 +34,7 @@ abbrev pub task_of : Command → Task
 task_of (commands.Asm form) = asm_task form
 task_of (commands.Run (hows.Seed n) params form) = run_task n params form
 task_of (commands.Run (hows.Workers n) params form) = work_task n params form
+task_of (commands.RunByTime costs params form) = by_time_task costs params form
 task_of (commands.Replay form) = replay_task form
 task_of (commands.Audit form) = audit_task form
 task_of (commands.Gen seed width height size) = gen_task (record { seed = seed; width = width; height = height; size = size })

@@ -4,12 +4,14 @@ use Rattle.alw_msg.specs.declared.events.Entry.{Entry}
 use Rattle.alw_image.specs.declared.parts.Parts.{Parts}
 use Rattle.alw_image.specs.Faults.{image_in, image_fault}
 use Rattle.alw_image.specs.Images.{IsImage, node_count, spelling}
-use Rattle.alw_image.specs.Parameters.{Parameters, AreParameters}
+use Rattle.alw_image.specs.Parameters.{Parameters, AreParameters, parameters_for}
 use Rattle.alw_model.specs.declared.ends.Ended.{Ended}
 use Rattle.alw_model.specs.Headline.{IsCoherentRun, IsScheduled}
-use Rattle.alw_mesh.specs.Limits.{most_steps}
+use Rattle.alw_mesh.specs.Limits.{most_steps, most_timed_steps}
 use Rattle.alw_mesh.specs.Histories.{stamps_of}
 use Rattle.alw_sched.specs.Schedules.{IsSeededRun}
+use Rattle.alw_times.specs.declared.costs.Costs.{Costs}
+use Rattle.alw_due.specs.Due.{IsTimedRun}
 use Rattle.alw_config.specs.declared.commands.Command.{Command}
 use Rattle.alw_config.specs.declared.commands.Command.TheVariants as commands
 use Rattle.alw_config.specs.declared.commands.How.TheVariants as hows
@@ -29,25 +31,29 @@ has_journal _ = false
 
 -- the journal is a coherent run of an image that fits, up to an end, which is the cause, unless a write failed; and it is bounded: by N * L, three for
 -- each set of each node, and two for each line
-pub record IsCoherent (image : Parts) (parameters : Parameters) (answered : Cause) (journal : List Entry) : Type 0 where
+pub record IsCoherent (most : ℕ) (image : Parts) (parameters : Parameters) (answered : Cause) (journal : List Entry) : Type 0 where
   pub image_is : IsImage image
   pub parameters_are : AreParameters parameters
-  pub fits : stamps_of image parameters ≤ most_steps
+  pub fits : stamps_of image parameters ≤ most
   pub ended : Ended
   pub run : IsCoherentRun image parameters journal ended
   pub told : (answered ≡ cause_of (ending_of ended)) ⊎ (answered ≡ cause.WriteFault)
   pub few : length journal ≤ node_count image * parameters.limit + (3 * (node_count image * parameters.sets) + 2 * (node_count image * image.per_node))
 
 -- of some image under some parameters
-pub record IsSomeCoherent (answered : Cause) (journal : List Entry) : Type 0 where
+pub record IsSomeCoherent (most : ℕ) (answered : Cause) (journal : List Entry) : Type 0 where
   pub image : Parts
   pub parameters : Parameters
-  pub coherent : IsCoherent image parameters answered journal
+  pub coherent : IsCoherent most image parameters answered journal
+
+-- these parameters, for an image's nodes
+abbrev pub parameters_on : Parts → Parameters → Parameters
+parameters_on image parameters = parameters_for (node_count image) parameters
 
 -- of some image under these parameters
 pub record IsCoherentUnder (parameters : Parameters) (answered : Cause) (journal : List Entry) : Type 0 where
   pub image : Parts
-  pub coherent : IsCoherent image parameters answered journal
+  pub coherent : IsCoherent most_steps image (parameters_on image parameters) answered journal
 
 -- the whole input is an image, of which this holds
 pub record IsOfImage (input input' : Stream) (Holds : Parts → Type 0) : Type 0 where
@@ -59,19 +65,27 @@ pub record IsOfImage (input input' : Stream) (Holds : Parts → Type 0) : Type 0
 
 -- a coherent run by the schedule of a seed, which has at most N * L + 2 * N * K entries
 pub record IsSeedsRun (seed : ℕ) (parameters : Parameters) (answered : Cause) (journal : List Entry) (image : Parts) : Type 0 where
-  pub coherent : IsCoherent image parameters answered journal
+  pub coherent : IsCoherent most_steps image parameters answered journal
   pub scheduled : IsScheduled image parameters journal
   pub seeded : IsSeededRun image parameters seed journal
   pub fewer : length journal ≤ node_count image * parameters.limit + 2 * (node_count image * image.per_node)
 
+-- a coherent run by the timed schedule: of the events that are due the one that starts first came next
+pub record IsRunByTime (costs : Costs) (parameters : Parameters) (answered : Cause) (journal : List Entry) (image : Parts) : Type 0 where
+  pub coherent : IsCoherent most_timed_steps image parameters answered journal
+  pub scheduled : IsScheduled image parameters journal
+  pub timed : IsTimedRun image parameters costs journal
+
 -- what is promised of a command's journal
 abbrev pub Promised : Command → Stream → Stream → Cause → List Entry → Type 0
-Promised (commands.Run (hows.Seed seed) parameters form) input input' answered journal = IsOfImage input input' (IsSeedsRun seed parameters answered journal)
+Promised (commands.Run (hows.Seed seed) parameters form) input input' answered journal = IsOfImage input input' (λ image. IsSeedsRun seed (parameters_on image parameters) answered journal image)
 Promised (commands.Run (hows.Workers workers) parameters form) input input' answered journal =
-    IsOfImage input input' (λ image. IsCoherent image parameters answered journal)
-Promised (commands.Replay form) input input' answered journal = IsSomeCoherent answered journal
-Promised (commands.Resume seed evict form) input input' answered journal = IsSomeCoherent answered journal
-Promised (commands.Time costs form) input input' answered journal = IsSomeCoherent answered journal
+    IsOfImage input input' (λ image. IsCoherent most_steps image (parameters_on image parameters) answered journal)
+Promised (commands.RunByTime costs parameters form) input input' answered journal =
+    IsOfImage input input' (λ image. IsRunByTime costs (parameters_on image parameters) answered journal image)
+Promised (commands.Replay form) input input' answered journal = IsSomeCoherent most_steps answered journal
+Promised (commands.Resume seed evict form) input input' answered journal = IsSomeCoherent most_steps answered journal
+Promised (commands.Time costs form) input input' answered journal = IsSomeCoherent most_timed_steps answered journal
 Promised (commands.Schedule parameters) input input' answered journal = IsCoherentUnder parameters answered journal
 Promised _ input input' answered journal = ⊤
 

@@ -15,7 +15,7 @@ use alw_builds::{assemble_source, make_workload, read_back};
 use alw_checks::{audit_bytes, search_bytes};
 use alw_config::{Command, Form, How};
 use alw_cuts::{resume, route_bytes, save_bytes};
-use alw_cycles::time_bytes;
+use alw_cycles::{run_by_time, time_bytes};
 use alw_image::Params;
 use alw_io::{Sink, Source};
 use alw_orders::schedule_bytes;
@@ -66,6 +66,11 @@ fn make(alloc: Global, command: Command, bytes: &[u8]) -> Result<Output, Refusal
     match command {
         Command::Asm { write } => assemble_source(alloc, write, bytes),
         Command::Run { how, params, write } => run_by(alloc, how, &params, write, bytes),
+        Command::RunByTime {
+            costs,
+            params,
+            write,
+        } => run_by_time(alloc, &costs, &params, write, bytes),
         Command::Replay { write } => replay_bytes(alloc, write, bytes),
         Command::Audit { write } => audit_bytes(alloc, write, bytes),
         Command::Gen {

@@ -1,12 +1,13 @@
 -- Words written out: where they are refused, and what they ask for.
-use Rattle.std.proofs.Common.{◌≡◌, ℕ, zero, suc, ◌<◌, Bool, true, false, List, [], ◌∷◌, codes, refl, inl, arith}
+use Rattle.std.proofs.Common.{◌≡◌, ℕ, zero, suc, ◌<◌, ◌&&◌, not, Bool, true, false, List, [], ◌∷◌, codes, refl, inl, arith}
 use Rattle.std.specs.Prelude.{None, Some}
 use Rattle.std.specs.Fmt.{digits}
-use Rattle.alw_config.specs.declared.commands.Command.TheVariants.{Asm, Run, Replay, Audit, Gen, Route, Save, Resume, Outcomes, Dis, Schedule, Time}
+use Rattle.alw_config.specs.declared.commands.Command.TheVariants.{Asm, Run, RunByTime, Replay, Audit, Gen, Route, Save, Resume, Outcomes, Dis, Schedule, Time}
 use Rattle.alw_config.specs.declared.commands.How.TheVariants.{Seed, Workers}
 use Rattle.alw_config.specs.declared.commands.AsmForm.TheVariants.{Image, Listing}
 use Rattle.alw_config.specs.declared.commands.AuditForm.TheVariants as audits
 use Rattle.alw_config.specs.declared.commands.TimeForm.TheVariants.{Cycles, Moments}
+use Rattle.alw_config.specs.declared.commands.TimedForm.TheVariants as timed_forms
 use Rattle.alw_config.specs.declared.commands.Form.TheVariants.{Report, Claim, Log, Profile}
 use Rattle.alw_config.specs.Places.{IsFirstPlace, IsRefusedAt, is_bad, asked, misfit_in}
 
@@ -64,9 +65,14 @@ unfolding digits
 seeds = (refl, refl)
 
 pointers : (is_bad_of (codes "--pointers") (codes "0") ≡ true) × (is_bad_of (codes "--pointers") (codes "1") ≡ false)
-    × (is_bad_of (codes "--pointers") (codes "9") ≡ true)
+    × (is_bad_of (codes "--pointers") (codes "9") ≡ true) × (is_bad_of (codes "--pointers") (codes "256") ≡ true)
+    × (is_bad_of (codes "--pointers") (codes "All") ≡ true)
 unfolding digits
-pointers = (refl, refl, refl)
+pointers = (refl, refl, refl, refl, refl)
+
+as_many_as_nodes : asked (codes "run" ∷ codes "--pointers" ∷ codes "all" ∷ [])
+    ≡ Some (Run (Seed 0) (record { pointers = 256; sets = 256; limit = 32768; evict = 0 }) Report)
+as_many_as_nodes = refl
 
 sets : (is_bad_of (codes "--sets") (codes "2") ≡ true) × (is_bad_of (codes "--sets") (codes "4") ≡ false)
     × (is_bad_of (codes "--sets") (codes "6") ≡ true) × (is_bad_of (codes "--sets") (codes "8192") ≡ true)
@@ -126,6 +132,9 @@ searched = refl
 scheduled : asked (codes "schedule" ∷ []) ≡ Some (Schedule (record { pointers = 4; sets = 256; limit = 32768; evict = 0 }))
 scheduled = refl
 
+all_scheduled : asked (codes "schedule" ∷ codes "--pointers" ∷ codes "all" ∷ []) ≡ Some (Schedule (record { pointers = 256; sets = 256; limit = 32768; evict = 0 }))
+all_scheduled = refl
+
 timed : asked (codes "time" ∷ []) ≡ Some (Time
     (record { hit = 1; switch = 11; hop = 1; send = 6; «data» = 4; home = 7; fill = 3; trap = 50; inv = 2; retry = 16; seed = 0 }) Cycles)
 timed = refl
@@ -174,3 +183,63 @@ too_great : (misfit_in (codes "gen" ∷ codes "--size" ∷ codes "64" ∷ codes 
     × (misfit_in (codes "gen" ∷ codes "--height" ∷ codes "9" ∷ codes "--size" ∷ codes "255" ∷ []) ≡ Some 4)
 unfolding digits
 too_great = (refl, refl)
+
+-- ---- a run that is timed
+
+by_time : asked (codes "run" ∷ codes "--cycles" ∷ codes "7" ∷ codes "--trap" ∷ codes "25" ∷ codes "--write" ∷ codes "cycles" ∷ [])
+    ≡ Some (RunByTime (record { hit = 1; switch = 11; hop = 1; send = 6; «data» = 4; home = 7; fill = 3; trap = 25; inv = 2; retry = 16; seed = 7 })
+    (record { pointers = 4; sets = 256; limit = 262144; evict = 0 }) (timed_forms.Time Cycles))
+unfolding digits
+by_time = refl
+
+on_both_sides : asked (codes "run" ∷ codes "--write" ∷ codes "log" ∷ codes "--pointers" ∷ codes "all" ∷ codes "--cycles" ∷ codes "1" ∷ codes "--hit" ∷ codes "2" ∷ codes "--switch" ∷ codes "3" ∷ codes "--hop" ∷ codes "4" ∷ codes "--send" ∷ codes "5" ∷
+    codes "--data" ∷ codes "6" ∷ codes "--home" ∷ codes "7" ∷ codes "--fill" ∷ codes "8" ∷ codes "--trap" ∷ codes "9" ∷ codes "--inv" ∷ codes "10" ∷ codes "--retry" ∷ codes "65535" ∷ codes "--sets" ∷ codes "4" ∷ codes "--limit" ∷ codes "1048576" ∷ [])
+    ≡ Some (RunByTime (record { hit = 2; switch = 3; hop = 4; send = 5; «data» = 6; home = 7; fill = 8; trap = 9; inv = 10; retry = 65535; seed = 1 })
+    (record { pointers = 256; sets = 4; limit = 1048576; evict = 0 }) (timed_forms.Run Log))
+unfolding digits
+on_both_sides = refl
+
+-- none of the places below one is bad, and that one is
+abbrev none_bad : List (List ℕ) → ℕ → Bool
+none_bad words zero = true
+none_bad words (suc place) = not (is_bad words place) && none_bad words place
+
+abbrev IsFirstBad : List (List ℕ) → ℕ → Type 0
+IsFirstBad words place = (none_bad words place ≡ true) × (is_bad words place ≡ true)
+
+-- costs stand behind `--cycles` alone, and so do forms of times
+cost_before : IsFirstBad (codes "run" ∷ codes "--hit" ∷ codes "5" ∷ codes "--cycles" ∷ codes "0" ∷ []) 1
+cost_before = (refl, refl)
+
+times_before : IsFirstBad (codes "run" ∷ codes "--write" ∷ codes "cycles" ∷ codes "--cycles" ∷ codes "0" ∷ []) 2
+times_before = (refl, refl)
+
+written_twice : IsFirstBad (codes "run" ∷ codes "--write" ∷ codes "report" ∷ codes "--cycles" ∷ codes "0" ∷ codes "--write" ∷ codes "cycles" ∷ []) 5
+unfolding digits
+written_twice = (refl, refl)
+
+-- what draws stands on neither side
+evictions_before : IsFirstBad (codes "run" ∷ codes "--evict" ∷ codes "1" ∷ codes "--cycles" ∷ codes "0" ∷ []) 3
+unfolding digits
+evictions_before = (refl, refl)
+
+workers_before : IsFirstBad (codes "run" ∷ codes "--workers" ∷ codes "2" ∷ codes "--cycles" ∷ codes "0" ∷ []) 3
+unfolding digits
+workers_before = (refl, refl)
+
+drawn_behind : IsFirstBad (codes "run" ∷ codes "--cycles" ∷ codes "0" ∷ codes "--seed" ∷ codes "0" ∷ []) 3 × IsFirstBad (codes "run" ∷ codes "--cycles" ∷ codes "0" ∷ codes "--evict" ∷ codes "0" ∷ []) 3
+unfolding digits
+drawn_behind = ((refl, refl), (refl, refl))
+
+abbrev is_bad_timed : List ℕ → List ℕ → Bool
+is_bad_timed option value = is_bad (codes "run" ∷ codes "--cycles" ∷ codes "0" ∷ option ∷ value ∷ []) 4
+
+timed_costs : (is_bad_timed (codes "--hit") (codes "0") ≡ true) × (is_bad_timed (codes "--home") (codes "0") ≡ true)
+    × (is_bad_timed (codes "--fill") (codes "0") ≡ true) × (is_bad_timed (codes "--trap") (codes "0") ≡ true)
+    × (is_bad_timed (codes "--inv") (codes "0") ≡ false) × (is_bad_timed (codes "--trap") (codes "65536") ≡ true)
+unfolding digits
+timed_costs = (refl, refl, refl, refl, refl, refl)
+
+cost_seeds : (is_bad_of (codes "--cycles") (codes "18446744073709551615") ≡ false) × (is_bad_of (codes "--cycles") (codes "18446744073709551616") ≡ true)
+unfolding digits
+cost_seeds = (refl, refl)

@@ -1,14 +1,14 @@
 -- What words without a bad place ask for, by the tables of commands and options. A command leaves choices, numbered from 0, and an option makes
 -- one of them, by a value of its kind.
-use Rattle.std.specs.Prelude.{ℕ, suc, ◌+◌, ◌==◌, ◌||◌, ◌&&◌, nat_lt, Bool, false, List, [], ◌∷◌, codes, slice_index_or, if◌then◌else◌}
+use Rattle.std.specs.Prelude.{ℕ, suc, ◌+◌, ◌==◌, ◌||◌, ◌&&◌, nat_lt, Bool, false, List, [], ◌∷◌, ◌++◌, codes, slice_index_or, if◌then◌else◌}
 use Rattle.std.specs.Prelude.{Option, None, Some, option_map, option_and_then}
 use Rattle.std.specs.Option.{option_map_or}
 use Rattle.alw_config.specs.declared.commands.Command.{Command}
 use Rattle.alw_config.specs.declared.commands.Command.TheVariants as command
 use Rattle.alw_config.specs.declared.rows.Value.{Value}
-use Rattle.alw_config.specs.declared.rows.Value.TheVariants.{Number, How, AsmForm, AuditForm, TimeForm, Form}
+use Rattle.alw_config.specs.declared.rows.Value.TheVariants.{Number, How, AsmForm, AuditForm, TimeForm, Form, TimedForm}
 use Rattle.alw_config.specs.declared.rows.Name.{Name}
-use Rattle.alw_config.specs.declared.rows.Name.TheVariants.{Asm, Run, Replay, Audit, Gen, Route, Save, Resume, Outcomes, Dis, Schedule, Time}
+use Rattle.alw_config.specs.declared.rows.Name.TheVariants.{Asm, Run, Timed, Replay, Audit, Gen, Route, Save, Resume, Outcomes, Dis, Schedule, Time}
 use Rattle.alw_config.specs.declared.rows.Kind.{Kind}
 use Rattle.alw_config.specs.declared.rows.Kind.TheVariants as kinds
 use Rattle.alw_config.specs.declared.commands.How.TheVariants as hows
@@ -16,6 +16,7 @@ use Rattle.alw_config.specs.declared.commands.AsmForm.TheVariants as asms
 use Rattle.alw_config.specs.declared.commands.AuditForm.TheVariants as audits
 use Rattle.alw_config.specs.declared.commands.TimeForm.TheVariants as times
 use Rattle.alw_config.specs.declared.commands.Form.TheVariants as forms
+use Rattle.alw_config.specs.declared.commands.TimedForm.TheVariants as timed
 use Rattle.alw_config.specs.declared.rows.Meaning.{Meaning}
 use Rattle.alw_config.specs.declared.rows.Made.{Made}
 use Rattle.alw_config.specs.declared.rows.Rule.{Rule}
@@ -35,13 +36,36 @@ Options = List (List ℕ × Meaning)
 abbrev pub makes_by : ℕ → Kind → Meaning
 makes_by choice kind = record { choice = choice; kind = kind }
 
--- a command's options, and its choices where no option makes them
+-- options of `run`: what the order of events is drawn by, the parameters of the machine, what says that a run is timed, and what each thing costs then
+abbrev pub draw_options : Options
+draw_options = (codes "--seed", makes_by 0 kinds.Seed) ∷ (codes "--workers", makes_by 0 kinds.Workers) ∷ (codes "--evict", makes_by 4 (kinds.Between 0 255)) ∷ []
+
+abbrev pub machine_options : Options
+machine_options =
+    (codes "--pointers", makes_by 1 kinds.Pointers) ∷ (codes "--sets", makes_by 2 kinds.SetCount) ∷ (codes "--limit", makes_by 3 (kinds.Between 1 1048576)) ∷ []
+
+abbrev pub cycles_option : List ℕ × Meaning
+cycles_option = (codes "--cycles", makes_by 6 (kinds.Between 0 18446744073709551615))
+
+abbrev pub cost_options : Options
+cost_options =
+    (codes "--hit", makes_by 7 (kinds.Between 1 65535)) ∷ (codes "--switch", makes_by 8 (kinds.Between 0 65535)) ∷ (codes "--hop", makes_by 9 (kinds.Between 0 65535)) ∷
+    (codes "--send", makes_by 10 (kinds.Between 0 65535)) ∷ (codes "--data", makes_by 11 (kinds.Between 0 65535)) ∷ (codes "--home", makes_by 12 (kinds.Between 1 65535)) ∷
+    (codes "--fill", makes_by 13 (kinds.Between 1 65535)) ∷ (codes "--trap", makes_by 14 (kinds.Between 1 65535)) ∷ (codes "--inv", makes_by 15 (kinds.Between 0 65535)) ∷
+    (codes "--retry", makes_by 16 (kinds.Between 0 65535)) ∷ []
+
+-- the options of a run that isn't timed, and of one that is: each has a `--write` of its own
+abbrev pub run_options : Options
+run_options = draw_options ++ machine_options ++ (codes "--write", makes_by 5 kinds.RunForm) ∷ []
+
+abbrev pub timed_options : Options
+timed_options = cycles_option ∷ (codes "--write", makes_by 5 kinds.TimedForm) ∷ machine_options ++ cost_options
+
+-- all options that may stand behind a command's name, by what each makes. A name that stands in two of a run's tables makes the same choice in both
 abbrev pub options_of : Name → Options
 options_of Asm = (codes "--write", makes_by 0 kinds.AsmForm) ∷ []
-options_of Run =
-    (codes "--seed", makes_by 0 kinds.Seed) ∷ (codes "--workers", makes_by 0 kinds.Workers) ∷ (codes "--pointers", makes_by 1 (kinds.Between 1 8)) ∷
-    (codes "--sets", makes_by 2 kinds.SetCount) ∷ (codes "--limit", makes_by 3 (kinds.Between 1 1048576)) ∷ (codes "--evict", makes_by 4 (kinds.Between 0 255)) ∷
-    (codes "--write", makes_by 5 kinds.Form) ∷ []
+options_of Run = timed_options ++ draw_options
+options_of Timed = timed_options ++ draw_options
 options_of Replay = (codes "--write", makes_by 0 kinds.Form) ∷ []
 options_of Audit = (codes "--write", makes_by 0 kinds.AuditForm) ∷ []
 options_of Dis = []
@@ -54,7 +78,7 @@ options_of Resume =
     (codes "--seed", makes_by 0 (kinds.Between 0 18446744073709551615)) ∷ (codes "--evict", makes_by 1 (kinds.Between 0 255)) ∷ (codes "--write", makes_by 2 kinds.Form) ∷ []
 options_of Outcomes = (codes "--most", makes_by 0 (kinds.Between 1 16777216)) ∷ []
 options_of Schedule =
-    (codes "--pointers", makes_by 0 (kinds.Between 1 8)) ∷ (codes "--sets", makes_by 1 kinds.SetCount) ∷ (codes "--limit", makes_by 2 (kinds.Between 1 1048576)) ∷ []
+    (codes "--pointers", makes_by 0 kinds.Pointers) ∷ (codes "--sets", makes_by 1 kinds.SetCount) ∷ (codes "--limit", makes_by 2 (kinds.Between 1 1048576)) ∷ []
 options_of Time =
     (codes "--seed", makes_by 0 (kinds.Between 0 18446744073709551615)) ∷ (codes "--hit", makes_by 1 (kinds.Between 1 65535)) ∷
     (codes "--switch", makes_by 2 (kinds.Between 0 65535)) ∷ (codes "--hop", makes_by 3 (kinds.Between 0 65535)) ∷ (codes "--send", makes_by 4 (kinds.Between 0 65535)) ∷
@@ -62,9 +86,13 @@ options_of Time =
     (codes "--trap", makes_by 8 (kinds.Between 1 65535)) ∷ (codes "--inv", makes_by 9 (kinds.Between 0 65535)) ∷ (codes "--retry", makes_by 10 (kinds.Between 0 65535)) ∷
     (codes "--write", makes_by 11 kinds.TimeForm) ∷ []
 
+-- a command's choices where no option makes them
 abbrev pub defaults_of : Name → List Value
 defaults_of Asm = AsmForm asms.Image ∷ []
-defaults_of Run = How (hows.Seed 0) ∷ Number 4 ∷ Number 256 ∷ Number 32768 ∷ Number 0 ∷ Form forms.Report ∷ []
+defaults_of Run = How (hows.Seed 0) ∷ Number 4 ∷ Number 256 ∷ Number 32768 ∷ Number 0 ∷ TimedForm (timed.Run forms.Report) ∷ []
+defaults_of Timed =
+    How (hows.Seed 0) ∷ Number 4 ∷ Number 256 ∷ Number 262144 ∷ Number 0 ∷ TimedForm (timed.Run forms.Report) ∷ Number 0 ∷
+    Number 1 ∷ Number 11 ∷ Number 1 ∷ Number 6 ∷ Number 4 ∷ Number 7 ∷ Number 3 ∷ Number 50 ∷ Number 2 ∷ Number 16 ∷ []
 defaults_of Replay = Form forms.Report ∷ []
 defaults_of Audit = AuditForm audits.Verdict ∷ []
 defaults_of Dis = []
@@ -109,6 +137,27 @@ values_from choice options [] words = []
 values_from choice options (default ∷ rest) words =
     option_map_or (λ m. m.value) (made options choice words) default ∷ values_from (suc choice) options rest words
 
+-- ---- a run that is timed
+
+-- the options that stand open where some choices are made: those of a timed run behind `--cycles` alone, which itself stands behind no option that draws
+abbrev pub open_by : Name → (ℕ → Bool) → Options
+open_by Run chosen = if chosen 6 then timed_options else if chosen 0 || chosen 4 then run_options else cycles_option ∷ run_options
+open_by Timed chosen = timed_options
+open_by name chosen = options_of name
+
+-- the same behind a command's name and some words
+abbrev pub open_options : Name → List (List ℕ) → Options
+open_options name before = open_by name (λ choice. is_made (options_of name) choice before)
+
+-- the command that choices make of one: a run with `--cycles` is a timed one
+abbrev pub taken_by : Name → (ℕ → Bool) → Name
+taken_by Run chosen = if chosen 6 then Timed else Run
+taken_by name chosen = name
+
+-- the same by the words behind its name
+abbrev pub taken : Name → List (List ℕ) → Name
+taken name words = taken_by name (λ choice. is_made (options_of name) choice words)
+
 -- ---- a rule over several choices
 
 -- a command's rule, where it has one: a mesh of more than 8 columns or rows has at most 63 operations a node
@@ -139,8 +188,13 @@ misfit rule options defaults words = if breaks rule (value_at options defaults w
 -- the command with these choices
 abbrev pub command_of : Name → List Value → Option Command
 command_of Asm (AsmForm write ∷ []) = Some (command.Asm write)
-command_of Run (How how ∷ Number pointers ∷ Number sets ∷ Number limit ∷ Number evict ∷ Form write ∷ []) =
+command_of Run (How how ∷ Number pointers ∷ Number sets ∷ Number limit ∷ Number evict ∷ TimedForm (timed.Run write) ∷ []) =
     Some (command.Run how (record { pointers = pointers; sets = sets; limit = limit; evict = evict }) write)
+command_of Timed (_ ∷ Number pointers ∷ Number sets ∷ Number limit ∷ _ ∷ TimedForm write ∷ Number seed ∷
+    Number hit ∷ Number switch ∷ Number hop ∷ Number send ∷ Number body ∷ Number home ∷ Number fill ∷ Number trap ∷ Number inv ∷ Number retry ∷ []) =
+    Some (command.RunByTime
+    (record { hit = hit; switch = switch; hop = hop; send = send; «data» = body; home = home; fill = fill; trap = trap; inv = inv; retry = retry; seed = seed })
+    (record { pointers = pointers; sets = sets; limit = limit; evict = 0 }) write)
 command_of Replay (Form write ∷ []) = Some (command.Replay write)
 command_of Audit (AuditForm write ∷ []) = Some (command.Audit write)
 command_of Dis [] = Some command.Dis

@@ -16,6 +16,13 @@ pub enum Command {
         params: Params,
         write: Form,
     },
+    /// Runs an image on a machine with these parameters by the timed schedule of these costs: whatever can
+    /// start first does.
+    RunByTime {
+        costs: Costs,
+        params: Params,
+        write: TimedForm,
+    },
     /// Takes the events of a trace again.
     Replay {
         write: Form,
@@ -112,6 +119,15 @@ pub enum Form {
     Log,
     /// Counts by node, line and code word, as one object.
     Profile,
+}
+
+/// What a timed run is written as.
+#[derive(Clone, Copy, PartialEq, Eq)]
+pub enum TimedForm {
+    /// As any run is.
+    Run(Form),
+    /// Its times.
+    Time(TimeForm),
 }
 
 /// The place of the first refused word, from 0. A missing word has the place behind the last.

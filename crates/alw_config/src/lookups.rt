@@ -3,11 +3,12 @@ ghost use Rattle.std.specs.List.{list_any};
 ghost use Rattle.alw_image.specs.Parameters.{set_counts};
 ghost use Rattle.alw_config.specs.declared.rows.Value.TheVariants as values;
 ghost use Rattle.alw_config.specs.declared.commands.How.TheVariants as hows;
-ghost use Rattle.alw_config.specs.Values.{row_of, number_if, value_of, asm_forms, audit_forms, time_forms, forms};
+ghost use Rattle.alw_config.specs.declared.commands.TimedForm.TheVariants as timed;
+ghost use Rattle.alw_config.specs.Values.{row_of, number_if, pointers_of, value_of, asm_forms, audit_forms, time_forms, forms, timed_forms};
 
-use crate::commands::How;
-use crate::rows::{ASM_FORMS, AUDIT_FORMS, FORMS, Kind, Row, TIME_FORMS, Value};
-use alw_image::SET_COUNTS;
+use crate::commands::{How, TimedForm};
+use crate::rows::{ASM_FORMS, AUDIT_FORMS, FORMS, Kind, Row, TIME_FORMS, TIMED_FORMS, Value};
+use alw_image::{FEW_POINTERS, MOST_POINTERS, SET_COUNTS};
 use alw_num::MOST_NODES;
 use alw_text::decimal;
 
@@ -35,10 +36,13 @@ impl Kind {
             ))),
             Kind::Between(least, most) => Some(Value::Number(number_between(word, least, most)?)),
             Kind::SetCount => Some(Value::Number(set_count(word)?)),
+            Kind::Pointers => Some(Value::Number(pointers(word)?)),
             Kind::AsmForm => Some(Value::AsmForm(row_of(&ASM_FORMS, word)?)),
             Kind::AuditForm => Some(Value::AuditForm(row_of(&AUDIT_FORMS, word)?)),
             Kind::TimeForm => Some(Value::TimeForm(row_of(&TIME_FORMS, word)?)),
             Kind::Form => Some(Value::Form(row_of(&FORMS, word)?)),
+            Kind::RunForm => Some(Value::TimedForm(TimedForm::Run(row_of(&FORMS, word)?))),
+            Kind::TimedForm => Some(Value::TimedForm(row_of(&TIMED_FORMS, word)?)),
         }
     }
 }
@@ -64,5 +68,16 @@ fn set_count(word: &[u8]) -> Option<u64>
         Some(number)
     } else {
         None
+    }
+}
+
+// How many pointers a word stands for: a few, or as many as there can be.
+fn pointers(word: &[u8]) -> Option<u64>
+    ensures { result ≡ pointers_of word.now }
+{
+    if word == b"all".as_slice() {
+        Some(u64::from(MOST_POINTERS))
+    } else {
+        number_between(word, 1, u64::from(FEW_POINTERS))
     }
 }

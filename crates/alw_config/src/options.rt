@@ -1,17 +1,20 @@
 ghost use Rattle.std.specs.Prelude.{◌≡◌, ◌<◌, ◌≤◌, length, map, string_bytes, IsTrue, MatchResult, Some, option_and_then};
+ghost use Rattle.alw_config.specs.declared.commands.TimedForm.TheVariants as timed;
+ghost use Rattle.alw_config.specs.declared.rows.Name.TheVariants as names;
 ghost use Rattle.alw_config.specs.declared.rows.Value.TheVariants as values;
 ghost use Rattle.alw_config.specs.Table.{options_of, defaults_of, rule_of, number_in, command_of};
 ghost use Rattle.alw_config.specs.Places.{IsRefusedBehind};
-ghost use Rattle.alw_config.specs.Choices.{HavePlaces, ChoicesAreMade, ValuesAreAllowed, CommandIsWithin, is_allowed, value_by, values_by, misfit_by, IsNumber, IsHow, IsAsmForm, IsAuditForm, IsTimeForm, IsForm};
+ghost use Rattle.alw_config.specs.Choices.{HavePlaces, ChoicesAreMade, ValuesAreAllowed, CommandIsWithin, allowed_of, open_now, taken_now, is_allowed, value_by, values_by, misfit_by, IsNumber, IsHow, IsAsmForm, IsAuditForm, IsTimeForm, IsForm, IsRunForm, IsTimedForm};
 
-use crate::commands::{AsmForm, AuditForm, Command, Form, How, TimeForm, WordErr};
+use crate::commands::{AsmForm, AuditForm, Command, Form, How, TimeForm, TimedForm, WordErr};
 use crate::lookups::row_of;
 use crate::rows::{
     ASM_DEFAULTS, ASM_OPTIONS, AUDIT_DEFAULTS, AUDIT_OPTIONS, GEN_DEFAULTS, GEN_OPTIONS, GEN_RULE,
     MOST_CHOICES, Made, Meaning, NO_DEFAULTS, NO_OPTIONS, Name, OUTCOMES_DEFAULTS,
     OUTCOMES_OPTIONS, REPLAY_DEFAULTS, REPLAY_OPTIONS, RESUME_DEFAULTS, RESUME_OPTIONS,
     ROUTE_DEFAULTS, ROUTE_OPTIONS, RUN_DEFAULTS, RUN_OPTIONS, Row, Rule, SAVE_DEFAULTS,
-    SAVE_OPTIONS, SCHEDULE_DEFAULTS, SCHEDULE_OPTIONS, TIME_DEFAULTS, TIME_OPTIONS, Value,
+    SAVE_OPTIONS, SCHEDULE_DEFAULTS, SCHEDULE_OPTIONS, TIME_DEFAULTS, TIME_OPTIONS, TIMED_DEFAULTS,
+    TIMED_OPTIONS, UNDECIDED_OPTIONS, Value,
 };
 use alw_image::Params;
 use alw_times::Costs;
@@ -20,16 +23,15 @@ use alw_times::Costs;
 pub(crate) type Chosen = [Option<Made>; MOST_CHOICES];
 
 // The choices that the words behind a command's name make, or the first refused place.
-pub(crate) fn chosen(options: &[Row<Meaning>], words: &[String]) -> Result<Chosen, WordErr>
-    requires places { HavePlaces (map (λ row. (row.0.now, row.1)) options.now) }
-    ensures { MatchResult result (ChoicesAreMade (map (λ row. (row.0.now, row.1)) options.now) (map string_bytes words.now))
-        (λ e. IsRefusedBehind (map (λ row. (row.0.now, row.1)) options.now) (map string_bytes words.now) e.at) }
+pub(crate) fn chosen(name: Name, words: &[String]) -> Result<Chosen, WordErr>
+    ensures { MatchResult result (ChoicesAreMade name (map string_bytes words.now))
+        (λ e. IsRefusedBehind name (map string_bytes words.now) e.at) }
 {
     let mut chosen = [None; MOST_CHOICES];
     let mut rest = words;
     let mut at = 1;
     'pairs: while let Some((option, behind)) = rest.split_first() {
-        let Some(meaning) = row_of(options, option.as_str().as_bytes()) else {
+        let Some(meaning) = row_of(name.open_options(&chosen), option.as_str().as_bytes()) else {
             return Err(WordErr { at });
         };
         if chosen[meaning.choice].is_some() {
@@ -55,12 +57,58 @@ pub(crate) fn chosen(options: &[Row<Meaning>], words: &[String]) -> Result<Chose
 // What makes a choice: an option's value, or else the default.
 fn value_of(chosen: &Chosen, defaults: &[Value], choice: usize) -> Value
     requires choice { choice < length defaults.now }
-    requires few { length defaults.now ≤ 12 }
+    requires few { length defaults.now ≤ 17 }
     ensures { result ≡ value_by chosen.now defaults.now choice }
 {
     match chosen[choice] {
         Some(made) => made.value,
         None => defaults[choice],
+    }
+}
+
+// The options of `run` that stand open: those of a timed run where one is asked for (by choice 6), and no way to ask
+// for one where events are drawn (by choice 0 or 4).
+fn run_options(chosen: &Chosen) -> &'static [Row<Meaning>]
+    ensures options { map (λ row. (row.0.now, row.1)) result.now ≡ open_now names.Run chosen.now }
+    ensures places { HavePlaces (open_now names.Run chosen.now) }
+{
+    if chosen[6].is_some() {
+        &TIMED_OPTIONS
+    } else if chosen[0].is_some() || chosen[4].is_some() {
+        &RUN_OPTIONS
+    } else {
+        &UNDECIDED_OPTIONS
+    }
+}
+
+// The timed run with these choices, and with the default of each that isn't made.
+fn timed_run(chosen: &Chosen) -> Command
+    requires allowed { ValuesAreAllowed (allowed_of names.Timed) chosen.now }
+    ensures command { command_of names.Timed (values_by 0 chosen.now (defaults_of names.Timed)) ≡ Some result }
+    ensures within { CommandIsWithin result }
+{
+    let name = Name::Timed;
+    Command::RunByTime {
+        costs: Costs {
+            hit: name.value(chosen, 7).number() as u16,
+            switch: name.value(chosen, 8).number() as u16,
+            hop: name.value(chosen, 9).number() as u16,
+            send: name.value(chosen, 10).number() as u16,
+            data: name.value(chosen, 11).number() as u16,
+            home: name.value(chosen, 12).number() as u16,
+            fill: name.value(chosen, 13).number() as u16,
+            trap: name.value(chosen, 14).number() as u16,
+            inv: name.value(chosen, 15).number() as u16,
+            retry: name.value(chosen, 16).number() as u16,
+            seed: name.value(chosen, 6).number(),
+        },
+        params: Params::of(
+            name.value(chosen, 1).number() as u16,
+            name.value(chosen, 2).number() as u32,
+            name.value(chosen, 3).number() as u32,
+            0,
+        ),
+        write: name.value(chosen, 5).timed_form(),
     }
 }
 
@@ -70,7 +118,7 @@ impl Rule {
         requires one { self.one < length defaults.now }
         requires other { self.other < length defaults.now }
         requires third { self.third < length defaults.now }
-        requires few { length defaults.now ≤ 12 }
+        requires few { length defaults.now ≤ 17 }
         ensures { result ≡ misfit_by self chosen.now defaults.now }
     {
         let one = value_of(chosen, defaults, self.one).number_or_zero();
@@ -85,13 +133,15 @@ impl Rule {
 }
 
 impl Name {
-    // The command's options.
-    pub(crate) fn options(self) -> &'static [Row<Meaning>]
-        ensures { map (λ row. (row.0.now, row.1)) result.now ≡ options_of self }
+    // The command's options that stand open behind those that made these choices.
+    fn open_options(self, chosen: &Chosen) -> &'static [Row<Meaning>]
+        ensures options { map (λ row. (row.0.now, row.1)) result.now ≡ open_now self chosen.now }
+        ensures places { HavePlaces (open_now self chosen.now) }
     {
         match self {
             Name::Asm => &ASM_OPTIONS,
-            Name::Run => &RUN_OPTIONS,
+            Name::Run => run_options(chosen),
+            Name::Timed => &TIMED_OPTIONS,
             Name::Replay => &REPLAY_OPTIONS,
             Name::Audit => &AUDIT_OPTIONS,
             Name::Gen => &GEN_OPTIONS,
@@ -105,14 +155,31 @@ impl Name {
         }
     }
 
+    // The command that these choices make of it: a run is a timed one by choice 6.
+    pub(crate) fn taken(self, chosen: &Chosen) -> Name
+        ensures { result ≡ taken_now self chosen.now }
+    {
+        match self {
+            Name::Run => {
+                if chosen[6].is_some() {
+                    Name::Timed
+                } else {
+                    Name::Run
+                }
+            }
+            _ => self,
+        }
+    }
+
     // The command's choices where no option makes them.
     pub(crate) fn defaults(self) -> &'static [Value]
         ensures defaults { result.now ≡ defaults_of self }
-        ensures few { length result.now ≤ 12 }
+        ensures few { length result.now ≤ 17 }
     {
         match self {
             Name::Asm => &ASM_DEFAULTS,
             Name::Run => &RUN_DEFAULTS,
+            Name::Timed => &TIMED_DEFAULTS,
             Name::Replay => &REPLAY_DEFAULTS,
             Name::Audit => &AUDIT_DEFAULTS,
             Name::Gen => &GEN_DEFAULTS,
@@ -145,17 +212,17 @@ impl Name {
 
     // What makes a choice of the command: an option's value, or else the default.
     fn value(self, chosen: &Chosen, choice: usize) -> Value
-        requires allowed { ValuesAreAllowed (options_of self) chosen.now }
+        requires allowed { ValuesAreAllowed (allowed_of self) chosen.now }
         requires choice { choice < length (defaults_of self) }
         ensures value { result ≡ value_by chosen.now (defaults_of self) choice }
-        ensures allowed { IsTrue (is_allowed (options_of self) choice result) }
+        ensures allowed { IsTrue (is_allowed (allowed_of self) choice result) }
     {
         value_of(chosen, self.defaults(), choice)
     }
 
     // The command with these choices, and with the default of each that isn't made.
     pub(crate) fn command(self, chosen: &Chosen) -> Command
-        requires allowed { ValuesAreAllowed (options_of self) chosen.now }
+        requires allowed { ValuesAreAllowed (allowed_of self) chosen.now }
         requires fits { option_and_then (λ rule. misfit_by rule chosen.now (defaults_of self)) (rule_of self) ≡ None }
         ensures command { command_of self (values_by 0 chosen.now (defaults_of self)) ≡ Some result }
         ensures within { CommandIsWithin result }
@@ -167,13 +234,14 @@ impl Name {
             Name::Run => Command::Run {
                 how: self.value(chosen, 0).how(),
                 params: Params::of(
-                    self.value(chosen, 1).number() as u8,
+                    self.value(chosen, 1).number() as u16,
                     self.value(chosen, 2).number() as u32,
                     self.value(chosen, 3).number() as u32,
                     self.value(chosen, 4).number() as u8,
                 ),
-                write: self.value(chosen, 5).form(),
+                write: self.value(chosen, 5).run_form(),
             },
+            Name::Timed => timed_run(chosen),
             Name::Replay => Command::Replay {
                 write: self.value(chosen, 0).form(),
             },
@@ -203,7 +271,7 @@ impl Name {
             },
             Name::Schedule => Command::Schedule {
                 params: Params::of(
-                    self.value(chosen, 0).number() as u8,
+                    self.value(chosen, 0).number() as u16,
                     self.value(chosen, 1).number() as u32,
                     self.value(chosen, 2).number() as u32,
                     0,
@@ -302,6 +370,28 @@ impl Value {
     {
         match self {
             Value::Form(form) => form,
+            _ => unreachable!(),
+        }
+    }
+
+    // The form of a run that isn't timed, where it may have been.
+    fn run_form(self) -> Form
+        requires { IsRunForm self }
+        ensures { self ≡ values.TimedForm (timed.Run result) }
+    {
+        match self {
+            Value::TimedForm(TimedForm::Run(form)) => form,
+            _ => unreachable!(),
+        }
+    }
+
+    // The form of a timed run that it is.
+    fn timed_form(self) -> TimedForm
+        requires { IsTimedForm self }
+        ensures { self ≡ values.TimedForm result }
+    {
+        match self {
+            Value::TimedForm(form) => form,
             _ => unreachable!(),
         }
     }

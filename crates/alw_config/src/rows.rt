@@ -1,16 +1,17 @@
 //! The tables of command words: each row is a name, and what it stands for. The definitions have them as literals.
 
-use crate::commands::{AsmForm, AuditForm, Form, How, TimeForm};
-use alw_image::{MOST_LIMIT, MOST_POINTERS};
+use crate::commands::{AsmForm, AuditForm, Form, How, TimeForm, TimedForm};
+use alw_image::MOST_LIMIT;
 
 // A row of a table: a name, and what it stands for.
 pub(crate) type Row<T> = (&'static [u8], T);
 
-// The commands.
+// The commands. No word names a timed run: it is a run that an option makes so.
 #[derive(Clone, Copy)]
 pub(crate) enum Name {
     Asm,
     Run,
+    Timed,
     Replay,
     Audit,
     Gen,
@@ -42,6 +43,8 @@ pub(crate) enum Kind {
     Between(u64, u64),
     // The numbers of sets that a cache can have, in decimal.
     SetCount,
+    // A few hardware pointers, in decimal, or the word for as many as there are nodes.
+    Pointers,
     // The names of `ASM_FORMS`.
     AsmForm,
     // The names of `AUDIT_FORMS`.
@@ -50,6 +53,10 @@ pub(crate) enum Kind {
     TimeForm,
     // The names of `FORMS`.
     Form,
+    // The same, for a run that may be a timed one.
+    RunForm,
+    // The names of `TIMED_FORMS`.
+    TimedForm,
 }
 
 // What a choice is made by.
@@ -61,6 +68,7 @@ pub(crate) enum Value {
     AuditForm(AuditForm),
     TimeForm(TimeForm),
     Form(Form),
+    TimedForm(TimedForm),
 }
 
 // What makes a choice, and the place of its word, from 0 for the command's name.
@@ -82,7 +90,7 @@ pub(crate) struct Rule {
 }
 
 // The most choices that a command leaves.
-pub(crate) const MOST_CHOICES: usize = 12;
+pub(crate) const MOST_CHOICES: usize = 17;
 
 // The parameters of a machine where no option gives them.
 const DEFAULT_POINTERS: u64 = 4;
@@ -90,6 +98,9 @@ const DEFAULT_POINTERS: u64 = 4;
 const DEFAULT_SETS: u64 = 256;
 
 const DEFAULT_LIMIT: u64 = 32_768;
+
+// The limit of a timed run where no option gives it.
+const DEFAULT_TIMED_LIMIT: u64 = 262_144;
 
 // The most that a thing may cost, in cycles.
 const MOST_COST: u64 = 65_535;
@@ -139,6 +150,19 @@ pub(crate) const FORMS: [Row<Form>; 7] = [
     (b"profile", Form::Profile),
 ];
 
+// What a timed run is written as: as any run is, or its times.
+pub(crate) const TIMED_FORMS: [Row<TimedForm>; 9] = [
+    (b"report", TimedForm::Run(Form::Report)),
+    (b"json", TimedForm::Run(Form::Json)),
+    (b"trace", TimedForm::Run(Form::Trace)),
+    (b"claim", TimedForm::Run(Form::Claim)),
+    (b"summary", TimedForm::Run(Form::Summary)),
+    (b"log", TimedForm::Run(Form::Log)),
+    (b"profile", TimedForm::Run(Form::Profile)),
+    (b"cycles", TimedForm::Time(TimeForm::Cycles)),
+    (b"moments", TimedForm::Time(TimeForm::Moments)),
+];
+
 // The options of `asm`.
 pub(crate) const ASM_OPTIONS: [Row<Meaning>; 1] = [(
     b"--write",
@@ -151,57 +175,187 @@ pub(crate) const ASM_OPTIONS: [Row<Meaning>; 1] = [(
 // What `asm` chooses where no option does.
 pub(crate) const ASM_DEFAULTS: [Value; 1] = [Value::AsmForm(AsmForm::Image)];
 
-// The options of `run`.
+// The options of `run`: what its events are drawn by, the parameters of its machine, and what is written.
+const SEED: Row<Meaning> = (
+    b"--seed",
+    Meaning {
+        choice: 0,
+        kind: Kind::Seed,
+    },
+);
+
+const WORKERS: Row<Meaning> = (
+    b"--workers",
+    Meaning {
+        choice: 0,
+        kind: Kind::Workers,
+    },
+);
+
+const EVICT: Row<Meaning> = (
+    b"--evict",
+    Meaning {
+        choice: 4,
+        kind: Kind::Between(0, 255),
+    },
+);
+
+const POINTERS: Row<Meaning> = (
+    b"--pointers",
+    Meaning {
+        choice: 1,
+        kind: Kind::Pointers,
+    },
+);
+
+const SETS: Row<Meaning> = (
+    b"--sets",
+    Meaning {
+        choice: 2,
+        kind: Kind::SetCount,
+    },
+);
+
+const LIMIT: Row<Meaning> = (
+    b"--limit",
+    Meaning {
+        choice: 3,
+        kind: Kind::Between(1, MOST_LIMIT as u64),
+    },
+);
+
+const WRITE: Row<Meaning> = (
+    b"--write",
+    Meaning {
+        choice: 5,
+        kind: Kind::RunForm,
+    },
+);
+
+// Those of a timed run: the seed of its costs, what is written, and what each thing costs, in cycles.
+const CYCLES: Row<Meaning> = (
+    b"--cycles",
+    Meaning {
+        choice: 6,
+        kind: Kind::Between(0, u64::MAX),
+    },
+);
+
+const WRITE_TIMED: Row<Meaning> = (
+    b"--write",
+    Meaning {
+        choice: 5,
+        kind: Kind::TimedForm,
+    },
+);
+
+const HIT: Row<Meaning> = (
+    b"--hit",
+    Meaning {
+        choice: 7,
+        kind: Kind::Between(1, MOST_COST),
+    },
+);
+
+const SWITCH: Row<Meaning> = (
+    b"--switch",
+    Meaning {
+        choice: 8,
+        kind: Kind::Between(0, MOST_COST),
+    },
+);
+
+const HOP: Row<Meaning> = (
+    b"--hop",
+    Meaning {
+        choice: 9,
+        kind: Kind::Between(0, MOST_COST),
+    },
+);
+
+const SEND: Row<Meaning> = (
+    b"--send",
+    Meaning {
+        choice: 10,
+        kind: Kind::Between(0, MOST_COST),
+    },
+);
+
+const DATA: Row<Meaning> = (
+    b"--data",
+    Meaning {
+        choice: 11,
+        kind: Kind::Between(0, MOST_COST),
+    },
+);
+
+const HOME: Row<Meaning> = (
+    b"--home",
+    Meaning {
+        choice: 12,
+        kind: Kind::Between(1, MOST_COST),
+    },
+);
+
+const FILL: Row<Meaning> = (
+    b"--fill",
+    Meaning {
+        choice: 13,
+        kind: Kind::Between(1, MOST_COST),
+    },
+);
+
+const TRAP: Row<Meaning> = (
+    b"--trap",
+    Meaning {
+        choice: 14,
+        kind: Kind::Between(1, MOST_COST),
+    },
+);
+
+const INV: Row<Meaning> = (
+    b"--inv",
+    Meaning {
+        choice: 15,
+        kind: Kind::Between(0, MOST_COST),
+    },
+);
+
+const RETRY: Row<Meaning> = (
+    b"--retry",
+    Meaning {
+        choice: 16,
+        kind: Kind::Between(0, MOST_COST),
+    },
+);
+
+// What stands open behind `run` where an option has said that events are drawn.
 pub(crate) const RUN_OPTIONS: [Row<Meaning>; 7] = [
-    (
-        b"--seed",
-        Meaning {
-            choice: 0,
-            kind: Kind::Seed,
-        },
-    ),
-    (
-        b"--workers",
-        Meaning {
-            choice: 0,
-            kind: Kind::Workers,
-        },
-    ),
-    (
-        b"--pointers",
-        Meaning {
-            choice: 1,
-            kind: Kind::Between(1, MOST_POINTERS as u64),
-        },
-    ),
-    (
-        b"--sets",
-        Meaning {
-            choice: 2,
-            kind: Kind::SetCount,
-        },
-    ),
-    (
-        b"--limit",
-        Meaning {
-            choice: 3,
-            kind: Kind::Between(1, MOST_LIMIT as u64),
-        },
-    ),
-    (
-        b"--evict",
-        Meaning {
-            choice: 4,
-            kind: Kind::Between(0, 255),
-        },
-    ),
-    (
-        b"--write",
-        Meaning {
-            choice: 5,
-            kind: Kind::Form,
-        },
-    ),
+    SEED, WORKERS, EVICT, POINTERS, SETS, LIMIT, WRITE,
+];
+
+// Where no option has said yet whether they are.
+pub(crate) const UNDECIDED_OPTIONS: [Row<Meaning>; 8] = [
+    CYCLES, SEED, WORKERS, EVICT, POINTERS, SETS, LIMIT, WRITE,
+];
+
+// Where one has said that the run is timed.
+pub(crate) const TIMED_OPTIONS: [Row<Meaning>; 15] = [
+    CYCLES,
+    WRITE_TIMED,
+    POINTERS,
+    SETS,
+    LIMIT,
+    HIT,
+    SWITCH,
+    HOP,
+    SEND,
+    DATA,
+    HOME,
+    FILL,
+    TRAP,
+    INV,
+    RETRY,
 ];
 
 // What `run` chooses where no option does.
@@ -211,7 +365,28 @@ pub(crate) const RUN_DEFAULTS: [Value; 6] = [
     Value::Number(DEFAULT_SETS),
     Value::Number(DEFAULT_LIMIT),
     Value::Number(0),
-    Value::Form(Form::Report),
+    Value::TimedForm(TimedForm::Run(Form::Report)),
+];
+
+// What a timed run chooses where no option does.
+pub(crate) const TIMED_DEFAULTS: [Value; 17] = [
+    Value::How(How::Seed(0)),
+    Value::Number(DEFAULT_POINTERS),
+    Value::Number(DEFAULT_SETS),
+    Value::Number(DEFAULT_TIMED_LIMIT),
+    Value::Number(0),
+    Value::TimedForm(TimedForm::Run(Form::Report)),
+    Value::Number(0),
+    Value::Number(1),
+    Value::Number(11),
+    Value::Number(1),
+    Value::Number(6),
+    Value::Number(4),
+    Value::Number(7),
+    Value::Number(3),
+    Value::Number(50),
+    Value::Number(2),
+    Value::Number(16),
 ];
 
 // The options of `replay`.
@@ -362,7 +537,7 @@ pub(crate) const SCHEDULE_OPTIONS: [Row<Meaning>; 3] = [
         b"--pointers",
         Meaning {
             choice: 0,
-            kind: Kind::Between(1, MOST_POINTERS as u64),
+            kind: Kind::Pointers,
         },
     ),
     (

@@ -22,9 +22,10 @@ pub fn command(words: &[String]) -> Result<Command, WordErr>
     let Some(name) = row_of(&COMMANDS, first.as_str().as_bytes()) else {
         return Err(WordErr { at: 0 });
     };
-    let choices = chosen(name.options(), rest)?;
-    match name.misfit(&choices) {
+    let choices = chosen(name, rest)?;
+    let taken = name.taken(&choices);
+    match taken.misfit(&choices) {
         Some(at) => Err(WordErr { at }),
-        None => Ok(name.command(&choices)),
+        None => Ok(taken.command(&choices)),
     }
 }

@@ -1,18 +1,14 @@
-ghost use Rattle.std.specs.Prelude.{◌≡◌, IfOk};
-ghost use Rattle.alw_timing.specs.Timing.{TimesAreOf};
+ghost use Rattle.alw_mesh.specs.Limits.{most_timed_steps};
 ghost use Rattle.alw_answers.specs.Outputs.{Gives};
 ghost use Rattle.alw_runs.specs.Replaying.{TakesAgain, IsNoReplay};
 ghost use Rattle.alw_cycles.specs.Timing.{time_text};
 
+use crate::texts::{tells_by, time_text};
 use alw_answers::{Output, Refusal};
 use alw_config::TimeForm;
-use alw_mesh::Machine;
-use alw_model::Ended;
-use alw_num::NoMemory;
 use alw_runs::{end_of_trace, output_with};
-use alw_text::Text;
 use alw_times::Costs;
-use alw_timing::{RunTimes, TimedRun, cycles_text, moments_text, time};
+use alw_timing::{TimedRun, time};
 use alw_trace::read_trace;
 use std::alloc::Global;
 
@@ -24,33 +20,23 @@ pub fn time_bytes(
     form: TimeForm,
     bytes: &[u8],
 ) -> Result<Output, Refusal>
-    ensures { Gives (TakesAgain (time_text costs.now form) bytes.now) (IsNoReplay bytes.now) result }
+    ensures { Gives (TakesAgain most_timed_steps (time_text costs.now form) bytes.now) (IsNoReplay most_timed_steps bytes.now) result }
 {
     let trace = read_trace(alloc, bytes)?;
+    let _allowed = trace.image.nodes(); // for its clause
     let TimedRun {
         machine,
         kept,
         times,
-    } = time(alloc, &trace.image, &trace.params, costs, &trace.journal)?;
+    } = time(
+        alloc,
+        &trace.image,
+        &trace.params,
+        costs,
+        tells_by(form),
+        &trace.journal,
+    )?;
     let ended = end_of_trace(&trace, &machine, kept)?;
     let text = time_text(alloc, costs, form, &machine, &ended, &times)?;
     Ok(output_with(machine, ended, text))
-}
-
-// The times of a machine's run, in a form.
-fn time_text(
-    alloc: Global,
-    costs: &Costs,
-    form: TimeForm,
-    machine: &Machine,
-    ended: &Ended,
-    times: &RunTimes,
-) -> Result<Text, NoMemory>
-    requires { TimesAreOf costs.now machine.now times.now }
-    ensures { IfOk result (λ text. text ≡ time_text costs.now form machine.now.image machine.now.parameters machine.now.journal ended.now) }
-{
-    match form {
-        TimeForm::Cycles => cycles_text(alloc, machine, ended, costs, times),
-        TimeForm::Moments => moments_text(alloc, machine, costs, times),
-    }
 }

@@ -3,9 +3,11 @@ use Rattle.std.proofs.Common.{◌≡◌, ℕ, List, ◌++◌, codes, refl, sym, 
 use Rattle.alw_msg.specs.declared.events.Entry.{Entry}
 use Rattle.alw_image.specs.declared.parts.Parts.{Parts}
 use Rattle.alw_image.specs.Images.{node_count}
+use Rattle.alw_image.specs.Numbers.{HasWords}
 use Rattle.alw_image.specs.Parameters.{Parameters}
 use Rattle.alw_model.specs.declared.ends.Ended.{Ended}
 use Rattle.alw_model.specs.Headline.{IsCoherentRun}
+use Rattle.alw_mesh.specs.Limits.{most_timed_steps}
 use Rattle.alw_mesh.proofs.Journals.{journal_fits}
 use Rattle.alw_report.specs.Reports.{report_of}
 use Rattle.alw_report.specs.Reports.{params_line, ended_line}
@@ -24,11 +26,11 @@ use Rattle.alw_cycles.specs.Timing.{time_text}
 use Rattle.alw_answers.specs.declared.outputs.Output.{Output}
 use Rattle.alw_answers.specs.Outputs.{ending_of}
 use Rattle.alw_runs.specs.Forms.{TextOf, run_text, IsToldBy}
-use Rattle.alw_runs.specs.Replaying.{Spells, TakesAgain, Replays, IsFinishedTrace, IsFinishedText, IsRunThatFits, TellsTheSame, ReportsTheSame, trace_of}
+use Rattle.alw_runs.specs.Replaying.{Spells, TakesAgain, IsFinishedTrace, IsFinishedText, IsRunThatFits, TellsTheSame, ReportsTheSame, TellsAgain, trace_of}
 use Rattle.alw_runs.proofs.NoEvict.{calm, legal_same, end_after_same, ends_so, one_end, some_end, moments_same, report_same, stamped}
 use Rattle.alw_runs.proofs.Kept.{one_spelled}
 
-module _ (image : Parts) (p : Parameters) (journal : List Entry) (e : Ended) (is : IsRunThatFits image p journal e) where
+module _ (image : Parts) (p : Parameters) (journal : List Entry) (e : Ended) (most : ℕ) (is : IsRunThatFits most image p journal e) where
   abbrev text : List ℕ
   text = trace_text (trace_of image p journal)
 
@@ -49,6 +51,7 @@ module _ (image : Parts) (p : Parameters) (journal : List Entry) (e : Ended) (is
         limit = is.parameters_are.limit;
         evict = omega arith;
       };
+      points = is.points;
       evict = refl;
       journal = stamped image p journal is.run.legal;
     };
@@ -57,28 +60,28 @@ module _ (image : Parts) (p : Parameters) (journal : List Entry) (e : Ended) (is
       omega (
         arith,
         journal_fits (record { image = image; parameters = p; journal = journal; joined = 0 })
-            (record { image = is.image_is; parameters = is.parameters_are; fits = is.fits; legal = is.run.legal; joined = omega arith }),
+            (record { image = is.image_is; parameters = is.parameters_are; legal = is.run.legal; joined = omega arith }),
       ),
     );
   }
 
-  finished : IsFinishedTrace read
+  finished : IsFinishedTrace most read
   finished = record {
     fits = is.fits;
     legal = legal_same image p journal is.run.legal;
     ended = λ none. some_end image p journal e is.run.end (sym (end_after_same image p journal) ∙ none);
   }
 
-  pub accepted : IsFinishedText text
+  pub accepted : IsFinishedText most text
   accepted = record { trace = read; spelled = spelled; holds = finished }
 
   -- what is told of the run again, where the text doesn't depend on how often evictions are tried
   pub tells_the_same : (text_of : TextOf) → ((ended : Ended) → text_of image (calm p) journal ended ≡ text_of image p journal ended) → (output : Output) →
-      TakesAgain text_of text output → TellsTheSame text_of image p journal e output
+      TakesAgain most text_of text output → TellsTheSame text_of image p journal e output
   tells_the_same text_of calmly output takes =
       let one : takes.trace ≡ read = one_spelled text takes.trace read takes.spelled spelled in
       let same : output.journal ≡ journal = takes.same ∙ ap (λ (t : Trace). t.journal) one in
-      let told : IsToldBy text_of image (calm p) output = subst (λ (t : Trace). IsToldBy text_of t.image t.params output) one takes.told in
+      let told : IsToldBy most text_of image (calm p) output = subst (λ (t : Trace). IsToldBy most text_of t.image t.params output) one takes.told in
       let run : IsCoherentRun image (calm p) journal told.ended = subst (λ (j : List Entry). IsCoherentRun image (calm p) j told.ended) same told.run in
       let end_is : told.ended ≡ e = one_end image p journal told.ended e (ends_so image p journal told.ended run.end) is.run.end in
       record {
@@ -87,7 +90,7 @@ module _ (image : Parts) (p : Parameters) (journal : List Entry) (e : Ended) (is
         text = told.text ∙ ap (λ (j : List Entry). text_of image (calm p) j told.ended) same ∙ calmly told.ended ∙ ap (text_of image p journal) end_is;
       }
 
-  pub reports_the_same : (output : Output) → Replays forms.Report text output → ReportsTheSame image p journal e output
+  pub reports_the_same : (output : Output) → TakesAgain most (run_text forms.Report) text output → ReportsTheSame image p journal e output
   unfolding run_text
   reports_the_same output replays = tells_the_same report_of (report_same image p journal) output replays
 
@@ -116,5 +119,16 @@ module _ (image : Parts) (p : Parameters) (journal : List Entry) (e : Ended) (is
       ++ (nodes_text (node_count image) (times_same costs i).latest (waits_same costs i).spent ++ codes "end\n")))))
   time_same costs Moments ended = λ i. moments_title ++ (head_same costs i ++ (entries_text journal (spans_same costs i) ++ codes "end\n"))
 
-  pub times_the_same : (costs : Costs) (form : TimeForm) (output : Output) → TakesAgain (time_text costs form) text output → TellsTheSame (time_text costs form) image p journal e output
+  pub times_the_same : (costs : Costs) (form : TimeForm) (output : Output) → TakesAgain most (time_text costs form) text output → TellsTheSame (time_text costs form) image p journal e output
   times_the_same costs form output takes = tells_the_same (time_text costs form) (time_same costs form) output takes
+
+-- ---- what a timed run told of its times
+
+module _ (image : Parts) (p : Parameters) (costs : Costs) (form : TimeForm) (run : Output) (words : HasWords image) (told : IsToldBy most_timed_steps (time_text costs form) image p run) where
+  is_run : IsRunThatFits most_timed_steps image p run.journal told.ended
+  is_run = record { image_is = told.image_is; words = words; parameters_are = told.parameters_are; points = told.points; fits = told.fits; run = told.run }
+
+  pub told_again : (again : Output) → TakesAgain most_timed_steps (time_text costs form) (trace_text (trace_of image p run.journal)) again → TellsAgain run again
+  told_again again takes =
+      let same = times_the_same image p run.journal told.ended most_timed_steps is_run costs form again takes in
+      record { same = same.same; end = same.end ∙ sym told.ending; text = same.text ∙ sym told.text }

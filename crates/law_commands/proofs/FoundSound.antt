@@ -24,11 +24,12 @@ use Rattle.alw_answers.specs.declared.outputs.Refusal.TheVariants as refusal
 use Rattle.alw_answers.specs.Outputs.{Gives, IsText}
 use Rattle.alw_config.specs.declared.commands.AuditForm.{AuditForm}
 use Rattle.alw_checks.specs.Auditing.{audit_text, ending_of_verdict, told_before, sound_line, Audits, SpellsClaim, IsNoClaim, IsSoundText, FindsSound}
+use Rattle.alw_mesh.specs.Limits.{most_steps}
 use Rattle.alw_runs.specs.Forms.{run_text}
 use Rattle.alw_runs.specs.Replaying.{IsRunThatFits}
 use Rattle.alw_checks.proofs.Kept.{claim_read, one_claim, sound_so}
 
-module _ (image : Parts) (p : Parameters) (journal : List Entry) (e : Ended) (is : IsRunThatFits image p journal e) where
+module _ (image : Parts) (p : Parameters) (journal : List Entry) (e : Ended) (is : IsRunThatFits most_steps image p journal e) where
   few_turns : length (turns_of image p journal) ≤ most_turns
   few_turns = omega (arith, always_few_turns image is.image_is p is.parameters_are journal is.run.legal, is.fits)
 

@@ -23,11 +23,15 @@ ghost use Rattle.alw_answers.specs.Outputs.{Gives};
 ghost use Rattle.alw_builds.specs.Assembling.{Assembles, asm_task};
 ghost use Rattle.alw_builds.specs.ReadingBack.{ReadsBack};
 ghost use Rattle.alw_checks.specs.Auditing.{Audits, IsNoClaim, FindsSound, IsSoundText, told_before};
-ghost use Rattle.alw_runs.specs.Forms.{run_text, IsTold};
-ghost use Rattle.alw_runs.specs.Replaying.{IsFinishedText, IsRunThatFits, TakesAgain, Replays, TellsTheSame, ReportsTheSame, trace_of};
+ghost use Rattle.alw_runs.specs.Forms.{run_text, IsTold, IsToldBy};
+ghost use Rattle.alw_runs.specs.Replaying.{IsFinishedText, IsRunThatFits, TakesAgain, Replays, TellsTheSame, ReportsTheSame, TellsAgain, trace_of};
 ghost use Rattle.alw_times.specs.declared.costs.Costs.{Costs};
 ghost use Rattle.alw_config.specs.declared.commands.TimeForm.{TimeForm};
+ghost use Rattle.alw_config.specs.declared.commands.TimedForm.TheVariants.{Time};
 ghost use Rattle.alw_cycles.specs.Timing.{time_text};
+ghost use Rattle.alw_cycles.specs.ByTime.{timed_text};
+ghost use Rattle.alw_image.specs.Numbers.{HasWords};
+ghost use Rattle.alw_mesh.specs.Limits.{most_steps, most_timed_steps};
 ghost use Rattle.alw_cuts.specs.Resuming.{IsSomeCheckpoint};
 ghost use Rattle.alw_image.specs.Faults.{image_in};
 ghost use Rattle.alw_model.specs.declared.ends.Ended.TheVariants.{Halted};
@@ -37,7 +41,8 @@ ghost use Rattle.alw_config.specs.declared.commands.Form.{Form};
 ghost use Rattle.alw_answers.specs.declared.outputs.Ending.TheVariants.{Fine};
 ghost use Rattle.alw_endings.specs.Schedules.{TellsEveryRun};
 ghost use Rattle.alw_endings.specs.declared.values.StuckRun.TheVariants.{No};
-ghost use Rattle.alw_image.specs.Parameters.{AreParameters};
+ghost use Rattle.alw_image.specs.Images.{node_count};
+ghost use Rattle.alw_image.specs.Parameters.{AreParameters, parameters_for};
 ghost use Rattle.law_turns.specs.Stuck.{NoneIsStuck};
 ghost use Rattle.law_endings.specs.Runs.{ComesToTold, TellsRuns};
 ghost use Rattle.alw_orders.specs.Scheduling.{Schedules};
@@ -47,18 +52,22 @@ ghost use Rattle.alw_checks.specs.Searching.{Searches, TellsReport};
 /// carried out, the journal and the end are the run's, and so is the report that is written: the text
 /// of a trace doesn't say how often evictions are tried, and no legality, state or report depends on it.
 pub fn traces_report_the_same()
-    ensures accepted { (image : Parts) → (parameters : Parameters) → (journal : List Entry) → (ended : Ended) → IsRunThatFits image parameters journal ended →
-        IsFinishedText (trace_text (trace_of image parameters journal)) }
-    ensures same { (image : Parts) → (parameters : Parameters) → (journal : List Entry) → (ended : Ended) → IsRunThatFits image parameters journal ended →
+    ensures accepted { (image : Parts) → (parameters : Parameters) → (journal : List Entry) → (ended : Ended) → IsRunThatFits most_steps image parameters journal ended →
+        IsFinishedText most_steps (trace_text (trace_of image parameters journal)) }
+    ensures same { (image : Parts) → (parameters : Parameters) → (journal : List Entry) → (ended : Ended) → IsRunThatFits most_steps image parameters journal ended →
         (output : Output) → Replays forms.Report (trace_text (trace_of image parameters journal)) output → ReportsTheSame image parameters journal ended output }
 {}
 
 /// The times that `time` tells of the trace of a run are those of the run, by whatever costs: the text of a trace doesn't
-/// say how often evictions are tried, and no time depends on it.
+/// say how often evictions are tried, and no time depends on it. So what `time` tells of a timed run's trace, by the costs
+/// that the run was timed by, is what the run itself tells.
 pub fn traces_tell_their_times()
-    ensures { (image : Parts) → (parameters : Parameters) → (journal : List Entry) → (ended : Ended) → IsRunThatFits image parameters journal ended →
-        (costs : Costs) → (form : TimeForm) → (output : Output) → TakesAgain (time_text costs form) (trace_text (trace_of image parameters journal)) output →
+    ensures runs { (image : Parts) → (parameters : Parameters) → (journal : List Entry) → (ended : Ended) → IsRunThatFits most_timed_steps image parameters journal ended →
+        (costs : Costs) → (form : TimeForm) → (output : Output) → TakesAgain most_timed_steps (time_text costs form) (trace_text (trace_of image parameters journal)) output →
         TellsTheSame (time_text costs form) image parameters journal ended output }
+    ensures timed { (image : Parts) → (parameters : Parameters) → (costs : Costs) → (form : TimeForm) → (run : Output) → HasWords image →
+        IsToldBy most_timed_steps (timed_text costs (Time form)) image parameters run →
+        (again : Output) → TakesAgain most_timed_steps (time_text costs form) (trace_text (trace_of image parameters run.journal)) again → TellsAgain run again }
 {}
 
 /// What a run claims is found sound. The claim that `run` or `replay` writes of a run of an image that fits
@@ -66,9 +75,9 @@ pub fn traces_tell_their_times()
 /// `sound`: it names no difference, and refuses nothing but for want of memory. In the form `log` this stands behind the log
 /// of the run's turns on the flat memory.
 pub fn claims_are_found_sound()
-    ensures accepted { (image : Parts) → (parameters : Parameters) → (journal : List Entry) → (ended : Ended) → IsRunThatFits image parameters journal ended →
+    ensures accepted { (image : Parts) → (parameters : Parameters) → (journal : List Entry) → (ended : Ended) → IsRunThatFits most_steps image parameters journal ended →
         IsSoundText (run_text forms.Claim image parameters journal ended) }
-    ensures sound { (image : Parts) → (parameters : Parameters) → (journal : List Entry) → (ended : Ended) → IsRunThatFits image parameters journal ended →
+    ensures sound { (image : Parts) → (parameters : Parameters) → (journal : List Entry) → (ended : Ended) → IsRunThatFits most_steps image parameters journal ended →
         (form : AuditForm) → (result : Result Output Refusal) →
         Gives (Audits form (run_text forms.Claim image parameters journal ended)) (IsNoClaim (run_text forms.Claim image parameters journal ended)) result →
         FindsSound (told_before form (claim_of image parameters journal)) result }
@@ -111,7 +120,7 @@ pub fn told_ends_are_of_runs()
 /// many contexts a node: all contexts halt with these prints by context and this memory, or the context traps so.
 pub fn told_turns_are_scheduled()
     ensures { (most : ℕ) → (bytes : List ℕ) → (searched : Output) → (searches : Searches most bytes searched) → (parameters : Parameters) → (claimed : List ℕ) → (output : Output) →
-        (schedules : Schedules parameters claimed output) → schedules.claim.image ≡ image_in bytes → ComesToTold (image_in bytes) parameters searches.told output.journal }
+        (schedules : Schedules parameters claimed output) → schedules.claim.image ≡ image_in bytes → ComesToTold (image_in bytes) (parameters_for (node_count (image_in bytes)) parameters) searches.told output.journal }
 {}
 
 /// What `dis` writes of an image is a source that `asm` assembles to that image, byte for byte; and no longer than an

@@ -4,7 +4,7 @@ use Rattle.alw_config.proofs.options.chosen.Given as goal
 
 abbrev pub invariant-pairs : goal.invariant-pairs
 invariant-pairs l = record
-    { under_way : IsUnderWay (map (λ row. (row.0.now, row.1)) l.options) (map string_bytes l.words) (map string_bytes l.rest) l.chosen l.at }
+    { under_way : IsUnderWay l.name (map string_bytes l.words) (map string_bytes l.rest) l.chosen l.at }
 
 abbrev pub decreases-pairs : goal.decreases-pairs
 decreases-pairs l = length l.rest
