@@ -14,12 +14,12 @@ _alewife() {
         asm:asm) words='--write --help' ;;
         asm:--write) words='image listing' ;;
         asm:*) words='--write' ;;
-        run:run) words='--seed --workers --pointers --sets --limit --evict --write --help' ;;
-        run:--pointers) words='1 2 3 4 5 6 7 8' ;;
+        run:run) words='--seed --workers --evict --pointers --sets --limit --write --cycles --hit --switch --hop --send --data --home --fill --trap --inv --retry --help' ;;
+        run:--pointers) words='1 2 3 4 5 6 7 8 all' ;;
         run:--sets) words='4 8 16 32 64 128 256 512 1024 2048 4096' ;;
-        run:--write) words='report json trace claim summary log profile' ;;
-        run:--seed | run:--workers | run:--limit | run:--evict) compopt +o default ;;
-        run:*) words='--seed --workers --pointers --sets --limit --evict --write' ;;
+        run:--write) words='report json trace claim summary log profile cycles moments' ;;
+        run:--seed | run:--workers | run:--evict | run:--limit | run:--cycles | run:--hit | run:--switch | run:--hop | run:--send | run:--data | run:--home | run:--fill | run:--trap | run:--inv | run:--retry) compopt +o default ;;
+        run:*) words='--seed --workers --evict --pointers --sets --limit --write --cycles --hit --switch --hop --send --data --home --fill --trap --inv --retry' ;;
         replay:replay) words='--write --help' ;;
         replay:--write) words='report json trace claim summary log profile' ;;
         replay:*) words='--write' ;;
@@ -45,7 +45,7 @@ _alewife() {
         outcomes:--most) compopt +o default ;;
         outcomes:*) words='--most' ;;
         schedule:schedule) words='--pointers --sets --limit --help' ;;
-        schedule:--pointers) words='1 2 3 4 5 6 7 8' ;;
+        schedule:--pointers) words='1 2 3 4 5 6 7 8 all' ;;
         schedule:--sets) words='4 8 16 32 64 128 256 512 1024 2048 4096' ;;
         schedule:--limit) compopt +o default ;;
         schedule:*) words='--pointers --sets --limit' ;;
