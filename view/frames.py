@@ -1,7 +1,7 @@
 """The frames of a run, from its log in one pass: the state at each stamp, as the steps that lead there from the one before."""
 import re
 import sys
-from dataclasses import dataclass
+from dataclasses import dataclass, field
 from pathlib import Path
 
 import explain
@@ -98,22 +98,24 @@ def stamps_of(run, first, last):
     return stamps
 
 
-def shown(line, event, why):
-    """What a page has of an event: its line in the log but for the stamp and the statement, with words without leading zeros, and the reason of a miss or
-    an INV."""
+def shown(line, event, why, moment):
+    """What a page has of an event: its line in the log but for the stamp and the statement, with words without leading zeros, the reason of a miss or
+    an INV, and where there are moments the cycles in which it starts and finishes."""
     words = line.partition(' ')[2]
     if event.letter == 'I':
         behind = len(f'I {event.said["node"]} slot {event.said["slot"]} pc {event.said["pc"]} {event.said["statement"]}')
         words = f'I {event.said["node"]} {event.said["slot"]} {event.said["pc"]}{words[behind:]}'
-    return machine.DIGITS.sub(r'x\1', words) + (f'|{why}' if why else '')
+    told = machine.DIGITS.sub(r'x\1', words) + (f'|{why}' if why else '')
+    return f'{told}{"" if why else "|"}|{moment.start} {moment.finish}' if moment else told
 
 
 @dataclass(frozen=True)
 class Log:
-    """The log of a run: its head, the lines of its events, and where contexts stand at the end."""
+    """The log of a run: its head, the lines of its events, where contexts stand at the end, and the moments of the events by their lines, if any."""
     head: logs.Head
     lines: list
     ends: list
+    moments: dict = field(default_factory=dict)
 
     def events(self):
         """The events, one by one in order."""
@@ -135,15 +137,16 @@ def event_of(line):
         raise ViewError(f'the log is wrong: {fault}') from fault
 
 
-def log_of(program, run):
-    """The log of a trace."""
+def log_of(program, run, moments=()):
+    """The log of a trace, with the moments of its entries, if any."""
     lines = program.log()
     try:
         head = logs.head_of(lines[:logs.HEAD_LINES])
         ends = list(map(logs.context_of, lines[logs.HEAD_LINES + head.events + 1:-2]))
     except logs.LogError as fault:
         raise ViewError(f'the log is wrong: {fault}') from fault
-    return Log(head, lines[logs.HEAD_LINES:logs.HEAD_LINES + sum(map(len, run.events.values()))], ends)
+    events = lines[logs.HEAD_LINES:logs.HEAD_LINES + sum(map(len, run.events.values()))]
+    return Log(head, events, ends, dict(zip(events, moments)))
 
 
 # ---- frames
@@ -171,7 +174,7 @@ def frames(program, run, log, reasons, stamps, report):
         steps = list(state.begun()) if place == 0 else [step for event, _ in events for step in state.step(event)]
         if stamp in compared and place:
             compare(program, stamp, state)
-        yield [stamp, [shown(line, event, reasons.get((stamp, event.said['node']))) for event, line in events], steps]
+        yield [stamp, [shown(line, event, reasons.get((stamp, event.said['node'])), log.moments.get(line)) for event, line in events], steps]
         report(place + 1)
 
 
