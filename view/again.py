@@ -106,8 +106,8 @@ class Interrupted(Exception):
 
 class Again:
     """A run, its places from 0 to `end`, and its states and checkpoints, which are made where they are asked for and kept for a while. The log is read by a
-    thread of its own: what is of the log waits for that, and while it waits, it tells how far the thread is."""
-    head, lines, stamps, owners, index, ended = map(of_log, ('head', 'lines', 'stamps', 'owners', 'index', 'ended'))
+    thread of its own: what is of the log waits for that, and while it waits, it tells how far the thread is. It may have the moments of its entries."""
+    head, order, lines, stamps, owners, index, ended = map(of_log, ('head', 'order', 'lines', 'stamps', 'owners', 'index', 'ended'))
     end = property(lambda run: len(run.lines))
 
     def __init__(self, binary, trace, tell=lambda done, count: None):
@@ -119,7 +119,7 @@ class Again:
         self.state, self.bytes_of = lru_cache(KEPT_STATES)(self.reached), lru_cache(KEPT_LINES)(self.line_bytes)
         start = run_of(self.saved(0)[0])
         self.image, self.sets = image_of(start.image), start.params['sets']
-        self.story, self.reasons = None, []
+        self.story, self.reasons, self.moments = None, [], None
         self.known, self.fault, self.noted = None, None, (0, trace.count(b'\n', len(self.front)) - 2)
         self.reading = threading.Thread(target=self.read, daemon=True)
         self.reading.start()
@@ -158,6 +158,18 @@ class Again:
     def place_of(self, stamp):
         """The place behind all events of stamps up to one."""
         return bisect.bisect_right(self.stamps, stamp)
+
+    def moment(self, place):
+        """When the event that is next at a place starts and finishes."""
+        return self.moments[self.order[place]]
+
+    def place_from(self, cycle):
+        """The place before the first event that starts at a cycle or later: of events of one start that which the journal has first."""
+        starts = [(moment.start, at) for at, moment in enumerate(self.moments)]
+        later = [start for start in starts if start[0] >= cycle]
+        if not later:
+            raise ViewError(f'no event starts at cycle {cycle} or later{f": the last start is at {max(starts)[0]}" if starts else ""}')
+        return self.order.index(min(later)[1])
 
     def told_place(self, place):
         """A place in words: a stamp, and where only some of its events have happened, how many. At the start nobody waits for the log."""

@@ -17,6 +17,19 @@ document stamp
 Where the run is, or with a number: goes to that stamp.
 end
 
+define cycle
+  if $argc == 0
+    monitor cycle
+  else
+    monitor cycle $arg0
+    with logging enabled off -- maintenance flush register-cache
+    frame
+  end
+end
+document cycle
+Of a session with --moments: the cycles of the events around, or with a number: goes before the first event that starts there or later.
+end
+
 define why
   if $argc == 0
     eval "monitor why %d", $_thread - 1

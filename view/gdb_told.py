@@ -11,6 +11,8 @@ monitor messages         all messages on their way, and those that wait for a tr
 monitor why [CONTEXT]    the last miss of the thread that stopped last or was chosen, or of a context, and its cause
 monitor prints on|off    whether a print stops the run (on)
 monitor help             this'''
+HELP_OF_CYCLE = '''monitor cycle [N]        the cycles of the events around; or goes before the first event that starts at cycle N or later, as `stamp` does
+'''
 
 
 def told_thread(session, number):
@@ -53,7 +55,46 @@ def told_way(session, start, stop, going):
         lines += told_standing(session.code, run.state(run.end).contexts()) if run.ended == 'limit' else []
     if stop.reason == 'replaylog:begin;':
         lines.append('the run begins here')
-    return lines
+    is_behind = going.forwards or stop.event is not None and stop.event < stop.place
+    return lines + (told_behind(session, stop.place) if is_behind else told_before(session, stop.place))
+
+
+# ---- cycles
+
+
+def told_name(session, line):
+    """A line by its number, as a text, with what lies there."""
+    return f'line {line}{session.code.name(SHARED + LINE_BYTES * int(line))}'
+
+
+def told_deed(session, place):
+    """What the event that is next at a place does, in few words."""
+    event = session.run.event(place)
+    said = event.said
+    if event.letter == 'I':
+        missed = f' and misses {told_name(session, said["misses"])}' if said['misses'] else ''
+        return f'context {session.run.owners[place]} runs {said["statement"]}{missed}'
+    line = told_name(session, said['line'])
+    if event.letter == 'E':
+        return f'node {said["node"]} evicts {line}'
+    taker = f'{"the trap handler of " if event.letter == "H" else ""}node {said["node"]}'
+    return f'{taker} takes {said["kind"]} of {line} from node {said["sender"]}'
+
+
+def told_cycles(session, place):
+    """The cycles of the event that is next at a place, and what it does."""
+    moment = session.run.moment(place)
+    return f'cycles {moment.start} to {moment.finish}: {told_deed(session, place)}'
+
+
+def told_behind(session, place):
+    """The line of the event behind which a place is, where there are moments, and such an event."""
+    return [f'behind {told_cycles(session, place - 1)}'] if session.run.moments and place else []
+
+
+def told_before(session, place):
+    """The line of the event before which a place is, where there are moments, and such an event."""
+    return [f'before {told_cycles(session, place)}'] if session.run.moments and place < session.run.end else []
 
 
 # ---- the answers of monitor
@@ -117,6 +158,16 @@ def told_stamp(session, words):
         session.forget()
         session.place = session.run.place_of(number_of(words[1]))
     yield f'at {session.run.told_place(session.place)}, with {session.place} of {session.run.end} events'
+    yield from told_behind(session, session.place) + told_before(session, session.place)
+
+
+def told_cycle(session, words):
+    """The place of the run with the cycles around, and the way to the first event that starts at a cycle or later."""
+    if len(words) > 1:
+        place = session.run.place_from(number_of(words[1]))
+        session.forget()
+        session.place = place
+    return told_stamp(session, words[:1])
 
 
 def misses_of(run, place, context):
@@ -151,14 +202,15 @@ def told_prints(session, words):
     return [f'a print {"stops the run" if session.stops.prints else "is told, and the run goes on"}']
 
 
-COMMANDS = {'stamp': told_stamp, 'line': told_line, 'messages': told_messages, 'why': told_why, 'prints': told_prints, 'help': lambda *_: [HELP]}
+COMMANDS = {'stamp': told_stamp, 'line': told_line, 'messages': told_messages, 'why': told_why, 'prints': told_prints}
+COMMANDS_WITH_MOMENTS = COMMANDS | {'cycle': told_cycle}
 
 
 def told(session, words):
     """The answer of a command."""
     try:
-        if not words or words[0] not in COMMANDS:
-            return HELP
-        return '\n'.join(COMMANDS[words[0]](session, words))
+        has_moments = session.run.moments is not None
+        command = (COMMANDS_WITH_MOMENTS if has_moments else COMMANDS).get(words[0] if words else 'help')
+        return '\n'.join(command(session, words)) if command else HELP_OF_CYCLE * has_moments + HELP
     except ViewError as error:
         return str(error)
