@@ -11,6 +11,7 @@ from again import SPACING
 from alewife import LINE_BYTES, SHARED, checkpoint_of, digest_of, image_of, no_debugger, run_of
 from gdb_session import PC
 from gdb_wire import INTERRUPT, Wire
+from page_trials import keep_timed, timed_entries
 from trials import LeftOut, expect
 
 HERE = Path(__file__).resolve().parent
@@ -381,6 +382,107 @@ def answers_come_before_the_log(trial):
     client.close()
 
 
+# ---- cycles
+
+
+class Moments:
+    """A kept run with its moments: its events in the order of places, and how the lines have to begin that say the cycles of each."""
+
+    def __init__(self, trial, name):
+        self.events, _, self.contexts = log_of(trial, name)
+        entries = timed_entries(*((trial.folder / f'{name}.{kind}').read_bytes() for kind in ('trace', 'moments')))
+        self.starts = [(start, at) for at, (_, _, start, _) in enumerate(entries)]
+        self.order = sorted(range(len(entries)), key=lambda at: entries[at][0])
+        self.lines = [f'cycles {entries[at][2]} to {entries[at][3]}: {self.deed(event)}' for at, event in zip(self.order, self.events)]
+
+    def deed(self, event):
+        """What an event has to be called."""
+        said = event.said
+        if event.letter == 'I':
+            missed = f' and misses line {said["misses"]}' if said['misses'] else ''
+            return f'context {event.number("node") * self.contexts + event.number("slot")} runs {said["statement"]}{missed}'
+        taken = 'node {node} evicts line {line}' if event.letter == 'E' else 'node {node} takes {kind} of line {line} from node {sender}'
+        return 'the trap handler of ' * (event.letter == 'H') + taken.format(**said)
+
+    def around(self, place):
+        """The lines of the events around a place."""
+        behind = [f'behind {self.lines[place - 1]}'] if place else []
+        return behind + ([f'before {self.lines[place]}'] if place < len(self.lines) else [])
+
+    def place_from(self, cycle):
+        """The place of the first event that starts at a cycle or later, or None."""
+        later = [start for start in self.starts if start[0] >= cycle]
+        return self.order.index(min(later)[1]) if later else None
+
+
+def steps_have_cycles(client, moments, name):
+    """Steps through the turns of the first contexts both ways: each stop says the cycles of the turn, and the ends those of the event there."""
+    turns, _ = turns_of(moments.events, moments.contexts)
+    client.monitor('prints off')
+    for context, places in sorted(turns.items())[:2]:
+        client.monitor('stamp 0')
+        for going, lines in ((f'vCont;s:{context + 1:x}', [f'behind {moments.lines[place]}' for place in places] + moments.around(len(moments.lines))),
+                             ('bs', [f'before {moments.lines[place]}' for place in reversed(places)] + moments.around(0))):
+            client.ask(f'Hc{context + 1:x}')
+            for line in lines:
+                client.stop(going)
+                expect(client.said[-1] == line, f'{name}: {going} says {client.said[-1]}, and not {line}')
+    client.monitor('prints on')
+
+
+def cycles_are_told(trial):
+    """With moments steps both ways say the cycles of the file, of a run by a seed and of a timed one, and one can go to each stamp and cycle"""
+    keep_timed(trial)
+    letters = set()
+    for name in ('seeded', 'timed'):
+        moments, client = Moments(trial, name), Client(trial, name, '--moments', f'{name}.moments')
+        letters.update(event.letter for event in moments.events)
+        steps_have_cycles(client, moments, name)
+        for stamp in sorted({0, *(event.stamp for event in moments.events)})[::5]:
+            place = sum(event.stamp <= stamp for event in moments.events)
+            expect(client.monitor(f'stamp {stamp}').split('\n')[1:] == moments.around(place), f'{name}: {client.monitor("stamp")}')
+        for cycle in sorted({start + more for start, _ in moments.starts for more in (0, 1)}):
+            place, said = moments.place_from(cycle), client.monitor(f'cycle {cycle}')
+            if place is None:
+                expect(said == f'no event starts at cycle {cycle} or later: the last start is at {cycle - 1}', f'{name}: {said}')
+                continue
+            head, *around = said.split('\n')
+            expect(head.endswith(f'with {place} of {len(moments.lines)} events') and around == moments.around(place), f'{name}: cycle {cycle}: {said}')
+            expect(client.monitor('cycle') == client.monitor('stamp') == said, f'{name}: {client.monitor("cycle")}')
+        expect(place is None, f'{name}: the last cycle')
+        expect(client.monitor('cycle x') == 'x is neither a number nor a name that is known', 'cycle x')
+        client.close()
+    expect(letters == set('IDHE'), f'events {letters}')
+
+
+def without_cycles(lines):
+    """Lines but for those that say cycles."""
+    return [line for line in lines if not re.match(r'(behind|before) cycles \d+ to \d+: ', line)]
+
+
+def sessions_differ_by_cycles(trial):
+    """A session with moments says the same as one without but for the lines of cycles, of which that has none, and another run's moments are refused"""
+    keep_timed(trial)
+    plain, timed = Client(trial, 'timed'), Client(trial, 'timed', '--moments', 'timed.moments')
+    for packet in ('vCont;c', 'vCont;c', 'vCont;s:3', 'vCont;c', 'bc', 'bs', 'Z0,8,4', 'vCont;c', 'bc', 'z0,8,4', 'bc', 'qfThreadInfo', 'qThreadExtraInfo,2'):
+        expect(plain.ask(packet) == timed.ask(packet), packet)
+    expect(plain.said and plain.said == without_cycles(timed.said) != timed.said, f'{plain.said}, with moments {timed.said}')
+    for command in ('stamp', 'stamp 40', 'line 0', 'messages', 'why', 'why 0', 'prints'):
+        said = timed.monitor(command).split('\n')
+        expect(plain.monitor(command).split('\n') == without_cycles(said) and (said != without_cycles(said)) == command.startswith('stamp'), f'{command}: {said}')
+    expect(plain.monitor('cycle 3') == plain.monitor('help') and 'cycle' not in plain.monitor('help'), plain.monitor('cycle 3'))
+    expect(timed.monitor('help') != plain.monitor('help') and timed.monitor('help').endswith(plain.monitor('help')), timed.monitor('help'))
+    plain.close()
+    timed.close()
+    for words in ((), *[('--gdb', '-batch')] * (not no_debugger())):
+        for trace, moments, line in (('timed', 'seeded.moments', 'the moments are those of another run'),
+                                     ('spill', 'timed.moments', 'the moments are those of another run'),
+                                     ('timed', 'gone.moments', "can't read gone.moments: No such file or directory")):
+            called = [HERE / 'alewife-gdb', f'{trace}.trace', '--moments', moments, '--program', trial.binary, *words]
+            ran = subprocess.run(called, cwd=trial.folder, input='', capture_output=True, text=True)
+            expect((ran.returncode, ran.stdout, ran.stderr) == (1, '', f'alewife-gdb: {line}\n'), f'{trace} with {moments}: {ran.returncode}, {ran.stdout}{ran.stderr}')
+
+
 def check_tools():
     """Leaves out what wants GDB and the cross-compiler where these aren't those of the transcripts."""
     if no_debugger():
@@ -407,4 +509,4 @@ def transcripts_come_again(trial):
 
 
 TRIALS = (states_are_shown, checkpoints_lead_on, steps_are_turns, stops_are_events, breakpoints_lose_nothing, traps_on_data_have_addresses, lines_begin_as_the_image_says,
-          answers_come_before_the_log, runs_are_only_read, transcripts_come_again)
+          answers_come_before_the_log, runs_are_only_read, cycles_are_told, sessions_differ_by_cycles, transcripts_come_again)

@@ -29,6 +29,7 @@ REGISTERS = ('l0', 'l1', 'i0', 'i1', 'o0', 'g2', 'l5', 'g0')
 ARITHMETIC = 'addcc subcc addxcc subxcc andcc orcc xorcc andncc orncc xnorcc addx subx umul smul sub xnor'.split()
 BRANCHES = ('be', 'bl', 'bleu,a', 'bcs', 'bneg,a', 'bvs', 'ba', 'ba,a', 'bn', 'bn,a', 'bg', 'bgu,a', 'bvc')
 COUNTS = {'two_writers': 18, 'spill': 22, 'lock': 81}
+TIMED = {'seeded': ('--pointers', '2', '--sets', '4', '--evict', '20'), 'timed': ('--cycles', '1', '--pointers', '1', '--sets', '4')}
 VISIT = '''<script>
 for (let at = 0; at <= LAST; at += 1) {
   go(at);
@@ -98,6 +99,16 @@ for (let at = 0; at <= LAST; at += STEP_BY) {
 keep('least', Math.min(...least)); keep('small', small.every(Boolean)); keep('over', Math.max(...over)); keep('nodes', NODES);
 keep('wide', document.documentElement.scrollWidth - innerWidth);
 keep('band', document.querySelector('#map svg').getBoundingClientRect().top - part('events').getBoundingClientRect().bottom + BOX.margin);
+</script>
+'''
+SEE_CYCLES = '''<script>
+const told = [];
+const text = (each) => each.textContent;
+for (let at = 0; at <= LAST; at += 1) {
+  go(at);
+  told.push([text(part('now')), [...part('events').children].map(text), document.documentElement.scrollWidth <= innerWidth]);
+}
+document.body.dataset.told = JSON.stringify(told);
 </script>
 '''
 
@@ -268,6 +279,95 @@ def prints_are_listed(trial):
     expect(all(any(f' prints x{int(word, 16):x}' in event for event in at[stamp]) for stamp, _, word in data['prints']), 'a stamp of a print')
 
 
+# ---- cycles
+
+
+def timed_entries(trace, moments):
+    """Each entry of a trace in its order: its stamp, the node of its event, and the cycles in which its moments have it start and finish."""
+    entries, rows = ([row.split() for row in text.decode().partition('\nentries ')[2].split('\n')[1:-2]] for text in (trace, moments))
+    expect([words[1:] for words in entries] == [words[2:] for words in rows] != [], 'the program writes moments of other events')
+    return [(int(stamp), other[0] if letter == 'D' else node, int(start), int(finish))
+            for (stamp, letter, node, *other), (start, finish, *_) in zip(entries, rows)]
+
+
+def keep_timed(trial):
+    """Keeps a run by a seed and a timed one, each with its moments: the entries of both by name."""
+    image, found = trial.program(['gen', '--seed', '5', '--width', '3', '--height', '2', '--size', '20'], b''), {}
+    for name, words in TIMED.items():
+        trace = trial.program(['run', *words, '--write', 'trace'], image)
+        by = (['run', *words], image) if '--cycles' in words else (['time'], trace)
+        moments = trial.program([*by[0], '--write', 'moments'], by[1])
+        trial.keep(f'{name}.trace', trace)
+        trial.keep(f'{name}.moments', moments)
+        found[name] = timed_entries(trace, moments)
+    return found
+
+
+def timed_page(trial, name, *words):
+    """The page of a run with its moments."""
+    status, page, line = trial.view(f'{name}.trace', '--moments', f'{name}.moments', *words)
+    expect(status == 0, f'{name}: {line}')
+    return page
+
+
+def events_have_cycles(trial):
+    """With moments each event of a page has the cycles of the file, of a run by a seed and of a timed one, and without them there is nothing of cycles in the page"""
+    for name, entries in keep_timed(trial).items():
+        page, plain = timed_page(trial, name), trial.page(name)
+        frames_of = data_in(page)['frames']
+        found = {(stamp, event.split()[2 if event[0] == 'D' else 1]): event.split('|')[2] for stamp, events, _ in frames_of for event in events}
+        wanted = {(stamp, node): f'{start} {finish}' for stamp, node, start, finish in entries}
+        wrong = [key for key in {*found, *wanted} if found.get(key) != wanted.get(key)]
+        expect(len(wanted) == len(entries) and not wrong, f'{name}: {len(wrong)} events, as {wrong[:3]}')
+        expect(data_in(page)['cycles'] == str(max(finish for *_, finish in entries)), f'{name}: {data_in(page)["cycles"]} cycles in all')
+        part = data_in(timed_page(trial, name, '--from', '20', '--to', '29'))['frames']
+        expect([frame[:2] for frame in part] == [frame[:2] for frame in frames_of if 20 <= frame[0] <= 29], f'{name}: a part of the run')
+        rest = page.replace((HERE / 'moments.js').read_text() + '\n', '', 1).replace(f'"cycles":"{data_in(page)["cycles"]}",\n', '', 1)
+        expect(page != plain == re.sub(r'\|?\|\d+ \d+(?=")', '', rest), f'{name}: the page without moments is another one')
+        expect('cycles' not in plain.lower(), f'{name}: cycles in the page without moments')
+
+
+def moments_are_refused(trial):
+    """Moments of another run, moments that are cut, what is none, and moments of a picture are refused, and leave no page"""
+    keep_timed(trial)
+    head, middle, rows = (trial.folder / 'timed.moments').read_bytes().partition(b'\nentries 1028\n')
+    expect(middle, 'the timed run has not 1028 entries')
+    first, _, rest = rows.partition(b'\n')
+    expect(re.fullmatch(rb'0 1 I \d', first), f'the first moment is {first}')
+    trial.keep('node.moments', head + middle + first[:-1] + b'%d\n' % ((int(first[-1:]) + 1) % 6) + rest)
+    trial.keep('fewer.moments', head + b'\nentries 1027\n' + first + b'\n' + rest[:rest[:-5].rfind(b'\n')] + b'\nend\n')
+    trial.keep('more.moments', head + b'\nentries 1029\n' + rows[:-4] + b'9000 9001 I 0\nend\n')
+    trial.keep('cut.moments', head + middle + rest)
+    trial.keep('torn.moments', head + middle + first + b' 1\n' + rest)
+    for trace, moments in (('timed', 'seeded'), ('two_writers', 'timed'), ('spill', 'timed'), ('timed', 'node'), ('timed', 'fewer'), ('timed', 'more')):
+        trial.refused('the moments are those of another run', f'{trace}.trace', '--moments', f'{moments}.moments')
+    for moments in ('cut', 'torn'):
+        trial.refused('the moments are cut, or one has no form', 'timed.trace', '--moments', f'{moments}.moments')
+    status, page, line = trial.view('timed.trace', '--moments', 'timed.trace')
+    expect((status, page) == (1, '') and line.startswith('alewife-view: these are no moments: '), line)
+    trial.refused("can't read none.moments: No such file or directory", 'timed.trace', '--moments', 'none.moments')
+    status, page, line = trial.view('timed.trace', '--moments', 'timed.moments', '--svg', '31')
+    expect((status, page, line) == (2, '', 'alewife-view: error: --moments are for a page: a picture by --svg has no cycles'), line)
+
+
+def browsers_show_cycles(trial):
+    """In a browser the cycles of each event stand before it, and behind the stamp those that its events cover, in windows of 390 and 1280 pixels"""
+    browser, most = browser_here(), 40
+    entries = keep_timed(trial)['timed']
+    page = timed_page(trial, 'timed', '--to', str(most))
+    count, whole = len(data_in(page)['frames']), data_in(page)['last']
+    for width in (390, 1280):
+        shown, console = browse(browser, trial.folder, page.replace('</body>', SEE_CYCLES + '</body>'), width)
+        told = marks_in(shown).get('told', [])
+        expect(not console and len(told) == count and all(fits for *_, fits in told), f'{width}: {console[:1]}, {len(told)} frames, {[fits for *_, fits in told]}')
+        for number, ((stamp, *_), (now, events, _)) in enumerate(zip(data_in(page)['frames'], told), 1):
+            here = {node: (start, finish) for at, node, start, finish in entries if at == stamp}
+            found = {match[3]: (int(match[1]), int(match[2])) for match in (re.match(r'(\d+) to (\d+), node (\d+): ', event) for event in events) if match}
+            cover = f', cycles {min(here.values())[0]} to {max(finish for _, finish in here.values())} of {max(finish for *_, finish in entries)}' if here else ''
+            expect(found == here and len(events) == max(1, len(here)), f'{width}: stamp {stamp}: {events}')
+            expect(now == f'Stamp {stamp} of {whole} (frame {number} of {count}){cover}', f'{width}: {now}')
+
+
 def line_of(drawn):
     """The line that a picture follows."""
     return int(re.search('<desc>.* line ([0-9]+)</desc>', drawn)[1])
@@ -397,4 +497,4 @@ def browsers_show_it(trial):
 
 TRIALS = (frames_are_states, drawn_runs_have_their_states, pages_stand_alone, parts_are_chosen, traces_come_by_a_pipe, refusals_are_named,
           logs_are_compared, long_pages_end, sources_are_shown, events_are_told, prints_are_listed, colours_are_readable, pictures_show_frames, shown_picture_is_drawn,
-          browsers_show_it, pages_are_readable)
+          browsers_show_it, pages_are_readable, events_have_cycles, moments_are_refused, browsers_show_cycles)
