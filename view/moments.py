@@ -39,7 +39,7 @@ def event_said(event):
     """An event of a log as a trace has it, without its stamp."""
     said = event.said
     node = said['node']
-    return f'{event.letter} ' + {'I': node, 'H': node, 'D': f'{said["sender"]} {node}', 'E': f'{node} {said.get("set")}'}[event.letter]
+    return f'{event.letter} ' + {'I': node, 'H': node, 'D': f'{said.get("sender")} {node}', 'E': f'{node} {said.get("set")}'}[event.letter]
 
 
 def moment_at(moments, place, event):
