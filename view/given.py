@@ -8,12 +8,10 @@ import explain
 import progress
 from alewife import RAN, image_of, no_program, run_of
 from frames import OF_CLAIM, Program, ViewError
-from moments import moment_at
 from places import words_of
 
 TRACE, CLAIM = 'ALEWIFE TRACE 1', 'ALEWIFE CLAIM 1'
 PIPES = {'stdin': subprocess.PIPE, 'stderr': subprocess.PIPE}
-OTHER_RUN = 'the moments are those of another run'
 
 
 @dataclass(frozen=True)
@@ -87,13 +85,3 @@ def log_of(path, binary, places):
     if first == CLAIM:
         raise ViewError(explain.of_kind('claim', explain.wanted('trace')) + OF_CLAIM)
     return Given(line for part in ([first], lines) for line in part)
-
-
-def timed(events, moments, is_whole):
-    """Each event with its moment, one by one. Moments of another run are refused: of one that has an end there are as many as events."""
-    moments = iter(moments)
-    for event in events:
-        moment = next(moments, None)
-        yield event, moment_at([moment] if moment else [], 0, event)
-    if is_whole and next(moments, None):
-        raise ViewError(OTHER_RUN)

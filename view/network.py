@@ -1,52 +1,14 @@
 """When messages of a timed run hold the port of their node, and when they arrive: by its costs, from its events and their moments in the order of the journal.
 
-docs/DEFINITIONS.md says what a port is (`sent_one`, `length_of` of Times, of alw_times). Moments come one by one, from the lines of their text.
+docs/DEFINITIONS.md says what a port is (`sent_one`, `length_of` of Times, of alw_times).
 """
-import itertools
 from collections import defaultdict, deque
 from dataclasses import dataclass
 
 from frames import ViewError
-from moments import HEAD, MOMENT, Moment, moments_in
 from saved import FROM_CACHE, TO_CACHE
 
-TEXT_HEAD_LINES = 5
 WITH_LINE = TO_CACHE | FROM_CACHE
-
-
-# ---- moments, one by one
-
-
-@dataclass(frozen=True)
-class Costs:
-    """What moments begin with: sizes and parameters of the run, in the order in which a log has them, the costs by name, and how many entries there are."""
-    sizes: tuple
-    costs: dict
-    entries: int
-
-
-def costs_of(lines):
-    """What the first lines of moments say. The lines behind them are left."""
-    text = ''.join(f'{line}\n' for line in itertools.islice(lines, TEXT_HEAD_LINES))
-    head = HEAD.match(text)
-    if not head:
-        moments_in(text)
-    words = head[8].split()
-    return Costs(tuple(map(int, head.groups()[:7])), dict(zip(words[::2], map(int, words[1::2]))), int(head[9]))
-
-
-def moments_along(costs, lines):
-    """The moments behind the first lines, one by one."""
-    for _ in range(costs.entries):
-        row = MOMENT.fullmatch(next(lines, ''))
-        if not row:
-            raise ViewError('the moments are cut, or one has no form')
-        yield Moment(int(row[1]), int(row[2]), row[3])
-    if next(lines, '') != 'end' or next(lines, None) is not None:
-        raise ViewError('the moments are cut, or one has no form')
-
-
-# ---- messages
 
 
 @dataclass(frozen=True)
