@@ -74,11 +74,12 @@ def kept_runs(trial):
     return trial.timed
 
 
-def said(trial, tool, *words, ends_with=0):
-    """What a tool writes, or its last line on standard error where it has to end with 1 or more."""
+def said(trial, tool, *words, ends_with=0, is_late=False):
+    """What a tool writes, or its last line on standard error where it has to end with 1 or more: it writes nothing then, but where that comes late."""
     ran = subprocess.run([HERE / f'alewife-{tool}', '--program', trial.binary, *words], cwd=trial.folder, capture_output=True, text=True)
     line = ran.stderr.strip().split('\n')[-1]
     expect(ran.returncode == ends_with, f'{tool} {" ".join(words)}: status {ran.returncode}, {line}')
+    expect(not ends_with or is_late or not ran.stdout, f'{tool} {" ".join(words)}: is refused behind {len(ran.stdout)} characters')
     return line if ends_with else ran.stdout
 
 
@@ -319,16 +320,19 @@ def other_moments_are_refused(trial):
     text = (trial.folder / 'timed.moments').read_text()
     trial.keep('none', b'hello\n')
     trial.keep('fewer.moments', re.sub(r'entries (\d+)', 'entries 9', '\n'.join([*text.split('\n')[:14], 'end', ''])).encode())
+    more = text.replace('\nend\n', '\n9999 9999 I 0\nend\n')
+    trial.keep('more.moments', re.sub(r'entries (\d+)', lambda count: f'entries {int(count[1]) + 1}', more).encode())
     trial.keep('cut.moments', '\n'.join(text.split('\n')[:30]).encode())
     trial.keep('changed.moments', re.sub(r'(\d+) I 1\n', r'\1 I 2\n', text).encode())
     trial.keep('costs.moments', text.replace(' send 6 ', ' send 600 ').encode())
     kind, cut, other = 'these are no moments: .*', 'the moments are cut, or one has no form', 'the moments are those of another run'
     calls = (('timed.log', 'none', kind), ('timed.log', 'timed.trace', kind), ('timed.log', 'cut.moments', cut), ('timed.log', 'walks.moments', other),
-             ('walks.trace', 'seed.moments', other), ('timed.log', 'fewer.moments', other), ('timed.log', 'changed.moments', other),
+             ('walks.trace', 'seed.moments', other), ('timed.log', 'fewer.moments', other), ('timed.log', 'more.moments', other),
+             ('timed.log', 'changed.moments', other),
              ('timed.log', 'gone.moments', "can't read gone.moments: No such file or directory"), ('none', 'timed.moments', 'this is no log: .*'))
     for tool in ('log', 'timeline', 'top'):
         for log, moments, line in calls:
-            told = said(trial, tool, log, '--moments', moments, ends_with=1)
+            told = said(trial, tool, log, '--moments', moments, ends_with=1, is_late=moments in ('changed.moments', 'cut.moments'))
             expect(re.fullmatch(f'alewife-{tool}: {line}', told), f'{tool} {log} --moments {moments}: {told}')
     for tool, words, status, line in (
             ('timeline', ('timed.log', '--moments', 'costs.moments'), 1, "the moments aren't those of their costs: at stamp .*"),
@@ -336,7 +340,7 @@ def other_moments_are_refused(trial):
             ('log', ('timed.log', '--moments', 'timed.moments', '--counts'), 2, 'error: argument --counts: not allowed with argument --moments'),
             ('top', ('timed.log', '--moments', 'timed.moments', '--by', 'misses'), 2, 'error: argument --by: of cycles it is one of cycles, waited'),
             ('top', ('timed.log', '--by', 'waited'), 2, 'error: argument --by: of a profile it is one of misses, .*')):
-        told = said(trial, tool, *words, ends_with=status)
+        told = said(trial, tool, *words, ends_with=status, is_late='costs.moments' in words)
         expect(re.fullmatch(f'alewife-{tool}: {line}', told), f'{tool} {" ".join(words)}: {told}')
 
 
