@@ -33,10 +33,11 @@ WORD, LINE_BYTES, SHARED = 4, 16, 0x40000000
 MOST_SIDE, MOST_CONTEXTS, MOST_LINES, MOST_WORDS, MOST_TURNS = 16, 4, 4096, 65536, 8388608
 
 
-def options_of(command):
-    """The options of a command by their names, from the program's own table: the last number of each, and its default."""
+def options_of(command, behind=''):
+    """The options of a command by their names, from the program's own table: the last number of each, and its default. They are those that stand open,
+    and where an option is named what stands behind it, beside them or in their place."""
     table = json.loads((ROOT / 'tools' / 'words.json').read_text())
-    return {option['name'].removeprefix('--'): option for option in table['commands'][command]['options']}
+    return {option['name'].removeprefix('--'): option for option in table['commands'][command]['options'] if option['behind'] in ('', behind)}
 
 
 def limit_of(nodes):
