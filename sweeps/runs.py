@@ -13,14 +13,34 @@ from dataclasses import dataclass
 from pathlib import Path
 
 import progress
-from alewife import RAN, SUMMARY_NAMES, ProgramError, called, digest_of, summary_of
+import times
+from alewife import HEAD, MAGIC, RAN, SUMMARY_NAMES, ProgramError, called, digest_of, options_of, summary_of
 
 MOST, MOST_TOLD = 1_000_000, 10
-OPTIONS = ('seed', 'workers', 'pointers', 'sets', 'limit', 'evict')
-KEY = ('image', *OPTIONS)
+MOST_POINTERS, ALL = options_of('run')['pointers']['last'], options_of('run')['pointers']['word']
 OF_IMAGE = ('name', 'image', 'width', 'height', 'contexts', 'lines')
 COUNTS = SUMMARY_NAMES[SUMMARY_NAMES.index('ended'):]
-COLUMNS = (*OF_IMAGE, *OPTIONS, *COUNTS, 'program')
+
+
+@dataclass(frozen=True)
+class Way:
+    """A way to run: the options that tell its runs apart, and what a row has of a run besides."""
+    options: tuple
+    counts: tuple
+
+    @property
+    def key(self):
+        """The columns that tell a run from all others."""
+        return ('image', *self.options)
+
+    @property
+    def columns(self):
+        """The columns of a row."""
+        return (*OF_IMAGE, *self.options, *self.counts, 'program')
+
+
+SEEDED = Way(('seed', 'workers', 'pointers', 'sets', 'limit', 'evict'), COUNTS)
+TIMED = Way(('seed', 'pointers', 'sets', 'limit', *times.COSTS), (*COUNTS, *times.NAMES))
 
 
 class SweepError(Exception):
@@ -50,12 +70,32 @@ def numbers(text):
     return found
 
 
+def pointers(text):
+    """The numbers of a list of pointers, and behind them the word for a full map where it has that."""
+    parts = text.split(',')
+    if parts.count(ALL) > 1:
+        raise SweepError(f'{text} has {ALL} twice')
+    named = [part for part in parts if part != ALL]
+    return (numbers(','.join(named)) if named else []) + [ALL] * (ALL in parts)
+
+
+def way_of(names):
+    """The way to run that has these options, and maybe other columns; None where there is none."""
+    return next((way for way in (SEEDED, TIMED) if set(way.options) <= set(names)), None)
+
+
 @dataclass(frozen=True)
 class Image:
     """An image, the first 16 digits of its SHA-256, by which rows name it, and the name of what it runs."""
     data: bytes
     digest: str
     name: str
+
+    @property
+    def nodes(self):
+        """How many nodes it has, 0 where it is none."""
+        _, _, width, height, *_ = HEAD.unpack_from(self.data) if self.data.startswith(MAGIC) and len(self.data) >= HEAD.size else [0] * 4
+        return width * height
 
 
 def read_image(path, name=None):
@@ -77,7 +117,7 @@ def runs_of(lists, part, parts):
     count = math.prod(len(each) for each in lists.values())
     if count > MOST:
         raise SweepError(f'{count} runs, and a sweep has at most {MOST}')
-    order = [name for name in OPTIONS if name != 'seed'] + ['seed']
+    order = [name for name in lists if name != 'seed'] + ['seed']
     for chosen in itertools.islice(itertools.product(*(lists[name] for name in order)), part - 1, None, parts):
         yield {name: str(value) for name, value in zip(order, chosen)}
 
@@ -117,23 +157,46 @@ def summary_by_workers(binary, words, image):
     return asked(binary, ['replay', '--write', 'summary'], trace)
 
 
-def words_of(options):
-    """The words of a run. The seed of a run by workers is the number of a try."""
-    without = 'workers' if options['workers'] == '0' else 'seed'
-    return ['run', *(word for name in OPTIONS if name != without for word in (f'--{name}', options[name]))]
+def words_of(options, nodes):
+    """The words of a run on so many nodes. The seed of a run by workers is the number of a try, and that of a timed run is of its waits."""
+    way = way_of(options)
+    said = {name: options[name] for name in way.options}
+    if way is SEEDED:
+        said.pop('workers' if said['workers'] == '0' else 'seed')
+    if said['pointers'] == str(nodes) and not 1 <= nodes <= MOST_POINTERS:
+        said['pointers'] = ALL
+    names = {'seed': times.TURNING} if way is TIMED else {}
+    return ['run', *(word for name, value in said.items() for word in (names.get(name, f'--{name}'), value))]
+
+
+def read_as(read, text, words, called):
+    """What a text of a run says, as names and numbers."""
+    told = read(text.decode(errors='replace'))
+    if not told:
+        raise RunError(f'{" ".join(words)}: what the program wrote is no {called}')
+    return told
+
+
+def joined(words, *told):
+    """What several texts say of one run. Refuses two that differ."""
+    made = {}
+    for name, value in (each for one in told for each in one.items()):
+        if made.setdefault(name, value) != value:
+            raise RunError(f'{" ".join(words)}: {name} is {made[name]} and {value}')
+    return made
 
 
 def row_of(program, image, options):
-    """Runs an image: its row, by the program's summary."""
-    words = words_of(options)
-    if options['workers'] == '0':
+    """Runs an image: its row, by the program's summary. A timed run is made twice, since no text has both its summary and its cycles."""
+    words = words_of(options, image.nodes)
+    if options.get('workers', '0') == '0':
         text = asked(program.path, [*words, '--write', 'summary'], image.data)
     else:
         text = summary_by_workers(program.path, words, image)
-    summary = summary_of(text.decode(errors='replace'))
-    if not summary:
-        raise RunError(f'{" ".join(words)}: what the program wrote is no summary')
-    return {'name': image.name, 'image': image.digest, **options, **summary, 'program': program.digest}
+    told = [options, read_as(summary_of, text, words, 'summary')]
+    if way_of(options) is TIMED:
+        told.append(read_as(times.times_of, asked(program.path, [*words, '--write', 'cycles'], image.data), words, 'account of cycles'))
+    return {'name': image.name, 'image': image.digest, **joined(words, *told), 'program': program.digest}
 
 
 def row_or_fault(program, image, options):
@@ -163,7 +226,7 @@ def rows_of(program, image, chosen, jobs):
 
 def key_of(row):
     """What tells a run from all others."""
-    return tuple(row[name] for name in KEY)
+    return tuple(row[name] for name in way_of(row).key)
 
 
 def line_of(values):
@@ -177,21 +240,22 @@ def read_rows(path, text):
     """The columns of a table of rows, and its rows, each with its line's number."""
     lines, whole = csv.reader(io.StringIO(text, newline='')), text.count('\n')
     columns = next(lines, [])
-    if not set(KEY) <= set(columns):
+    way = way_of(columns)
+    if not way or 'image' not in columns:
         raise SweepError(f'{path}: the first line is no header of a sweep')
     rows = []
     for values in lines:
         row = dict(zip(columns, values))
-        if lines.line_num > whole or len(values) != len(columns) or not all(row[name].isdecimal() for name in OPTIONS):
+        if lines.line_num > whole or len(values) != len(columns) or not all(row[name].isdecimal() for name in way.options):
             raise SweepError(f'{path}: line {lines.line_num} is no whole row')
         rows.append((lines.line_num, row))
     return columns, rows
 
 
-def keys_in(path, text, image, wanted):
+def keys_in(path, text, image, way, wanted):
     """The keys of the rows that a file of this sweep has. Refuses a file of another one."""
     columns, rows = read_rows(path, text)
-    if tuple(columns) != COLUMNS:
+    if tuple(columns) != way.columns:
         raise SweepError(f'{path} has other columns')
     for number, row in rows:
         if row['image'] != image.digest or key_of(row) not in wanted:
@@ -202,9 +266,9 @@ def keys_in(path, text, image, wanted):
 class Sheet:
     """The rows of a sweep as they come, in PATH.partial, which gets the name PATH when all are there."""
 
-    def __init__(self, path):
+    def __init__(self, path, columns):
         """Opens the file, for this sweep alone, and cuts off a row that isn't whole."""
-        self.path, self.partial = Path(path), Path(f'{path}.partial')
+        self.path, self.partial, self.columns = Path(path), Path(f'{path}.partial'), columns
         try:
             self.file = os.open(self.partial, os.O_RDWR | os.O_CREAT, 0o644)
             self.lock()
@@ -215,16 +279,16 @@ class Sheet:
             os.lseek(self.file, self.size, os.SEEK_SET)
         except OSError as fault:
             raise SweepError(f"can't write {self.partial}: {fault.strerror}") from fault
-        self.text = data[:self.size].decode(errors='replace') or line_of(COLUMNS)
+        self.text = data[:self.size].decode(errors='replace') or line_of(columns)
         if not self.size:
-            self.add(COLUMNS)
+            self.add(columns)
 
     def __enter__(self):
         return self
 
     def __exit__(self, *_):
         """Closes the file. One without rows isn't left behind."""
-        if self.size == len(line_of(COLUMNS)):
+        if self.size == len(line_of(self.columns)):
             self.partial.unlink(missing_ok=True)
         os.close(self.file)
 
@@ -271,22 +335,22 @@ def refuse_faults(faults, count, partial):
         raise SweepError('\nsweep: '.join([*told, f'{len(faults)} of {count} runs failed, and {kept}: the same words try again']))
 
 
-def sweep(path, binary, image, runs, jobs=1):
+def sweep(path, binary, image, way, runs, jobs=1):
     """Runs what isn't in the file yet, so many at once: how many runs that were, and how many there are. A run that fails doesn't end the others."""
     refuse_device(path)
-    wanted = {(image.digest, *(run[name] for name in OPTIONS)): run for run in runs}
+    wanted = {(image.digest, *(run[name] for name in way.options)): run for run in runs}
     if Path(path).exists():
-        if len(keys_in(path, read(path).decode(errors='replace'), image, wanted)) < len(wanted):
+        if len(keys_in(path, read(path).decode(errors='replace'), image, way, wanted)) < len(wanted):
             raise SweepError(f'{path} is there with fewer runs: name another file, and gather both')
         return 0, len(wanted)
-    with Sheet(path) as sheet:
-        done, faults = keys_in(sheet.partial, sheet.text, image, wanted), []
+    with Sheet(path, way.columns) as sheet:
+        done, faults = keys_in(sheet.partial, sheet.text, image, way, wanted), []
         left = [options for key, options in wanted.items() if key not in done]
         for row in progress.counted(rows_of(read_program(binary), image, left, jobs), 'rows', len(left)):
             if isinstance(row, RunError):
                 faults.append(row)
             else:
-                sheet.add(row[name] for name in COLUMNS)
+                sheet.add(row[name] for name in way.columns)
         refuse_faults(faults, len(wanted), sheet.partial)
         sheet.finish()
     return len(wanted) - len(done), len(wanted)
@@ -325,6 +389,6 @@ def gather(parts):
             place, other = found.setdefault(key_of(row), (f'{path}: line {number}', row))
             if counts_of(other) != counts_of(row):
                 raise SweepError(f'{path}: line {number} and {place} differ on one run')
-    order = ('name', *(name for name in KEY if name != 'seed'), 'seed')
+    order = ('name', *(name for name in way_of(first).key if name != 'seed'), 'seed')
     rows = [row for _, row in found.values()]
     return first, sorted(rows, key=lambda row: [row[name].zfill(20) for name in order])

@@ -81,7 +81,7 @@ def grouped(rows, by, series=None):
             raise runs.SweepError(f'there is no column {name}')
     chosen = {by, series, 'seed', *(['limit'] if all(row['ended'] == 'halted' for row in rows) else [])}
     of_images = chosen & {*runs.OF_IMAGE, 'nodes'}
-    refuse_mixed(rows, [name for name in runs.KEY if name not in chosen and not (of_images and name == 'image')])
+    refuse_mixed(rows, [name for name in runs.way_of(rows[0]).key if name not in chosen and not (of_images and name == 'image')])
     groups = groups_of(rows, [series, by] if series else [by])
     for values, group in groups.items():
         refuse_mixed(group, ['image'], f' of {" ".join(values)}')

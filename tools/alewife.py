@@ -212,12 +212,19 @@ hops {hops} handlers {handlers} spills {spills}
 '''
 SUMMARY_NAMES = tuple(re.findall(r'\{(\w+)\}', SUMMARY))
 ENDED = r'[^,\n]+'
-SUMMARY_FORM = re.compile(re.sub(r'\{(\w+)\}', lambda name: f'(?P<{name[1]}>{ENDED if name[1] == "ended" else "[0-9]+"})', SUMMARY))
 
 # The lists of texts: the word before the count of each, and how its rows begin.
 LISTS = {'entries': '[0-9]+ [A-Z]', 'runs': '[0-9]+ [0-9]+$', 'prints': '[0-9]+ 0x', 'memory': '0x', 'state': '(?!end$)'}
 IMAGE_ROW = '[0-9a-f]+$'
 ENTRY = '([0-9]+) ([IDHE]) ([0-9]+)(?: ([0-9]+))?'
+
+
+def form_of(text):
+    """The form of a text whose numbers, and how it ended, are names in braces."""
+    return re.compile(re.sub(r'\{(\w+)\}', lambda name: f'(?P<{name[1]}>{ENDED if name[1] == "ended" else "[0-9]+"})', text))
+
+
+SUMMARY_FORM = form_of(SUMMARY)
 
 
 def cut_in_rows(digits):
