@@ -8,6 +8,7 @@ from pathlib import Path
 
 import runs
 import tables
+import times
 
 AXES = {
     'pointers': 'hardware pointers of a directory entry',
@@ -16,7 +17,9 @@ AXES = {
     'evict': 'evictions tried (of 256 draws)',
     'contexts': 'contexts a node',
     'lines': 'home lines a node',
+    **{name: f'{name} (cycles)' for name in times.COSTS},
 }
+LABELS = {name: f'{name} in cycles' if name == 'latency' else name for name in tables.COMPUTED}
 TERMINALS = {
     '.svg': "svg size {width},{height} noenhanced font 'sans-serif,{points:g}' background '#ffffff' linewidth {scale:g}",
     '.png': "pngcairo size {width},{height} noenhanced font 'sans-serif,{points:g}' fontscale 0.75 background '#ffffff' linewidth {scale:g}",
@@ -70,6 +73,7 @@ GREYS, POINTS = ('#000000', '#777777'), (7, 6, 5, 4, 9, 8, 11, 10)
 COLOURS = ('#0072b2', '#d55e00', '#009e73', '#e69f00', '#cc79a7', '#56b4e9', '#000000')
 FILLS = ('solid 1', 'solid 0.4', 'pattern 1', 'pattern 4', 'pattern 2', 'pattern 5')
 LEVELS = 30
+SIZES = ((1e-5, 1e-6, 'millionths'), (1e-2, 1e-3, 'thousandths'), (1e4, 1, ''), (math.inf, 1e3, 'thousands'))
 
 
 @dataclass(frozen=True)
@@ -179,10 +183,9 @@ def logarithmic(label, lowest, highest):
 
 
 def linear(label, highest):
-    """An axis of counts from 0, or of thousands where they are many."""
-    if highest >= 10000:
-        return Axis(f'{label} (thousands)', lambda count: count / 1000, 0, highest / 1000 * 1.08, 'auto')
-    return Axis(label, lambda count: count, 0, highest * 1.08, 'auto')
+    """An axis of counts from 0, of thousands where they are many, or of small parts where a share is small, so that marks are short."""
+    unit, said = next((unit, f' ({called})' if called else '') for below, unit, called in SIZES if highest < below)
+    return Axis(f'{label}{said}', lambda count: count / unit, 0, highest / unit * 1.08, 'auto')
 
 
 def is_wide(spreads):
@@ -192,11 +195,11 @@ def is_wide(spreads):
 
 
 def axis_of(label, spreads, is_log):
-    """The axis of a count, none where each count is 0."""
+    """The axis of a count, none where each count is 0. Where one is and the others are below 1, the count plus 1 would tell none from another."""
     highest, lowest = max(each.highest for each in spreads), min(each.lowest for each in spreads)
     if not highest:
         return Axis(label, lambda count: count, 0, 1, '')
-    return logarithmic(label, lowest, highest) if is_log else linear(label, highest)
+    return logarithmic(label, lowest, highest) if is_log and (lowest or highest >= 1) else linear(label, highest)
 
 
 # ---- panels
@@ -314,7 +317,7 @@ def picture(groups, by, columns, look=Look(), ending='.svg', per=None):
     counts = {column: dict(zip(groups, tables.spreads(groups, column, per))) for column in columns}
     is_log = look.scale == 'log' or look.scale is None and any(is_wide(list(each.values())) for each in counts.values())
     way, sheet = way_of(values, is_log), sheet_of(ending, look, len(columns), len(names))
-    labels = {column: per.head(column) if per else f'{column} a run' for column in columns}
+    labels = {column: per.head(column) if per else LABELS.get(column, f'{column} a run') for column in columns}
     axes = {column: axis_of(labels[column], list(each.values()), is_log) for column, each in counts.items()}
     panels = [panel(axes[column], values, each, (look.colour, sheet.symbol), way) for column, each in counts.items()]
     above = (sheet.title(look.title) if look.title else '') + ''.join(sheet.legend(names, look.colour, way))

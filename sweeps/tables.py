@@ -4,6 +4,7 @@ import statistics
 from dataclasses import dataclass
 
 import runs
+import times
 
 
 @dataclass(frozen=True)
@@ -113,9 +114,24 @@ def count_of(row, column):
         raise runs.SweepError(f'{column} is no column of counts') from fault
 
 
+# The columns that are computed of a timed run: a count of it, and what that is told for.
+COMPUTED = {
+    'latency': ('access_cycles', Per('accesses')),
+    **{f'{name}_share': (f'{name}_cycles', Per('nodes*cycles')) for name in times.SPENT.values()},
+}
+
+
+def value_of(row, column, per=None):
+    """A count of a row, or what is computed of it, and that over what it is told for."""
+    if column in COMPUTED and not set(times.NAMES) <= set(row):
+        raise runs.SweepError(f'{column} is of runs by {times.TURNING} alone')
+    count, own = COMPUTED.get(column, (column, None))
+    return count_of(row, count) / math.prod(each.of(row) for each in (own, per) if each)
+
+
 def spreads(groups, column, per=None):
-    """The spread of a count for each value, or of the count over what it is told for."""
-    return [spread_of([count_of(row, column) / per.of(row) if per else count_of(row, column) for row in group]) for group in groups.values()]
+    """The spread of a column for each value."""
+    return [spread_of([value_of(row, column, per) for row in group]) for group in groups.values()]
 
 
 def told(number):
