@@ -13,8 +13,8 @@ What is tested:
 - what tools/words.py writes of the command words is current: README.md's table, the launcher's help, the manual's options, the completions. README.md
   says each form, and README.md and the manual say the times that the launcher says.
 - each edit still fits: its old text stands once in its file.
-- each block of README.md, docs/EXAMPLES.md, docs/DEBUGGING.md, docs/LANGUAGE.md and docs/FORMATS.md that shows commands, C or assembly is a file of examples/, of
-  which the checks there run each, and each file *.shell of examples/ stands in one of the pages.
+- each block of README.md, docs/TUTORIAL.md, docs/EXAMPLES.md, docs/DEBUGGING.md, docs/LANGUAGE.md and docs/FORMATS.md that shows commands, C or assembly is a file of
+  examples/, of which the checks there run each, and each file *.shell of examples/ stands in one of the pages.
 - docs/LANGUAGE.md has each mnemonic and directive in its tables, and no other. Each example of a statement is a line of a case of the group sources
   that is assembled, as is a statement of each name; and each source with a fault is a case with that fault, of which each has one.
 - docs/FORMATS.md: its rules have the words that the definitions of texts spell, and no other, and each a name of its own. What each case writes is of its rule, and what is refused
@@ -543,7 +543,8 @@ def check_all_refuse(findings, file, named, repository):
             findings.say(file, 0, f'has no row of {", ".join(sorted(missing))} of {name}')
 
 
-WITH_EXAMPLES = ROOT / 'README.md', ROOT / 'docs' / 'EXAMPLES.md', ROOT / 'docs' / 'DEBUGGING.md', LANGUAGE, FORMATS
+TUTORIAL = ROOT / 'docs' / 'TUTORIAL.md'
+WITH_EXAMPLES = ROOT / 'README.md', TUTORIAL, ROOT / 'docs' / 'EXAMPLES.md', ROOT / 'docs' / 'DEBUGGING.md', LANGUAGE, FORMATS
 KINDS = {'c': 'c', 'asm': 's'}
 
 
