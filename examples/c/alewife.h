@@ -136,7 +136,7 @@ struct lock {
     uint32_t taken;
 };
 
-/* Waits for the lock, and takes it. It looks before it tries again: a look is a copy, and a try takes the line from all others. */
+/* Test-and-test-and-set (Rudolph and Segall 1984): looks before it tries again. A look is a copy, and a try takes the line from all others. */
 static inline void acquire(struct lock *lock)
 {
     while (exchange(&lock->taken, 1))
@@ -149,8 +149,8 @@ static inline void release(struct lock *lock)
     store_word(&lock->taken, 0);
 }
 
-/* A lock with a queue (Mellor-Crummey and Scott): each context waits on a line of its own, and the one before it stores there. Contexts are
-   told by their number plus 1, and 0 is none. It takes a line for each context. */
+/* A lock with a queue (MCS: Mellor-Crummey and Scott 1991): each context waits on a line of its own, and the one before it stores there. Contexts
+   are told by their number plus 1, and 0 is none. It takes a line for each context. */
 struct queue_lock {
     LINE uint32_t last;
     struct {
@@ -192,8 +192,8 @@ static inline void queue_release(struct queue_lock *lock)
         store_word(&lock->of[next - 1].waits, 0);
 }
 
-/* A barrier as a tree, in which context c stands above 2c + 1 and 2c + 2. Each line has one context that stores there and one that waits for
-   it, so that none has more than two readers. It takes two lines for each context. */
+/* A barrier as a tree (after Mellor-Crummey and Scott 1991), in which context c stands above 2c + 1 and 2c + 2. Each line has one context that stores
+   there and one that waits for it, so that none has more than two readers. It takes two lines for each context. */
 struct barrier {
     struct {
         LINE uint32_t arrived;
