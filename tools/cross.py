@@ -252,7 +252,7 @@ def places_of(elf, addresses):
     return places
 
 
-GIVEN = ('alewife.h', 'atomic.c', 'runtime.c', 'start.s')
+GIVEN = ('alewife.h', 'locks.h', 'barriers.h', 'atomic.c', 'runtime.c', 'start.s')
 ONE_TURN = ('load_word', 'store_word', 'exchange', 'test_and_set', 'print')
 
 
