@@ -43,7 +43,7 @@ ghost use Rattle.alw_endings.specs.Schedules.{TellsEveryRun};
 ghost use Rattle.alw_endings.specs.declared.values.StuckRun.TheVariants.{No};
 ghost use Rattle.alw_image.specs.Images.{node_count};
 ghost use Rattle.alw_image.specs.Parameters.{AreParameters, parameters_for};
-ghost use Rattle.law_turns.specs.Stuck.{NoneIsStuck};
+ghost use Rattle.law_turns.specs.Stuck.{NoneIsStuck, NoneIsStuckForever};
 ghost use Rattle.law_endings.specs.Runs.{ComesToTold, TellsRuns};
 ghost use Rattle.alw_orders.specs.Scheduling.{Schedules};
 ghost use Rattle.alw_checks.specs.Searching.{Searches, TellsReport};
@@ -108,12 +108,14 @@ pub fn every_schedule_is_told()
 /// search is complete or not. Each outcome and each trap is one of a legal journal that takes the turns told with it, with
 /// these prints by context and this memory, or this trap; or the limit alone stands against these turns. Behind the turns
 /// told for `stuck yes` no legal journal ends; and where `stuck no` is told, each legal journal can come to an end, where
-/// the limit leaves room.
+/// the limit leaves room, and in any case under a greater one, as long as 32 bits are enough for the clocks.
 pub fn told_ends_are_of_runs()
     ensures told { (most : ℕ) → (bytes : List ℕ) → (output : Output) → (searches : Searches most bytes output) → (image_in bytes).contexts ≡ 1 →
         (parameters : Parameters) → AreParameters parameters → TellsRuns (image_in bytes) parameters searches.told }
     ensures unstuck { (most : ℕ) → (bytes : List ℕ) → (output : Output) → (searches : Searches most bytes output) → (image_in bytes).contexts ≡ 1 →
         searches.told.stuck ≡ No → NoneIsStuck (image_in bytes) }
+    ensures forever { (most : ℕ) → (bytes : List ℕ) → (output : Output) → (searches : Searches most bytes output) → (image_in bytes).contexts ≡ 1 →
+        searches.told.stuck ≡ No → NoneIsStuckForever (image_in bytes) }
 {}
 
 /// What `schedule` makes of a claim with the turns that `outcomes` tells with an outcome or a trap comes to it, with however

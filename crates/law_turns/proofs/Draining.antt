@@ -1,5 +1,5 @@
 -- What is on its way is delivered: a context that is being served comes to have its line, or the line that it waits for comes.
-use Rattle.std.proofs.Common.{◌≡◌, ℕ, zero, suc, ◌+◌, ◌<◌, ◌≤◌, ◌||◌, nat_lt, true, false, Option, Some, None, List, [], ◌∷◌, ◌++◌, refl, ap, arith, ◌⊎◌, inl, inr}
+use Rattle.std.proofs.Common.{◌≡◌, ℕ, zero, suc, ◌+◌, ◌<◌, ◌≤◌, ◌||◌, nat_lt, true, Option, Some, None, List, [], ◌∷◌, ◌++◌, refl, ap, arith, ◌⊎◌, inl, inr}
 use Rattle.std.proofs.lemmas.Bool.{le-leb, ltb-true, false≢true}
 use Rattle.alw_num.proofs.Weigh.{cases_lt_then}
 use Rattle.alw_msg.specs.declared.messages.Msg.{Msg}
@@ -10,7 +10,6 @@ use Rattle.alw_msg.specs.Events.{node_of}
 use Rattle.alw_image.specs.declared.parts.Parts.{Parts}
 use Rattle.alw_image.specs.Images.{node_count, IsImage}
 use Rattle.alw_image.specs.Parameters.{Parameters, AreParameters}
-use Rattle.alw_model.specs.MemorySteps as memory
 use Rattle.alw_model.specs.NodeStates.{stamp_of}
 use Rattle.alw_msg.specs.Lists.{front}
 use Rattle.alw_model.proofs.Journals.{and_parts}
@@ -18,7 +17,7 @@ use Rattle.law_machine.proofs.Sends.{MsgStands}
 use Rattle.alw_model.specs.Machine.{MachineState, node_at, link_at, taken_by, stamp_at, is_enabled, has_halted, step, stepped_by, after, IsNext, AreLegal}
 use Rattle.alw_model.specs.Runs.{turn_in}
 use Rattle.law_lines.proofs.Steps.{enabled_is}
-use Rattle.law_machine.proofs.MachineRuns.{IsKept, entry_kept}
+use Rattle.law_machine.proofs.MachineRuns.{IsKept}
 use Rattle.law_machine.proofs.Timing.{each_front}
 use Rattle.law_machine.proofs.TurnCounts.{queue_quiet, taken_quiet}
 use Rattle.law_machine.proofs.Greatest.{clock_below, greatest_grows}
@@ -26,6 +25,7 @@ use Rattle.law_turns.specs.Turns.{greatest_clock, turns_from, serves, AllServe}
 use Rattle.law_turns.proofs.Stages.{heft_of, IsServing}
 use Rattle.law_turns.specs.Orders.{is_quiet, entry_for}
 use Rattle.law_turns.proofs.Quiet.{quiet_lightens, quiet_serves}
+use Rattle.law_turns.proofs.Means.{AreMeans, means_of, entry_kept}
 use Rattle.law_turns.proofs.Moves.{left_moves, serving_reaches}
 
 module _ (parts : Parts) (parameters : Parameters) where
@@ -43,7 +43,7 @@ quiet_own c (Handle at) quiet = refl
 quiet_own c (Deliver from to) quiet = refl
 quiet_own c (Evict at its) quiet = absurd (false≢true quiet)
 
-module _ (parts : Parts) (image : IsImage parts) (parameters : Parameters) (are : AreParameters parameters) (s : MachineState) (kept : IsKept parts parameters s) (event : Event) (enabled : is_enabled parts parameters s event ≡ true) where
+module _ (parts : Parts) (image : IsImage parts) (parameters : Parameters) (are : AreMeans parameters) (s : MachineState) (kept : IsKept parts parameters s) (event : Event) (enabled : is_enabled parts parameters s event ≡ true) where
   head_below : (from to : ℕ) → from < node_count parts → to < node_count parts → (head : Option Msg) → front (link_at parts s from to) ≡ head → stamp_of (node_at s to).clock head ≤ greatest_clock s + 1
   head_below from to f here None e = omega (arith, clock_below parts parameters s kept.has.sound.standing to here)
   head_below from to f here (Some msg) e =
@@ -51,8 +51,8 @@ module _ (parts : Parts) (image : IsImage parts) (parameters : Parameters) (are 
       omega (arith, m.stamp, clock_below parts parameters s kept.has.sound.standing from f, clock_below parts parameters s kept.has.sound.standing to here)
 
   -- an event's stamp is at most 1 above the greatest clock
-  pub stamp_most : stamp_at parts s event ≤ greatest_clock s + 1
-  stamp_most = go event enabled
+  pub stamp_near : stamp_at parts s event ≤ greatest_clock s + 1
+  stamp_near = go event enabled
     where
       go : (event : Event) → is_enabled parts parameters s event ≡ true → stamp_at parts s event ≤ greatest_clock s + 1
       go (Instr at) is = omega (arith, clock_below parts parameters s kept.has.sound.standing at.0 (enabled_is parts parameters s (Instr at) is).here)
@@ -76,6 +76,11 @@ module _ (parts : Parts) (image : IsImage parts) (parameters : Parameters) (are 
   pub next_clock : greatest_clock (step parts parameters s event) ≤ greatest_clock s + 1
   next_clock = greatest_grows parts parameters s kept.has.sound.standing kept.times event enabled
 
+-- the same by the ranges of the parameters
+pub stamp_most : (parts : Parts) → IsImage parts → (parameters : Parameters) → AreParameters parameters → (s : MachineState) → IsKept parts parameters s → (event : Event) → is_enabled parts parameters s event ≡ true
+    → stamp_at parts s event ≤ greatest_clock s + 1
+stamp_most parts image parameters are s kept event enabled = stamp_near parts image parameters (means_of parameters are) s kept event enabled
+
 -- entries that leave nothing on its way
 pub record Drains (parts : Parts) (parameters : Parameters) (c : ℕ) (s : MachineState) (more : List Entry) : Type 0 where
   pub legal : AreLegal parts parameters s more
@@ -97,10 +102,10 @@ pub record Stops (parts : Parts) (parameters : Parameters) (c : ℕ) (s : Machin
   pub above : parameters.limit < stamp_at parts (after parts parameters s more) event
   pub stamp : stamp_at parts (after parts parameters s more) event ≤ greatest_clock s + most
 
-module _ (parts : Parts) (image : IsImage parts) (parameters : Parameters) (are : AreParameters parameters) (c : ℕ) where
+module _ (parts : Parts) (image : IsImage parts) (parameters : Parameters) (are : AreMeans parameters) (c : ℕ) where
   -- an event that the limit keeps back
   pub stops_now : (s : MachineState) → IsKept parts parameters s → (event : Event) → serves c event ≡ true → is_enabled parts parameters s event ≡ true → parameters.limit < stamp_at parts s event → (most : ℕ) → 1 ≤ most → Stops parts parameters c s most []
-  stops_now s kept event own enabled above most some = record { legal = tt; own = tt; turns = refl; event = event; event_own = own; enabled = enabled; above = above; stamp = omega (arith, stamp_most parts image parameters are s kept event enabled) }
+  stops_now s kept event own enabled above most some = record { legal = tt; own = tt; turns = refl; event = event; event_own = own; enabled = enabled; above = above; stamp = omega (arith, stamp_near parts image parameters are s kept event enabled) }
 
   -- one entry earlier
   pub stops_later : (s : MachineState) (event : Event) (kept : IsKept parts parameters s) (enabled : is_enabled parts parameters s event ≡ true) → serves c event ≡ true → stamp_at parts s event ≤ parameters.limit → turn_in parts (node_of event) (stepped_by parts parameters s event).did ≡ []
@@ -118,7 +123,7 @@ module _ (parts : Parts) (image : IsImage parts) (parameters : Parameters) (are 
         stamp = omega (arith, x.stamp);
       }
 
-module _ (parts : Parts) (image : IsImage parts) (one : parts.contexts ≡ 1) (parameters : Parameters) (are : AreParameters parameters) (c : ℕ) where
+module _ (parts : Parts) (image : IsImage parts) (one : parts.contexts ≡ 1) (parameters : Parameters) (are : AreMeans parameters) (c : ℕ) where
   -- what is on its way is delivered, or the limit keeps an event back
   abbrev pub DrainsOrStops : MachineState → Type 0
   DrainsOrStops s = (more : List Entry) × (Drains parts parameters c s more ⊎ Stops parts parameters c s (heft_of parts s) more)

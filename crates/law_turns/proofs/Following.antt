@@ -16,7 +16,7 @@ use Rattle.alw_model.specs.Machine.{MachineState, node_at, is_enabled, stamp_at,
 use Rattle.alw_model.specs.Runs.{turn_in}
 use Rattle.law_lines.proofs.Steps.{enabled_is}
 use Rattle.law_machine.proofs.FlatSlots.{runs_ready, ready_is}
-use Rattle.law_machine.proofs.MachineRuns.{IsKept, always_kept, entry_kept}
+use Rattle.law_machine.proofs.MachineRuns.{IsKept, always_kept}
 use Rattle.law_turns.specs.Turns.{IsAtRest, greatest_clock, turns_from, AllServe}
 use Rattle.law_turns.specs.Orders.{AllQuiet, entry_for, GoesToTurn, EveryOrderServes}
 use Rattle.law_turns.proofs.Hefts.{busy}
@@ -25,11 +25,25 @@ use Rattle.law_turns.proofs.Quiet.{quiet_lightens, quiet_serves}
 use Rattle.law_turns.proofs.Moves.{left_moves, serving_reaches}
 use Rattle.law_turns.proofs.Resting.{settled_light, settled_calm, light_settled}
 use Rattle.law_turns.proofs.Draining.{quiet_own, quiet_turns_not, next_clock, Drains}
+use Rattle.law_turns.proofs.Means.{AreMeans, means_of, entry_kept}
 use Rattle.law_turns.proofs.Instructions.{Asked, Does}
-use Rattle.law_turns.proofs.Serving.{stamp, stepped, does, turn_is, miss_light, miss_serves, free_at, awake_at, far_enabled, served_behind}
+use Rattle.law_turns.proofs.Served.{stamp, stepped, does, turn_is, miss_light, miss_serves, free_at, awake_at, far_enabled, served_behind}
 use Rattle.law_turns.proofs.Scheduled.{none_first}
 
 module _ (parts : Parts) (image : IsImage parts) (one : parts.contexts ≡ 1) (parameters : Parameters) (are : AreParameters parameters) where
+  -- a context whose instruction is enabled is Ready
+  pub runs_so : (s : MachineState) (c : ℕ) → IsKept parts parameters s → c < node_count parts → is_enabled parts parameters s (Instr (record { 0 = c })) ≡ true → (own s c).status ≡ Ready
+  runs_so s c kept here enabled = go (running (node_at s c).slots (node_at s c).current) refl (enabled_is parts parameters s (Instr (record { 0 = c })) enabled).may_be
+    where
+      go : (o : Option ℕ) → running (node_at s c).slots (node_at s c).current ≡ o → is_some o ≡ true → (own s c).status ≡ Ready
+      go None e some = absurd (false≢true some)
+      go (Some slot) e some =
+          let r = runs_ready (node_at s c).slots (node_at s c).current slot e in
+          let size = (kept.has.contexts c here).size in
+          let same : slot ≡ 0 = omega (arith, r.below, one) in
+          ap (λ k. (slot_at (node_at s c).slots k).status) (sym same) ∙ ready_is (slot_at (node_at s c).slots slot).status r.passes
+
+module _ (parts : Parts) (image : IsImage parts) (one : parts.contexts ≡ 1) (parameters : Parameters) (are : AreMeans parameters) where
   -- quiet entries, while a context is served
   pub record StaysServing (c : ℕ) (s : MachineState) (more : List Entry) : Type 0 where
     pub kept : IsKept parts parameters (after parts parameters s more)
@@ -54,18 +68,6 @@ module _ (parts : Parts) (image : IsImage parts) (one : parts.contexts ≡ 1) (p
         light = omega (arith, r.light);
         clocks = omega (arith, r.clocks);
       }
-
-  -- a context whose instruction is enabled is Ready
-  pub runs_so : (s : MachineState) (c : ℕ) → IsKept parts parameters s → c < node_count parts → is_enabled parts parameters s (Instr (record { 0 = c })) ≡ true → (own s c).status ≡ Ready
-  runs_so s c kept here enabled = go (running (node_at s c).slots (node_at s c).current) refl (enabled_is parts parameters s (Instr (record { 0 = c })) enabled).may_be
-    where
-      go : (o : Option ℕ) → running (node_at s c).slots (node_at s c).current ≡ o → is_some o ≡ true → (own s c).status ≡ Ready
-      go None e some = absurd (false≢true some)
-      go (Some slot) e some =
-          let r = runs_ready (node_at s c).slots (node_at s c).current slot e in
-          let size = (kept.has.contexts c here).size in
-          let same : slot ≡ 0 = omega (arith, r.below, one) in
-          ap (λ k. (slot_at (node_at s c).slots k).status) (sym same) ∙ ready_is (slot_at (node_at s c).slots slot).status r.passes
 
   module _ (s : MachineState) (kept : IsKept parts parameters s) (rests : IsAtRest parts s) (c : ℕ) where
     light : heft_of parts s ≡ 0
@@ -115,10 +117,10 @@ pub every_order_serves : EveryOrderServes
 every_order_serves parts image one parameters are journal legal rests context [] begins behind none = absurd begins
 every_order_serves parts image one parameters are journal legal rests context (entry ∷ rest) (is, quiet) (next, others) none =
     subst (λ (e : Entry). GoesToTurn parts parameters s context (e ∷ rest)) (sym same)
-    (goes_by parts image one parameters are s kept rests context first here ready rest
-    (asked parts image one parameters are s kept rests context first here ready
+    (goes_by parts image one parameters (means_of parameters are) s kept rests context first here ready rest
+    (asked parts image one parameters (means_of parameters are) s kept rests context first here ready
     (none_first (turn_in parts context (stepped_by parts parameters s event).did) _ (subst (λ (e : Entry). turns_from parts parameters s (e ∷ rest) ≡ []) same none))
-    (does parts image one parameters are context here s kept (light parts image one parameters are s kept rests context) ready))
+    (does parts image one parameters (means_of parameters are) context here s kept (light parts image one parameters (means_of parameters are) s kept rests context) ready))
     (subst (λ (e : Event). AreLegal parts parameters (step parts parameters s e) rest) is others) quiet)
   where
     s : MachineState

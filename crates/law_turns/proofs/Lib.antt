@@ -8,7 +8,10 @@ pub mod Moves
 pub mod Draining
 pub mod Instructions
 pub mod Resting
+pub mod Means
+pub mod Served
 pub mod Serving
+pub mod Raised
 pub mod Ends
 pub mod Scheduled
 pub mod Runs

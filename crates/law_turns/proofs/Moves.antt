@@ -14,7 +14,7 @@ use Rattle.alw_msg.specs.Events.{node_of}
 use Rattle.alw_msg.specs.Lists.{is_nonempty, front, behind}
 use Rattle.alw_image.specs.declared.parts.Parts.{Parts}
 use Rattle.alw_image.specs.Images.{node_count, line_count, IsImage}
-use Rattle.alw_image.specs.Parameters.{Parameters, AreParameters}
+use Rattle.alw_image.specs.Parameters.{Parameters}
 use Rattle.alw_model.specs.LimitLess.{is_in_progress}
 use Rattle.alw_model.specs.Caches.{Copy, replaced}
 use Rattle.alw_model.specs.Contexts.{Slot, slot_at, is_held}
@@ -28,8 +28,9 @@ use Rattle.law_machine.proofs.ContextRuns.{down_at}
 use Rattle.law_machine.proofs.Sends.{MsgStands}
 use Rattle.law_machine.proofs.Progress.{held_slot, nonempty_by, not_false}
 use Rattle.law_machine.proofs.Timing.{each_front}
-use Rattle.law_machine.proofs.MachineRuns.{IsKept, clocks_small, fit_on}
+use Rattle.law_machine.proofs.MachineRuns.{IsKept}
 use Rattle.law_turns.proofs.Hefts.{heft, packet_heft}
+use Rattle.law_turns.proofs.Means.{AreMeans, clocks_small, fit_on}
 use Rattle.law_turns.proofs.Stages.{heft_of, own, Holds, IsServing, no_others, nobody_waits, nothing_down}
 use Rattle.law_turns.specs.Orders.{is_quiet}
 
@@ -53,7 +54,7 @@ abbrev pub MayReach : Parts → Parameters → MachineState → Type 0
 MayReach parts parameters s = (from n : ℕ) → from < node_count parts → n < node_count parts → (msg : Msg) (said : ToCache) → front (link_at parts s from n) ≡ Some msg → content msg ≡ ForCache said
     → may_reach_cache parameters.sets (node_at s n).slots (node_at s n).cache msg.line.0 said ≡ false → ⊥
 
-module _ (parts : Parts) (image : IsImage parts) (parameters : Parameters) (are : AreParameters parameters) (s : MachineState) (kept : IsKept parts parameters s) (reaches : MayReach parts parameters s) where
+module _ (parts : Parts) (image : IsImage parts) (parameters : Parameters) (are : AreMeans parameters) (s : MachineState) (kept : IsKept parts parameters s) (reaches : MayReach parts parameters s) where
   -- a quiet event is enabled
   abbrev pub Moves : Type 0
   Moves = (event : Event) × ((is_quiet event ≡ true) × (is_enabled parts parameters s event ≡ true))

@@ -12,7 +12,7 @@ use Rattle.alw_msg.specs.Contents.{ToMemory, Content, ForMemory, ForCache, conte
 use Rattle.alw_msg.specs.Events.{node_of}
 use Rattle.alw_image.specs.declared.parts.Parts.{Parts}
 use Rattle.alw_image.specs.Images.{node_count, IsImage}
-use Rattle.alw_image.specs.Parameters.{Parameters, AreParameters}
+use Rattle.alw_image.specs.Parameters.{Parameters}
 use Rattle.alw_model.specs.declared.steps.Did.{Did}
 use Rattle.alw_model.specs.Contexts.{Slot, slot_at, running}
 use Rattle.alw_model.specs.MemorySteps as memory
@@ -23,7 +23,7 @@ use Rattle.alw_model.specs.Counts.{uses_hold, count_holds}
 use Rattle.law_lines.proofs.Steps.{enabled_is}
 use Rattle.law_machine.proofs.HoldEvents.{holds_of, data_in}
 use Rattle.law_machine.proofs.HoldCounts.{holds_go}
-use Rattle.law_machine.proofs.MachineRuns.{IsKept, always_kept}
+use Rattle.law_machine.proofs.MachineRuns.{IsKept}
 use Rattle.law_machine.proofs.Sums.{weigh_set}
 use Rattle.law_turns.specs.Turns.{IsAtRest, greatest_clock}
 use Rattle.law_turns.proofs.Hefts.{heft, packet_heft}
@@ -32,9 +32,10 @@ use Rattle.law_turns.specs.Orders.{is_quiet, entry_for}
 use Rattle.law_turns.proofs.Quiet.{quiet_lightens}
 use Rattle.law_turns.proofs.Moves.{heavy, left_moves, free_reaches}
 use Rattle.law_turns.proofs.Resting.{light_settled}
+use Rattle.law_turns.proofs.Means.{AreMeans, always_kept}
 use Rattle.law_turns.proofs.Instructions.{Turned, hold_does}
-use Rattle.law_turns.proofs.Draining.{stamp_most, is_next, next_kept, next_clock}
-use Rattle.law_turns.proofs.Serving.{own_size, own_runs, can_run, all_free}
+use Rattle.law_turns.proofs.Draining.{stamp_near, is_next, next_kept, next_clock}
+use Rattle.law_turns.proofs.Served.{own_size, own_runs, can_run, all_free}
 use Rattle.law_turns.proofs.Turns.{journal_more, state_more}
 
 -- what weighs nothing has no member that does
@@ -84,7 +85,7 @@ pub record Settles (parts : Parts) (parameters : Parameters) (s : MachineState) 
   pub empty : left_of parts (after parts parameters s more) ≡ 0
   pub clocks : greatest_clock (after parts parameters s more) ≤ greatest_clock s + left_of parts s
 
-module _ (parts : Parts) (image : IsImage parts) (one : parts.contexts ≡ 1) (parameters : Parameters) (are : AreParameters parameters) where
+module _ (parts : Parts) (image : IsImage parts) (one : parts.contexts ≡ 1) (parameters : Parameters) (are : AreMeans parameters) where
   module _ (s : MachineState) (kept : IsKept parts parameters s) where
     holds_step : (event : Event) → is_enabled parts parameters s event ≡ true
         → data_in (taken_by parts s event) + count_holds s ≡ digit (uses_hold (node_at s (node_of event)) (stepped_by parts parameters s event).did) + count_holds (step parts parameters s event)
@@ -168,7 +169,7 @@ module _ (parts : Parts) (image : IsImage parts) (one : parts.contexts ≡ 1) (p
       let less = m.1.1 in
       let little : greatest_clock s + 1 ≤ parameters.limit = omega arith in
       let grows = next_clock parts image parameters are s kept event m.1.0 in
-      let within : stamp_at parts s event ≤ parameters.limit = omega (arith, stamp_most parts image parameters are s kept event m.1.0) in
+      let within : stamp_at parts s event ≤ parameters.limit = omega (arith, stamp_near parts image parameters are s kept event m.1.0) in
       let r = settled_by fuel (step parts parameters s event) (next_kept parts image parameters are s kept event m.1.0 within) (omega arith) (omega arith) in
       let d = r.1 in (
         entry_for parts s event ∷ r.0,

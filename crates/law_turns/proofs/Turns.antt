@@ -10,7 +10,7 @@ use Rattle.sparc_table.specs.declared.outcomes.Outcome.{Outcome}
 use Rattle.sparc_table.specs.Registers.{start_of}
 use Rattle.alw_image.specs.declared.parts.Parts.{Parts}
 use Rattle.alw_image.specs.Images.{node_count, IsImage}
-use Rattle.alw_image.specs.Parameters.{Parameters, AreParameters}
+use Rattle.alw_image.specs.Parameters.{Parameters}
 use Rattle.alw_msg.specs.declared.events.Entry.{Entry}
 use Rattle.alw_msg.specs.declared.contexts.Status.{Status}
 use Rattle.alw_msg.specs.declared.contexts.Status.TheVariants as statuses
@@ -24,9 +24,10 @@ use Rattle.alw_model.proofs.Journals.{after-append, moments_from-append, and_par
 use Rattle.law_machine.proofs.FlatStarts.{flat_view_is}
 use Rattle.law_machine.proofs.FlatViews.{HaveSlots, own_length, slots_behind, context_read}
 use Rattle.law_machine.specs.FlatRuns.{contexts_of}
-use Rattle.law_machine.proofs.MachineRuns.{IsKept, always_kept}
+use Rattle.law_machine.proofs.MachineRuns.{IsKept}
 use Rattle.law_turns.specs.Limits.{IsKeptBack}
 use Rattle.law_turns.proofs.Draining.{Stops}
+use Rattle.law_turns.proofs.Means.{AreMeans, always_kept}
 use Rattle.law_turns.specs.Turns.{IsAtRest, greatest_clock, turns_from, turn_events, AllServe, ServesTurn, ServesTurns}
 
 -- what is shown of each turn: a context that is Ready in a machine at rest is served, or the limit keeps an event back
@@ -81,7 +82,7 @@ contexts_length count [] have = omega arith
 contexts_length count (node ∷ rest) have =
     omega (arith, length-append (map flat_context node.slots) (contexts_of rest), own_length count node rest have, contexts_length count rest (slots_behind count node rest have), suc-mul (length rest) count)
 
-module _ (parts : Parts) (image : IsImage parts) (one : parts.contexts ≡ 1) (parameters : Parameters) (are : AreParameters parameters) (waits_not : NobodyWaits parts parameters) (serve : EachIsServed parts parameters) where
+module _ (parts : Parts) (image : IsImage parts) (one : parts.contexts ≡ 1) (parameters : Parameters) (are : AreMeans parameters) (waits_not : NobodyWaits parts parameters) (serve : EachIsServed parts parameters) where
   -- a legal journal that has some turns goes on to one that serves these behind them, and ends at rest
   pub record HasTurnsBehind (journal : List Entry) (done rest : List ℕ) : Type 0 where
     pub more : List Entry

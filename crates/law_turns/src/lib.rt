@@ -5,7 +5,7 @@ ghost use Rattle.law_turns.specs.Endings.{EveryEndingIsReached};
 ghost use Rattle.law_turns.specs.Going.{EveryJournalSettles, EveryRestGoesOn};
 ghost use Rattle.law_turns.specs.Limits.{EveryTurnIsServedOrLate};
 ghost use Rattle.law_turns.specs.Orders.{EveryOrderServes};
-ghost use Rattle.law_turns.specs.Stuck.{NoJournalIsStuck};
+ghost use Rattle.law_turns.specs.Stuck.{NoJournalIsStuck, EveryJournalCanEnd};
 ghost use Rattle.law_turns.specs.Turns.{EveryTurnIsServed};
 
 /// With one context a node, turns of Ready contexts on the flat memory are a run of the machine, under
@@ -57,4 +57,11 @@ pub fn any_order_serves()
 #[tactic(auto, using(crate::proofs::Stuck::no_journal_is_stuck))]
 pub fn no_journal_is_stuck()
     ensures { NoJournalIsStuck }
+{}
+
+/// And each legal journal, under whatever parameters, comes to an end under each greater limit that leaves room for
+/// turns which lead the flat memory there, as long as 32 bits are enough for the clocks.
+#[tactic(auto, using(crate::proofs::Stuck::every_journal_can_end))]
+pub fn every_journal_can_end()
+    ensures { EveryJournalCanEnd }
 {}
