@@ -141,13 +141,19 @@ def told(number):
     return f'{number:,.0f}' if number >= 100 or number == int(number) else f'{number:,.1f}'
 
 
-def table(groups, by, series, columns, per=None):
-    """A table in Markdown: of each value its runs, those that halted, and of each column the median and quartiles."""
+def cell(spread, by_ends=False):
+    """A median, with the quartiles in brackets, or with the lowest and the highest."""
+    low, high = (spread.lowest, spread.highest) if by_ends else (spread.lower, spread.upper)
+    return f'{told(spread.median)} ({told(low)} to {told(high)})'
+
+
+def table(groups, by, series, columns, per=None, by_ends=False):
+    """A table in Markdown: of each value its runs, those that halted, and of each column the median and quartiles, or the lowest and the highest."""
     heads, named = [series, by] if series else [by], [per.head(column) if per else column for column in columns]
     lines = [[*heads, 'runs', 'halted', *named], ['---:'] * (len(heads) + 2 + len(columns))]
     cells = [spreads(groups, column, per) for column in columns]
     for at, (values, group) in enumerate(groups.items()):
         halted = sum(row['ended'] == 'halted' for row in group)
         each = [column[at] for column in cells]
-        lines.append([*values, str(len(group)), str(halted), *(f'{told(s.median)} ({told(s.lower)} to {told(s.upper)})' for s in each)])
+        lines.append([*values, str(len(group)), str(halted), *(cell(s, by_ends) for s in each)])
     return ''.join('| ' + ' | '.join(line) + ' |\n' for line in lines)
