@@ -71,7 +71,7 @@ def lock_statements(own, beside):
     yield statement(rises, 'table 6', f'test-and-set takes longer the more contexts want the lock: with 32 {told(min(grown))} to {told(max(grown))} times as long as with two.')
     better = {name: [n for n in CONTEXTS[1:] if all(a < b for a, b in pairs(each, (name, n), (other, n)))] for name, other in (('TTAS', 'TAS'), ('BACKOFF', 'TTAS'))}
     yield statement(better['TTAS'] == [*CONTEXTS[1:]], 'table 6', 'a look before the try is better from two contexts on: by all seeds with ' + listed(better['TTAS']) + ' contexts.')
-    yield statement(better['BACKOFF'] == [*CONTEXTS[2:]], 'table 6', 'pauses are better than a look, from four contexts on: by all seeds with ' + listed(better['BACKOFF'])
+    yield statement({*CONTEXTS[2:]} <= {*better['BACKOFF']}, 'table 6', 'pauses are better than a look, from four contexts on: by all seeds with ' + listed(better['BACKOFF'])
                     + ' contexts. Pauses are 16 to 4,096 rounds of three turns long.')
     flat = [b / a for name in QUEUES for a, b in pairs(both, (name, 4), (name, 64))]
     yield statement(max(flat) <= 2, 'table 6', f'a lock with a queue costs at most twice as much however many want it: with 64 contexts {told(min(flat))} to {told(max(flat))} times '
@@ -79,7 +79,7 @@ def lock_statements(own, beside):
     alone = [b / a for queue, simple in product(QUEUES, SIMPLE) for a, b in pairs(each, (simple, 1), (queue, 1))]
     yield statement(min(alone) > 1, 'table 6', f'where nobody else wants it, a lock with a queue costs more: {told(min(alone))} to {told(max(alone))} times a simple one.')
     best = [n for n in CONTEXTS if all(a < b for queue, simple in product(QUEUES, SIMPLE) for a, b in pairs(each, (queue, n), (simple, n)))]
-    yield statement(best == [n for n in CONTEXTS if n >= 16], 'table 6', 'from 16 contexts on it is the best: by all seeds with ' + listed(best) + ' contexts.')
+    yield statement({n for n in CONTEXTS if n >= 16} <= {*best}, 'table 6', 'from 16 contexts on it is the best: by all seeds with ' + listed(best) + ' contexts.')
     yield statement(None, '', "the ticket lock with a fetch-and-add, and Anderson's queue in an array: the machine has no fetch-and-add, and *ticket* draws its tickets behind a "
                     'test-and-test-and-set, whose cost it has.')
 

@@ -11,7 +11,7 @@ from asking import lines_of, statement
 SOURCE = Path(__file__).resolve().parent / 'latency.s'
 # The home of the line, and the nodes that are two hops from it: the first of them is the one whose access is measured.
 HOME, NEAR = 27, (29, 11, 18, 20, 25, 34, 36, 43)
-ACK_BY_ACK = 'max(home, send)'
+ACK_BY_ACK = 'max(home,send)'
 SOFTWARE_READ = 425
 # An access: what it is, who does it, the node and its label of those that act before it, and its parts, each so many times.
 Access = namedtuple('Access', 'text node label before sum')
@@ -34,11 +34,11 @@ def accesses():
         yield Access(f'{verb}, home here, written away', HOME, label, {NEAR[2]: 'writes'}, begin + acted + asked + acted + filled)
         yield Access(f'{verb}, home away, written there', NEAR[0], label, {HOME: 'writes'}, far + filled + acted + back + filled)
         yield Access(f'{verb}, home away, written elsewhere', NEAR[0], label, {NEAR[2]: 'writes'}, far + asked + acted + back + filled)
-    yield Access('load, home away, handler', NEAR[0], 'load', dict.fromkeys(NEAR[1:5], 'reads'), far + trap + back + filled)
+    yield Access('load, home away, trap', NEAR[0], 'load', dict.fromkeys(NEAR[1:5], 'reads'), far + trap + back + filled)
     for copies in (1, 2, 4, 5, 7):
         more = trap if copies > 4 else Counter()
         acks = way(2) + filled + acted + Counter({ACK_BY_ACK: copies - 1})
-        yield Access(f'store, home away, {copies} {"copy" if copies == 1 else "copies"}{", handler" if more else ""}', NEAR[0], 'store',
+        yield Access(f'store, away, {copies} {"copy" if copies == 1 else "copies"}{", trap" if more else ""}', NEAR[0], 'store',
                      dict.fromkeys(NEAR[1:1 + copies], 'reads'), far + more + acks + back + filled)
 
 
@@ -81,7 +81,7 @@ def answer(study):
     same = sum(by_hand(*each) == run for each, run in zip(tried, found))
     said = statement(same == len(tried), 'table 5', 'each access takes what the definitions make of it by hand, to the cycle, with costs as by default and with each a '
                      f'cycle less or more: {same} of {len(tried)} runs.')
-    software = next(access for access in accesses() if 'handler' in access.text)
+    software = next(access for access in accesses() if 'trap' in access.text)
     own = by_hand(software, asking.COSTS)
     trap = asking.COSTS['trap'] + SOFTWARE_READ - own
     said += statement(measured(study, software, asking.COSTS | {'trap': trap}) == SOFTWARE_READ, 'table 5', f'a load that software serves takes {SOFTWARE_READ} cycles: so it '
