@@ -61,9 +61,14 @@ def told_sum(access):
 
 
 def measured(study, access, costs):
-    """The cycles of an access, from the start of the miss to the end of the last delivery to its node, as a run's moments tell it."""
-    image = runs.asked(study.binary, ['asm'], source_of(access))
-    words = [word for name, value in costs.items() for word in (f'--{name}', str(value))]
+    """The cycles of an access, as a run tells them."""
+    return measured_of(study, access, source_of(access), costs)
+
+
+def measured_of(study, access, source, costs, pointers=4):
+    """The cycles of an access of a source, from the start of the miss to the end of the last delivery to its node, as a run's moments tell it."""
+    image = runs.asked(study.binary, ['asm'], source)
+    words = [word for name, value in {**costs, 'pointers': pointers}.items() for word in (f'--{name}', str(value))]
     begun = ended = None
     moments = [match for match in map(MOMENT.fullmatch, study.text(image, 'run', '--cycles', '0', *words, '--write', 'moments').split('\n')) if match]
     last = max(at for at, match in enumerate(moments) if match[4] == str(access.node))
