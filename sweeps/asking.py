@@ -10,13 +10,14 @@ import cross
 import runs
 import tables
 import times
-from alewife import Sizes, options_of
+from alewife import MOST_TURNS, Sizes, options_of
 
 OPTIONS = options_of('run', times.TURNING)
 COSTS = {name: int(OPTIONS[name]['default']) for name in times.COSTS}
 LIMIT = OPTIONS['limit']['last']
 MESHES = {4: (2, 2), 16: (4, 4), 64: (8, 8)}
 MARKED = re.compile(r'(<!-- (\w+) -->\n).*?(<!-- end -->)', re.S)
+SOUND = 'sound'
 KERNELS = cross.ROOT / 'examples' / 'c' / 'kernels'
 # What a question is answered with: blocks of the document by their names, pictures by theirs, what the tables were made of, and the rows of the main
 # one.
@@ -63,6 +64,16 @@ class Study:
             wrong = [name for name in times.NAMES if told.get(name) != row[name]]
             return f'{row["name"]}, {" ".join(words)}: {wrong[0]} is {row[wrong[0]]} and {told.get(wrong[0])}' if wrong else None
         return [each for each in in_turn(self, again, rows) if each]
+
+    def audited(self, rows):
+        """The rows whose runs have claims that are audited, which no run of more turns than a claim has is; and which aren't sound, each in words."""
+        def fault(row):
+            """What the audit says of the claim of a row's run, where that isn't sound."""
+            words = [*runs.words_of(row, int(row['nodes'])), '--write', 'claim']
+            said = runs.verdict_of(self.binary, runs.asked(self.binary, words, self.images[row['image']].data))
+            return None if said == SOUND else f'{row["name"]}, {" ".join(words)}: audit says {said}'
+        held = [row for row in rows if int(row['turns']) <= MOST_TURNS]
+        return held, [each for each in in_turn(self, fault, held) if each]
 
     def text(self, data, *words):
         """What the program writes of an image."""

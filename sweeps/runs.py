@@ -157,6 +157,16 @@ def summary_by_workers(binary, words, image):
     return asked(binary, ['replay', '--write', 'summary'], trace)
 
 
+def verdict_of(binary, claim):
+    """What the program's audit says of a claim in a line: sound, how it differs, or why it is refused."""
+    try:
+        ran = called(binary, ['audit'], claim)
+    except ProgramError as error:
+        raise SweepError(str(error)) from error
+    said = ran.out.decode(errors='replace').strip() or ran.line()
+    return f'{said} (status {ran.status})' if ran.status else said
+
+
 def words_of(options, nodes):
     """The words of a run on so many nodes. The seed of a run by workers is the number of a try, and that of a timed run is of its waits."""
     way = way_of(options)
