@@ -1,5 +1,4 @@
 """What the questions of docs/PAPERS.md share: runs by time that are kept, the cells of tables, and statements that say whether they hold."""
-import re
 from collections import namedtuple
 from concurrent.futures import ThreadPoolExecutor
 from dataclasses import dataclass, field, replace
@@ -16,7 +15,6 @@ OPTIONS = options_of('run', times.TURNING)
 COSTS = {name: int(OPTIONS[name]['default']) for name in times.COSTS}
 LIMIT = OPTIONS['limit']['last']
 MESHES = {4: (2, 2), 16: (4, 4), 64: (8, 8)}
-MARKED = re.compile(r'(<!-- (\w+) -->\n).*?(<!-- end -->)', re.S)
 SOUND = 'sound'
 KERNELS = cross.ROOT / 'examples' / 'c' / 'kernels'
 # What a question is answered with: blocks of the document by their names, pictures by theirs, what the tables were made of, and the rows of the main
@@ -175,10 +173,3 @@ def wrapped(text, width=118):
             line = ' '
         line += f' {word}'
     return '\n'.join([*made, line]) + '\n'
-
-
-def document(text, blocks):
-    """The document with each block between its marks, and the other blocks as they are."""
-    if missing := set(blocks) - {match[2] for match in MARKED.finditer(text)}:
-        raise runs.SweepError(f'the document has no block {min(missing)}')
-    return MARKED.sub(lambda match: match[1] + blocks[match[2]] + match[3] if match[2] in blocks else match[0], text)

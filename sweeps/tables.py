@@ -1,10 +1,13 @@
-"""What a gathered sweep says: medians, quartiles and ends of a count for each value of a column, as a table."""
+"""What a gathered sweep says: medians, quartiles and ends of a count for each value of a column, as a table; and where tables stand in a document."""
 import math
+import re
 import statistics
 from dataclasses import dataclass
 
 import runs
 import times
+
+MARKED = re.compile(r'(<!-- (\w+) -->\n).*?(<!-- end -->)', re.S)
 
 
 @dataclass(frozen=True)
@@ -157,3 +160,14 @@ def table(groups, by, series, columns, per=None, by_ends=False):
         each = [column[at] for column in cells]
         lines.append([*values, str(len(group)), str(halted), *(cell(s, by_ends) for s in each)])
     return ''.join('| ' + ' | '.join(line) + ' |\n' for line in lines)
+
+
+# ---- a document
+
+
+def document(text, blocks, is_part):
+    """The document with each block between its marks; what else stands between marks stays, where this is a part of it."""
+    marked = {match[2] for match in MARKED.finditer(text)}
+    if differing := set(blocks) - marked or (set() if is_part else marked - set(blocks)):
+        raise runs.SweepError(f'the document and the script differ on the blocks {", ".join(sorted(differing))}')
+    return MARKED.sub(lambda match: match[1] + blocks[match[2]] + match[3] if match[2] in blocks else match[0], text)
