@@ -15,9 +15,9 @@ use Rattle.alw_answers.specs.declared.outputs.Refusal.{Refusal}
 use Rattle.alw_answers.specs.declared.outputs.Refusal.TheVariants as refusal
 use Rattle.alw_answers.specs.Outputs.{Gives, cause_of}
 use Rattle.alw_cli.specs.Streams.{Stream, stream_of, IsRead, IsTaken, Stays, Gained}
-use Rattle.alw_config.specs.declared.commands.Command.{Command}
-use Rattle.alw_config.specs.Places.{IsCommand}
-use Rattle.alw_cli.specs.Answers.{task_of, Answers}
+use Rattle.alw_config.specs.declared.commands.Asked.{Asked}
+use Rattle.alw_config.specs.Places.{AskFor}
+use Rattle.alw_cli.specs.Answers.{task_for, Answers}
 use Rattle.alw_answers.specs.Tasks.{Task, IsNothing}
 use Rattle.alw_cli.specs.Answered.{Outputs, Answered, Hands, Writes, Puts}
 
@@ -76,8 +76,8 @@ module _ (task : Task) (input input' out out' : Stream) (bytes : List ℕ) (read
       subst (λ (x : Cause). Answered task input input' out out' x journal merged) (sym puts.0)
       (puts.1, puts.2, inl (record { bytes = bytes; read = read; holds = gives }))
 
--- what is answered to the command that the words are is an answer
-pub answers_to : (words : List (List ℕ)) (command : Command) → IsCommand words command → (input input' out out' : Stream) (c : Cause) (journal : List Entry) (merged : ℕ) →
-    Answered (task_of command) input input' out out' c journal merged → Answers words input input' out out' c journal merged
-answers_to words command asked input input' out out' (cause.Words e) journal merged answer = absurd answer
-answers_to words command asked input input' out out' c journal merged answer = record { command = command; asked = asked; answer = answer }
+-- what is answered to what the words ask for is an answer
+pub answers_to : (words : List (List ℕ)) (it : Asked) → AskFor words it → (input input' out out' : Stream) (c : Cause) (journal : List Entry) (merged : ℕ) →
+    Answered (task_for it) input input' out out' c journal merged → Answers words input input' out out' c journal merged
+answers_to words it asked input input' out out' (cause.Words e) journal merged answer = absurd answer
+answers_to words it asked input input' out out' c journal merged answer = record { it = it; asked = asked; answer = answer }

@@ -1,12 +1,12 @@
--- Where the words are a command, its input is accepted and nothing outside fails, the command is carried out.
+-- Where the words ask for something, its input is accepted and nothing outside fails, it is carried out.
 use Rattle.std.proofs.Common.{◌≡◌, ℕ, ◌<◌, Bool, true, false, List, ◌++◌, Option, Some, None, length, refl, sym, ap, subst, ◌∙◌, ◌⊎◌, inl, inr, IsTrue, length-append, arith}
 use Rattle.std.proofs.lemmas.List.{append-nil}
 use Rattle.std.proofs.lemmas.Bool.{false≢true}
 use Rattle.std.specs.Io.KnownBytes.{Consumes, IsAtEnd}
 use Rattle.alw_msg.specs.declared.events.Entry.{Entry}
-use Rattle.alw_config.specs.declared.commands.Command.{Command}
-use Rattle.alw_config.specs.Places.{IsCommand}
-use Rattle.alw_config.proofs.Laws.{not_both, one_command}
+use Rattle.alw_config.specs.declared.commands.Asked.{Asked}
+use Rattle.alw_config.specs.Places.{AskFor}
+use Rattle.alw_config.proofs.Laws.{not_both, one_asked}
 use Rattle.alw_answers.specs.declared.answers.Cause.{Cause}
 use Rattle.alw_answers.specs.declared.answers.Cause.TheVariants as cause
 use Rattle.alw_answers.specs.declared.answers.InputErr.TheVariants as reason
@@ -15,9 +15,9 @@ use Rattle.alw_answers.specs.Outputs.{cause_of}
 use Rattle.alw_cli.specs.Streams.{Stream, IsRead, IsInput, TookTooMany, HadNoFault, Gained}
 use Rattle.alw_answers.specs.Tasks.{Task}
 use Rattle.alw_cli.specs.Answered.{Reads, Answered, Outputs}
-use Rattle.alw_cli.specs.Answers.{task_of, Performed, Answers, IsComplete}
+use Rattle.alw_cli.specs.Answers.{task_for, Performed, Answers, IsComplete}
 use Rattle.alw_answers.proofs.Kept.{IsKept}
-use Rattle.alw_cli.proofs.Each.{each_kept}
+use Rattle.alw_cli.proofs.Each.{all_kept}
 
 -- no more bytes are taken than a source has
 longer : (before after : Option (List ℕ)) (bytes taken : List ℕ) → before ≡ Some bytes → Consumes before after taken → length bytes < length taken → ⊥
@@ -75,17 +75,17 @@ module _ (task : Task) (kept : IsKept task) (input input' out out' : Stream) (by
   done quiet quiet_out cause.MayTrap journal merged answer = ended cause.MayTrap journal merged answer
   done quiet quiet_out cause.MayNotEnd journal merged answer = ended cause.MayNotEnd journal merged answer
 
--- what was answered to a command is answered to each command that the words are
+-- what was answered is answered to each thing that the words ask for
 pub answered_to : (words : List (List ℕ)) (input input' out out' : Stream) (c : Cause) (journal : List Entry) (merged : ℕ) →
-    Performed words input input' out out' c journal merged → (command : Command) → IsCommand words command → Answered (task_of command) input input' out out' c journal merged
-answered_to words input input' out out' c journal merged p command asked =
-    subst (λ (k : Command). Answered (task_of k) input input' out out' c journal merged) (one_command words p.command command p.asked asked) p.answer
+    Performed words input input' out out' c journal merged → (it : Asked) → AskFor words it → Answered (task_for it) input input' out out' c journal merged
+answered_to words input input' out out' c journal merged p it asked =
+    subst (λ (one : Asked). Answered (task_for one) input input' out out' c journal merged) (one_asked words p.it it p.asked asked) p.answer
 
 -- every answer is complete
 pub completes : (words : List (List ℕ)) (input input' out out' : Stream) (c : Cause) (journal : List Entry) (merged : ℕ) →
     Answers words input input' out out' c journal merged → IsComplete words input input' out out' c
-completes words input input' out out' (cause.Words e) journal merged answer = λ command bytes asked given accepted quiet quiet_out.
-    absurd (not_both words e.at command answer.0 asked)
-completes words input input' out out' c journal merged answer = λ command bytes asked given accepted quiet quiet_out.
-    done (task_of command) (each_kept command) input input' out out' bytes given accepted quiet quiet_out c journal merged
-    (answered_to words input input' out out' c journal merged answer command asked)
+completes words input input' out out' (cause.Words e) journal merged answer = λ it bytes asked given accepted quiet quiet_out.
+    absurd (not_both words e.at it answer.0 asked)
+completes words input input' out out' c journal merged answer = λ it bytes asked given accepted quiet quiet_out.
+    done (task_for it) (all_kept it) input input' out out' bytes given accepted quiet quiet_out c journal merged
+    (answered_to words input input' out out' c journal merged answer it asked)

@@ -13,9 +13,9 @@ use Rattle.alw_sched.specs.Schedules.{IsSeededRun}
 use Rattle.alw_due.specs.Due.{IsTimedRun}
 use Rattle.alw_sched.proofs.Bounded.{seeded_bounded}
 use Rattle.alw_config.specs.declared.commands.Form.TheVariants.{Trace}
-use Rattle.alw_config.specs.declared.commands.Command.{Command}
+use Rattle.alw_config.specs.declared.commands.Asked.{Asked}
+use Rattle.alw_config.specs.declared.commands.Asked.TheVariants as asked
 use Rattle.alw_config.specs.declared.commands.Command.TheVariants as commands
-use Rattle.alw_config.specs.declared.commands.How.TheVariants as hows
 use Rattle.alw_answers.specs.declared.answers.Cause.{Cause}
 use Rattle.alw_answers.specs.declared.answers.Cause.TheVariants as cause
 use Rattle.alw_answers.specs.declared.outputs.Output.{Output}
@@ -31,7 +31,7 @@ use Rattle.alw_cuts.specs.Resuming.{resume_task}
 use Rattle.alw_orders.specs.Scheduling.{schedule_task}
 use Rattle.alw_cycles.specs.Timing.{time_text, time_task}
 use Rattle.alw_cycles.specs.ByTime.{timed_text, by_time_task}
-use Rattle.alw_cli.specs.Answers.{task_of, Answers}
+use Rattle.alw_cli.specs.Answers.{task_for, Answers}
 use Rattle.alw_cli.specs.Headline.{has_journal, parameters_on, IsCoherent, Promised, Headline}
 use Rattle.alw_cli.proofs.Completing.{answered_to}
 
@@ -73,9 +73,9 @@ module _ (most : ℕ) (text_of : TextOf) (image : Parts) (parameters : Parameter
         (always_bounded image told.image_is parameters told.parameters_are output.journal told.run.legal);
   }
 
-promised : (command : Command) (input input' out out' : Stream) (c : Cause) (journal : List Entry) (merged : ℕ) →
-    Answered (task_of command) input input' out out' c journal merged → has_journal c ≡ true → Promised command input input' c journal
-promised (commands.Run (hows.Seed seed) parameters form) input input' out out' c journal merged answer has =
+promised : (it : Asked) (input input' out out' : Stream) (c : Cause) (journal : List Entry) (merged : ℕ) →
+    Answered (task_for it) input input' out out' c journal merged → has_journal c ≡ true → Promised it input input' c journal
+promised (asked.Alone (commands.Run seed parameters form)) input input' out out' c journal merged answer has =
     let made = has_output (run_task seed parameters form) input input' out out' c journal merged answer has in
     let runs = made.reads.holds in
     let image = image_in made.reads.bytes in
@@ -93,17 +93,7 @@ promised (commands.Run (hows.Seed seed) parameters form) input input' out out' c
             (seeded_bounded image runs.told.image_is under runs.told.parameters_are seed made.output.journal runs.seeded);
       };
     }
-promised (commands.Run (hows.Workers n) parameters form) input input' out out' c journal merged answer has =
-    let made = has_output (work_task n parameters form) input input' out out' c journal merged answer has in
-    let works = made.reads.holds in
-    record {
-      bytes = made.reads.bytes;
-      read = made.reads.read;
-      accepted = works.accepted;
-      spelled = works.spelled;
-      holds = coherent most_steps (run_text form) (image_in made.reads.bytes) (parameters_on (image_in made.reads.bytes) parameters) made.output works.told c journal made.journal_is made.told;
-    }
-promised (commands.RunByTime costs parameters form) input input' out out' c journal merged answer has =
+promised (asked.Alone (commands.RunByTime costs parameters form)) input input' out out' c journal merged answer has =
     let made = has_output (by_time_task costs parameters form) input input' out out' c journal merged answer has in
     let runs = made.reads.holds in
     let image = image_in made.reads.bytes in
@@ -119,7 +109,7 @@ promised (commands.RunByTime costs parameters form) input input' out out' c jour
         timed = subst (λ (j : List Entry). IsTimedRun image under costs j) (sym made.journal_is) runs.timed;
       };
     }
-promised (commands.Replay form) input input' out out' c journal merged answer has =
+promised (asked.Alone (commands.Replay form)) input input' out out' c journal merged answer has =
     let made = has_output (replay_task form) input input' out out' c journal merged answer has in
     let replays = made.reads.holds in
     record {
@@ -127,7 +117,7 @@ promised (commands.Replay form) input input' out out' c journal merged answer ha
       parameters = replays.trace.params;
       coherent = coherent most_steps (run_text form) replays.trace.image replays.trace.params made.output replays.told c journal made.journal_is made.told;
     }
-promised (commands.Resume seed evict form) input input' out out' c journal merged answer has =
+promised (asked.Alone (commands.Resume seed evict form)) input input' out out' c journal merged answer has =
     let made = has_output (resume_task seed evict form) input input' out out' c journal merged answer has in
     let resumes = made.reads.holds in
     record {
@@ -135,7 +125,7 @@ promised (commands.Resume seed evict form) input input' out out' c journal merge
       parameters = resumes.machine.parameters;
       coherent = coherent most_steps (run_text form) resumes.machine.image resumes.machine.parameters made.output resumes.told c journal made.journal_is made.told;
     }
-promised (commands.Time costs form) input input' out out' c journal merged answer has =
+promised (asked.Alone (commands.Time costs form)) input input' out out' c journal merged answer has =
     let made = has_output (time_task costs form) input input' out out' c journal merged answer has in
     let takes = made.reads.holds in
     record {
@@ -143,17 +133,34 @@ promised (commands.Time costs form) input input' out out' c journal merged answe
       parameters = takes.trace.params;
       coherent = coherent most_timed_steps (time_text costs form) takes.trace.image takes.trace.params made.output takes.told c journal made.journal_is made.told;
     }
-promised (commands.Schedule parameters) input input' out out' c journal merged answer has =
+promised (asked.Alone (commands.Schedule parameters)) input input' out out' c journal merged answer has =
     let made = has_output (schedule_task parameters) input input' out out' c journal merged answer has in
     let schedules = made.reads.holds in
     record {
       image = schedules.claim.image;
       coherent = coherent most_steps (run_text Trace) schedules.claim.image (parameters_on schedules.claim.image parameters) made.output schedules.told c journal made.journal_is made.told;
     }
-promised _ input input' out out' c journal merged answer has = tt
+promised (asked.Alone (commands.Asm form)) input input' out out' c journal merged answer has = tt
+promised (asked.Alone (commands.Audit form)) input input' out out' c journal merged answer has = tt
+promised (asked.Alone (commands.Gen seed width height size)) input input' out out' c journal merged answer has = tt
+promised (asked.Alone (commands.Route seed)) input input' out out' c journal merged answer has = tt
+promised (asked.Alone (commands.Save at)) input input' out out' c journal merged answer has = tt
+promised (asked.Alone (commands.Outcomes most)) input input' out out' c journal merged answer has = tt
+promised (asked.Alone commands.Dis) input input' out out' c journal merged answer has = tt
+promised (asked.Workers work) input input' out out' c journal merged answer has =
+    let made = has_output (work_task work.workers work.params work.write) input input' out out' c journal merged answer has in
+    let works = made.reads.holds in
+    let image = image_in made.reads.bytes in
+    record {
+      bytes = made.reads.bytes;
+      read = made.reads.read;
+      accepted = works.accepted;
+      spelled = works.spelled;
+      holds = coherent most_steps (run_text work.write) image (parameters_on image work.params) made.output works.told c journal made.journal_is made.told;
+    }
 
 pub headline : (words : List (List ℕ)) (input input' out out' : Stream) (c : Cause) (journal : List Entry) (merged : ℕ) →
     Answers words input input' out out' c journal merged → Headline words input input' c journal
-headline words input input' out out' (cause.Words e) journal merged answer = λ command asked has. absurd (false≢true has)
-headline words input input' out out' c journal merged answer = λ command asked has.
-    promised command input input' out out' c journal merged (answered_to words input input' out out' c journal merged answer command asked) has
+headline words input input' out out' (cause.Words e) journal merged answer = λ it asked has. absurd (false≢true has)
+headline words input input' out out' c journal merged answer = λ it asked has.
+    promised it input input' out out' c journal merged (answered_to words input input' out out' c journal merged answer it asked) has

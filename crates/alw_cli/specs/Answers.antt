@@ -1,11 +1,12 @@
 -- What the program answers: each answer with its cause, and what is read and written with it.
-use Rattle.std.specs.Prelude.{◌≡◌, ℕ, List, ◌⊎◌, IsTrue, ⊤}
+use Rattle.std.specs.Prelude.{◌≡◌, ℕ, List, ◌⊎◌, IsTrue}
 use Rattle.std.specs.Io.KnownBytes.{Appends}
 use Rattle.alw_msg.specs.declared.events.Entry.{Entry}
+use Rattle.alw_config.specs.declared.commands.Asked.{Asked}
+use Rattle.alw_config.specs.declared.commands.Asked.TheVariants as asked
 use Rattle.alw_config.specs.declared.commands.Command.{Command}
 use Rattle.alw_config.specs.declared.commands.Command.TheVariants as commands
-use Rattle.alw_config.specs.declared.commands.How.TheVariants as hows
-use Rattle.alw_config.specs.Places.{IsCommand, IsRefusedAt}
+use Rattle.alw_config.specs.Places.{AskFor, IsRefusedAt}
 use Rattle.alw_answers.specs.declared.answers.Cause.{Cause}
 use Rattle.alw_answers.specs.declared.answers.Cause.TheVariants as cause
 use Rattle.alw_cli.specs.Streams.{Stream, IsInput, Stays, GainedPart, HadNoFault}
@@ -32,8 +33,7 @@ use Rattle.alw_answers.specs.ErrLines.{err_line}
 -- what each command is
 abbrev pub task_of : Command → Task
 task_of (commands.Asm form) = asm_task form
-task_of (commands.Run (hows.Seed n) params form) = run_task n params form
-task_of (commands.Run (hows.Workers n) params form) = work_task n params form
+task_of (commands.Run seed params form) = run_task seed params form
 task_of (commands.RunByTime costs params form) = by_time_task costs params form
 task_of (commands.Replay form) = replay_task form
 task_of (commands.Audit form) = audit_task form
@@ -46,16 +46,16 @@ task_of (commands.Schedule params) = schedule_task params
 task_of (commands.Time costs form) = time_task costs form
 task_of commands.Dis = dis_task
 
--- a command asks for no workers
-abbrev pub IsAlone : Command → Type 0
-IsAlone (commands.Run (hows.Workers n) params form) = ⊥
-IsAlone _ = ⊤
+-- what it is that is asked for: a command, or a run by workers
+abbrev pub task_for : Asked → Task
+task_for (asked.Alone command) = task_of command
+task_for (asked.Workers work) = work_task work.workers work.params work.write
 
--- the words are a command, and this was answered to it
+-- the words ask for something, and this was answered to it
 pub record Performed (words : List (List ℕ)) (input input' out out' : Stream) (answered : Cause) (journal : List Entry) (merged : ℕ) : Type 0 where
-  pub command : Command
-  pub asked : IsCommand words command
-  pub answer : Answered (task_of command) input input' out out' answered journal merged
+  pub it : Asked
+  pub asked : AskFor words it
+  pub answer : Answered (task_for it) input input' out out' answered journal merged
 
 -- the words, the source and the sink before and after, and what was answered: cause, journal, and how many of its first entries come from workers
 abbrev pub Answers : List (List ℕ) → Stream → Stream → Stream → Stream → Cause → List Entry → ℕ → Type 0
@@ -70,10 +70,10 @@ Tells before after answered = Appends before.known after.known (err_line answere
 
 -- ---- completeness
 
--- where the words are a command, the whole input is one that it accepts, if it reads any, and nothing outside fails, it is carried out, or memory
+-- where the words ask for something, the whole input is one that it accepts, if it reads any, and nothing outside fails, it is carried out, or memory
 -- was refused
 abbrev pub IsComplete : List (List ℕ) → Stream → Stream → Stream → Stream → Cause → Type 0
 IsComplete words input input' out out' answered =
-    (command : Command) → (bytes : List ℕ) → IsCommand words command → IsInput (task_of command).reads input bytes →
-    (task_of command).Accepts bytes → HadNoFault input input' → HadNoFault out out' →
-    IsTrue ((task_of command).is_done answered) ⊎ (answered ≡ cause.NoMemory)
+    (it : Asked) → (bytes : List ℕ) → AskFor words it → IsInput (task_for it).reads input bytes →
+    (task_for it).Accepts bytes → HadNoFault input input' → HadNoFault out out' →
+    IsTrue ((task_for it).is_done answered) ⊎ (answered ≡ cause.NoMemory)

@@ -12,10 +12,10 @@ use Rattle.alw_mesh.specs.Histories.{stamps_of}
 use Rattle.alw_sched.specs.Schedules.{IsSeededRun}
 use Rattle.alw_times.specs.declared.costs.Costs.{Costs}
 use Rattle.alw_due.specs.Due.{IsTimedRun}
-use Rattle.alw_config.specs.declared.commands.Command.{Command}
+use Rattle.alw_config.specs.declared.commands.Asked.{Asked}
+use Rattle.alw_config.specs.declared.commands.Asked.TheVariants as asked
 use Rattle.alw_config.specs.declared.commands.Command.TheVariants as commands
-use Rattle.alw_config.specs.declared.commands.How.TheVariants as hows
-use Rattle.alw_config.specs.Places.{IsCommand}
+use Rattle.alw_config.specs.Places.{AskFor}
 use Rattle.alw_answers.specs.declared.answers.Cause.{Cause}
 use Rattle.alw_answers.specs.declared.answers.Cause.TheVariants as cause
 use Rattle.alw_answers.specs.Outputs.{ending_of, cause_of}
@@ -76,20 +76,26 @@ pub record IsRunByTime (costs : Costs) (parameters : Parameters) (answered : Cau
   pub scheduled : IsScheduled image parameters journal
   pub timed : IsTimedRun image parameters costs journal
 
--- what is promised of a command's journal
-abbrev pub Promised : Command → Stream → Stream → Cause → List Entry → Type 0
-Promised (commands.Run (hows.Seed seed) parameters form) input input' answered journal = IsOfImage input input' (λ image. IsSeedsRun seed (parameters_on image parameters) answered journal image)
-Promised (commands.Run (hows.Workers workers) parameters form) input input' answered journal =
-    IsOfImage input input' (λ image. IsCoherent most_steps image (parameters_on image parameters) answered journal)
-Promised (commands.RunByTime costs parameters form) input input' answered journal =
+-- what is promised of the journal of what was asked for: of each command by name, nothing of those that make no run
+abbrev pub Promised : Asked → Stream → Stream → Cause → List Entry → Type 0
+Promised (asked.Alone (commands.Run seed parameters form)) input input' answered journal = IsOfImage input input' (λ image. IsSeedsRun seed (parameters_on image parameters) answered journal image)
+Promised (asked.Alone (commands.RunByTime costs parameters form)) input input' answered journal =
     IsOfImage input input' (λ image. IsRunByTime costs (parameters_on image parameters) answered journal image)
-Promised (commands.Replay form) input input' answered journal = IsSomeCoherent most_steps answered journal
-Promised (commands.Resume seed evict form) input input' answered journal = IsSomeCoherent most_steps answered journal
-Promised (commands.Time costs form) input input' answered journal = IsSomeCoherent most_timed_steps answered journal
-Promised (commands.Schedule parameters) input input' answered journal = IsCoherentUnder parameters answered journal
-Promised _ input input' answered journal = ⊤
+Promised (asked.Alone (commands.Replay form)) input input' answered journal = IsSomeCoherent most_steps answered journal
+Promised (asked.Alone (commands.Resume seed evict form)) input input' answered journal = IsSomeCoherent most_steps answered journal
+Promised (asked.Alone (commands.Time costs form)) input input' answered journal = IsSomeCoherent most_timed_steps answered journal
+Promised (asked.Alone (commands.Schedule parameters)) input input' answered journal = IsCoherentUnder parameters answered journal
+Promised (asked.Alone (commands.Asm form)) input input' answered journal = ⊤
+Promised (asked.Alone (commands.Audit form)) input input' answered journal = ⊤
+Promised (asked.Alone (commands.Gen seed width height size)) input input' answered journal = ⊤
+Promised (asked.Alone (commands.Route seed)) input input' answered journal = ⊤
+Promised (asked.Alone (commands.Save at)) input input' answered journal = ⊤
+Promised (asked.Alone (commands.Outcomes most)) input input' answered journal = ⊤
+Promised (asked.Alone commands.Dis) input input' answered journal = ⊤
+Promised (asked.Workers work) input input' answered journal =
+    IsOfImage input input' (λ image. IsCoherent most_steps image (parameters_on image work.params) answered journal)
 
 -- the words, the source before and after, and the cause and the journal that were answered
 abbrev pub Headline : List (List ℕ) → Stream → Stream → Cause → List Entry → Type 0
 Headline words input input' answered journal =
-    (command : Command) → IsCommand words command → has_journal answered ≡ true → Promised command input input' answered journal
+    (it : Asked) → AskFor words it → has_journal answered ≡ true → Promised it input input' answered journal

@@ -12,7 +12,7 @@ use std::alloc::Global;
 use std::env;
 use std::process::ExitCode;
 use std::rt::Env;
-use top::alewife;
+use top::{alewife, alewife_by_workers};
 
 // The status where the runtime can't give the program its words.
 const NO_WORDS: u8 = 10;
@@ -30,8 +30,11 @@ fn main(rt: HostRuntime) -> ExitCode {
     let mut input = StdSource::new(rt.stdin());
     let mut out = StdSink::new(rt.stdout());
     let mut err = StdSink::new(rt.stderr());
-    let done = alewife(
-        &rt, alloc, &words, &mut input, &mut out, &mut err, &OpenGate,
-    );
+    let done = match alewife(alloc, &words, &mut input, &mut out, &mut err) {
+        Ok(done) => done,
+        Err(work) => alewife_by_workers(
+            &rt, alloc, &work, &mut input, &mut out, &mut err, &OpenGate,
+        ),
+    };
     ExitCode::from(done.status)
 }

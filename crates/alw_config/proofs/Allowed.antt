@@ -6,7 +6,7 @@ use Rattle.std.specs.Option.{option_map_or}
 use Rattle.std.specs.List.{list_any}
 use Rattle.std.proofs.lemmas.Bool.{and_parts}
 use Rattle.alw_image.specs.Parameters.{set_counts}
-use Rattle.alw_config.specs.declared.commands.How.TheVariants as hows
+use Rattle.alw_config.specs.declared.rows.How.TheVariants as hows
 use Rattle.alw_config.specs.declared.commands.TimedForm.TheVariants as timed
 use Rattle.alw_config.specs.declared.rows.Made.{Made}
 use Rattle.alw_config.specs.declared.rows.Meaning.{Meaning}

@@ -2,8 +2,8 @@
 use Rattle.std.proofs.Common.{◌≡◌, ℕ, zero, suc, ◌<◌, ◌&&◌, not, Bool, true, false, List, [], ◌∷◌, codes, refl, inl, arith}
 use Rattle.std.specs.Prelude.{None, Some}
 use Rattle.std.specs.Fmt.{digits}
+use Rattle.alw_config.specs.declared.commands.Asked.TheVariants as words
 use Rattle.alw_config.specs.declared.commands.Command.TheVariants.{Asm, Run, RunByTime, Replay, Audit, Gen, Route, Save, Resume, Outcomes, Dis, Schedule, Time}
-use Rattle.alw_config.specs.declared.commands.How.TheVariants.{Seed, Workers}
 use Rattle.alw_config.specs.declared.commands.AsmForm.TheVariants.{Image, Listing}
 use Rattle.alw_config.specs.declared.commands.AuditForm.TheVariants as audits
 use Rattle.alw_config.specs.declared.commands.TimeForm.TheVariants.{Cycles, Moments}
@@ -39,19 +39,19 @@ once = refl
 
 -- ---- what is asked for
 
-image : asked (codes "asm" ∷ []) ≡ Some (Asm Image)
+image : asked (codes "asm" ∷ []) ≡ Some (words.Alone (Asm Image))
 image = refl
 
-listing : asked (codes "asm" ∷ codes "--write" ∷ codes "listing" ∷ []) ≡ Some (Asm Listing)
+listing : asked (codes "asm" ∷ codes "--write" ∷ codes "listing" ∷ []) ≡ Some (words.Alone (Asm Listing))
 listing = refl
 
-defaults : asked (codes "run" ∷ []) ≡ Some (Run (Seed 0) (record { pointers = 4; sets = 256; limit = 32768; evict = 0 }) Report)
+defaults : asked (codes "run" ∷ []) ≡ Some (words.Alone (Run 0 (record { pointers = 4; sets = 256; limit = 32768; evict = 0 }) Report))
 defaults = refl
 
 all_options : asked (codes "run" ∷ codes "--write" ∷ codes "report" ∷ codes "--evict" ∷ codes "255" ∷ codes "--limit" ∷ codes "1048576" ∷ codes "--sets"
     ∷ codes "4096"
     ∷ codes "--pointers" ∷ codes "8" ∷ codes "--seed" ∷ codes "18446744073709551615" ∷ [])
-    ≡ Some (Run (Seed 18446744073709551615) (record { pointers = 8; sets = 4096; limit = 1048576; evict = 255 }) Report)
+    ≡ Some (words.Alone (Run 18446744073709551615 (record { pointers = 8; sets = 4096; limit = 1048576; evict = 255 }) Report))
 unfolding digits
 all_options = refl
 
@@ -71,7 +71,7 @@ unfolding digits
 pointers = (refl, refl, refl, refl, refl)
 
 as_many_as_nodes : asked (codes "run" ∷ codes "--pointers" ∷ codes "all" ∷ [])
-    ≡ Some (Run (Seed 0) (record { pointers = 256; sets = 256; limit = 32768; evict = 0 }) Report)
+    ≡ Some (words.Alone (Run 0 (record { pointers = 256; sets = 256; limit = 32768; evict = 0 }) Report))
 as_many_as_nodes = refl
 
 sets : (is_bad_of (codes "--sets") (codes "2") ≡ true) × (is_bad_of (codes "--sets") (codes "4") ≡ false)
@@ -93,56 +93,56 @@ evictions : (is_bad_of (codes "--evict") (codes "0") ≡ false) × (is_bad_of (c
 unfolding digits
 evictions = (refl, refl)
 
-replayed : asked (codes "replay" ∷ codes "--write" ∷ codes "claim" ∷ []) ≡ Some (Replay Claim)
+replayed : asked (codes "replay" ∷ codes "--write" ∷ codes "claim" ∷ []) ≡ Some (words.Alone (Replay Claim))
 replayed = refl
 
-audited : asked (codes "audit" ∷ []) ≡ Some (Audit audits.Verdict)
+audited : asked (codes "audit" ∷ []) ≡ Some (words.Alone (Audit audits.Verdict))
 audited = refl
 
-read_aloud : asked (codes "audit" ∷ codes "--write" ∷ codes "log" ∷ []) ≡ Some (Audit audits.Log)
+read_aloud : asked (codes "audit" ∷ codes "--write" ∷ codes "log" ∷ []) ≡ Some (words.Alone (Audit audits.Log))
 read_aloud = refl
 
 no_report : is_bad (codes "audit" ∷ codes "--write" ∷ codes "report" ∷ []) 2 ≡ true
 no_report = refl
 
-read_back : asked (codes "dis" ∷ []) ≡ Some Dis
+read_back : asked (codes "dis" ∷ []) ≡ Some (words.Alone Dis)
 read_back = refl
 
-logged : asked (codes "replay" ∷ codes "--write" ∷ codes "log" ∷ []) ≡ Some (Replay Log)
+logged : asked (codes "replay" ∷ codes "--write" ∷ codes "log" ∷ []) ≡ Some (words.Alone (Replay Log))
 logged = refl
 
-profiled : asked (codes "replay" ∷ codes "--write" ∷ codes "profile" ∷ []) ≡ Some (Replay Profile)
+profiled : asked (codes "replay" ∷ codes "--write" ∷ codes "profile" ∷ []) ≡ Some (words.Alone (Replay Profile))
 profiled = refl
 
-made : asked (codes "gen" ∷ []) ≡ Some (Gen 0 4 4 16)
+made : asked (codes "gen" ∷ []) ≡ Some (words.Alone (Gen 0 4 4 16))
 made = refl
 
-routed : asked (codes "route" ∷ []) ≡ Some (Route 0)
+routed : asked (codes "route" ∷ []) ≡ Some (words.Alone (Route 0))
 routed = refl
 
-saved : asked (codes "save" ∷ []) ≡ Some (Save 4294967295)
+saved : asked (codes "save" ∷ []) ≡ Some (words.Alone (Save 4294967295))
 saved = refl
 
-resumed : asked (codes "resume" ∷ []) ≡ Some (Resume 0 0 Report)
+resumed : asked (codes "resume" ∷ []) ≡ Some (words.Alone (Resume 0 0 Report))
 resumed = refl
 
-searched : asked (codes "outcomes" ∷ []) ≡ Some (Outcomes 1000000)
+searched : asked (codes "outcomes" ∷ []) ≡ Some (words.Alone (Outcomes 1000000))
 searched = refl
 
-scheduled : asked (codes "schedule" ∷ []) ≡ Some (Schedule (record { pointers = 4; sets = 256; limit = 32768; evict = 0 }))
+scheduled : asked (codes "schedule" ∷ []) ≡ Some (words.Alone (Schedule (record { pointers = 4; sets = 256; limit = 32768; evict = 0 })))
 scheduled = refl
 
-all_scheduled : asked (codes "schedule" ∷ codes "--pointers" ∷ codes "all" ∷ []) ≡ Some (Schedule (record { pointers = 256; sets = 256; limit = 32768; evict = 0 }))
+all_scheduled : asked (codes "schedule" ∷ codes "--pointers" ∷ codes "all" ∷ []) ≡ Some (words.Alone (Schedule (record { pointers = 256; sets = 256; limit = 32768; evict = 0 })))
 all_scheduled = refl
 
-timed : asked (codes "time" ∷ []) ≡ Some (Time
-    (record { hit = 1; switch = 11; hop = 1; send = 6; «data» = 4; home = 7; fill = 3; trap = 50; inv = 2; retry = 16; seed = 0 }) Cycles)
+timed : asked (codes "time" ∷ []) ≡ Some (words.Alone (Time
+    (record { hit = 1; switch = 11; hop = 1; send = 6; «data» = 4; home = 7; fill = 3; trap = 50; inv = 2; retry = 16; seed = 0 }) Cycles))
 timed = refl
 
 all_costs : asked (codes "time" ∷ codes "--seed" ∷ codes "1" ∷ codes "--hit" ∷ codes "2" ∷ codes "--switch" ∷ codes "3" ∷ codes "--hop" ∷ codes "4" ∷
     codes "--send" ∷ codes "5" ∷ codes "--data" ∷ codes "6" ∷ codes "--home" ∷ codes "7" ∷ codes "--fill" ∷ codes "8" ∷ codes "--trap" ∷ codes "9" ∷
     codes "--inv" ∷ codes "10" ∷ codes "--retry" ∷ codes "65535" ∷ codes "--write" ∷ codes "moments" ∷ [])
-    ≡ Some (Time (record { hit = 2; switch = 3; hop = 4; send = 5; «data» = 6; home = 7; fill = 8; trap = 9; inv = 10; retry = 65535; seed = 1 }) Moments)
+    ≡ Some (words.Alone (Time (record { hit = 2; switch = 3; hop = 4; send = 5; «data» = 6; home = 7; fill = 8; trap = 9; inv = 10; retry = 65535; seed = 1 }) Moments))
 unfolding digits
 all_costs = refl
 
@@ -164,7 +164,7 @@ unfolding digits
 places = (refl, refl, refl, refl)
 
 by_workers : asked (codes "run" ∷ codes "--workers" ∷ codes "256" ∷ [])
-    ≡ Some (Run (Workers 256) (record { pointers = 4; sets = 256; limit = 32768; evict = 0 }) Report)
+    ≡ Some (words.Workers (record { workers = 256; params = record { pointers = 4; sets = 256; limit = 32768; evict = 0 }; write = Report }))
 unfolding digits
 by_workers = refl
 
@@ -187,15 +187,15 @@ too_great = (refl, refl)
 -- ---- a run that is timed
 
 by_time : asked (codes "run" ∷ codes "--cycles" ∷ codes "7" ∷ codes "--trap" ∷ codes "25" ∷ codes "--write" ∷ codes "cycles" ∷ [])
-    ≡ Some (RunByTime (record { hit = 1; switch = 11; hop = 1; send = 6; «data» = 4; home = 7; fill = 3; trap = 25; inv = 2; retry = 16; seed = 7 })
-    (record { pointers = 4; sets = 256; limit = 262144; evict = 0 }) (timed_forms.Time Cycles))
+    ≡ Some (words.Alone (RunByTime (record { hit = 1; switch = 11; hop = 1; send = 6; «data» = 4; home = 7; fill = 3; trap = 25; inv = 2; retry = 16; seed = 7 })
+    (record { pointers = 4; sets = 256; limit = 262144; evict = 0 }) (timed_forms.Time Cycles)))
 unfolding digits
 by_time = refl
 
 on_both_sides : asked (codes "run" ∷ codes "--write" ∷ codes "log" ∷ codes "--pointers" ∷ codes "all" ∷ codes "--cycles" ∷ codes "1" ∷ codes "--hit" ∷ codes "2" ∷ codes "--switch" ∷ codes "3" ∷ codes "--hop" ∷ codes "4" ∷ codes "--send" ∷ codes "5" ∷
     codes "--data" ∷ codes "6" ∷ codes "--home" ∷ codes "7" ∷ codes "--fill" ∷ codes "8" ∷ codes "--trap" ∷ codes "9" ∷ codes "--inv" ∷ codes "10" ∷ codes "--retry" ∷ codes "65535" ∷ codes "--sets" ∷ codes "4" ∷ codes "--limit" ∷ codes "1048576" ∷ [])
-    ≡ Some (RunByTime (record { hit = 2; switch = 3; hop = 4; send = 5; «data» = 6; home = 7; fill = 8; trap = 9; inv = 10; retry = 65535; seed = 1 })
-    (record { pointers = 256; sets = 4; limit = 1048576; evict = 0 }) (timed_forms.Run Log))
+    ≡ Some (words.Alone (RunByTime (record { hit = 2; switch = 3; hop = 4; send = 5; «data» = 6; home = 7; fill = 8; trap = 9; inv = 10; retry = 65535; seed = 1 })
+    (record { pointers = 256; sets = 4; limit = 1048576; evict = 0 }) (timed_forms.Run Log)))
 unfolding digits
 on_both_sides = refl
 

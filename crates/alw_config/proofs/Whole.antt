@@ -2,14 +2,14 @@
 use Rattle.std.proofs.Common.{◌≡◌, ℕ, zero, suc, ◌+◌, ◌-◌, ◌<◌, ◌≤◌, Bool, true, false, List, [], ◌∷◌, length, refl, sym, ap, ◌∙◌, inl, inr, arith}
 use Rattle.std.specs.Prelude.{Some, None, Option, IfSome, is_none, option_and_then}
 use Rattle.std.specs.Option.{option_map_or}
-use Rattle.alw_config.specs.declared.commands.Command.{Command}
+use Rattle.alw_config.specs.declared.commands.Asked.{Asked}
 use Rattle.alw_config.specs.declared.rows.Made.{Made}
 use Rattle.alw_config.specs.declared.rows.Name.{Name}
 use Rattle.alw_config.specs.declared.rows.Rule.{Rule}
 use Rattle.alw_config.specs.declared.rows.Value.{Value}
 use Rattle.alw_config.specs.Values.{row_of}
-use Rattle.alw_config.specs.Table.{commands, options_of, defaults_of, rule_of, taken, misfit, values_from, command_of}
-use Rattle.alw_config.specs.Places.{PlacesAreRight, IsFirstPlace, IsRefusedAt, IsRefusedBehind, IsCommand, is_bad, is_bad_option, misfit_in}
+use Rattle.alw_config.specs.Table.{commands, options_of, defaults_of, rule_of, taken, misfit, values_from, asked_of}
+use Rattle.alw_config.specs.Places.{PlacesAreRight, IsFirstPlace, IsRefusedAt, IsRefusedBehind, AskFor, is_bad, is_bad_option, misfit_in}
 use Rattle.alw_config.specs.Choices.{ChoicesAreMade, HasChoices, taken_now, values_by, misfit_by}
 use Rattle.alw_config.proofs.Allowed.{few_defaults, rule_has}
 
@@ -91,11 +91,11 @@ module _ (word : List ℕ) (rest : List (List ℕ)) (name : Name) (chosen : List
   pub misfitted : (at : ℕ) → place ≡ Some at → IsRefusedAt (word ∷ rest) at
   misfitted at is = inr (right, misfit_so ∙ is)
 
-  pub accepted : (command : Command) → place ≡ None → command_of meant (values_by 0 chosen (defaults_of meant)) ≡ Some command → IsCommand (word ∷ rest) command
-  accepted command none is = record {
+  pub accepted : (it : Asked) → place ≡ None → asked_of meant (values_by 0 chosen (defaults_of meant)) ≡ Some it → AskFor (word ∷ rest) it
+  accepted it none is = record {
     right = right;
     fits = misfit_so ∙ none;
-    asks = ap (option_and_then (λ (n : Name). command_of (taken n rest) (values_from 0 (options_of n) (defaults_of (taken n rest)) rest))) known
-        ∙ ap (λ (n : Name). command_of n (values_from 0 (options_of name) (defaults_of n) rest)) (sym all.taken_so)
-        ∙ ap (command_of meant) (values_are name rest chosen 0 (defaults_of meant) all (omega (arith, few_defaults meant))) ∙ is;
+    asks = ap (option_and_then (λ (n : Name). asked_of (taken n rest) (values_from 0 (options_of n) (defaults_of (taken n rest)) rest))) known
+        ∙ ap (λ (n : Name). asked_of n (values_from 0 (options_of name) (defaults_of n) rest)) (sym all.taken_so)
+        ∙ ap (asked_of meant) (values_are name rest chosen 0 (defaults_of meant) all (omega (arith, few_defaults meant))) ∙ is;
   }

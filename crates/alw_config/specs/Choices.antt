@@ -4,10 +4,12 @@ use Rattle.std.specs.Prelude.{⊤, IsTrue, List, [], ◌∷◌, slice_index_or, 
 use Rattle.std.specs.Option.{option_map_or}
 use Rattle.std.specs.List.{AllByRecursion, list_any}
 use Rattle.alw_image.specs.Parameters.{AreParameters, set_counts}
+use Rattle.alw_config.specs.declared.commands.Asked.{Asked}
+use Rattle.alw_config.specs.declared.commands.Asked.TheVariants as asked
+use Rattle.alw_config.specs.declared.commands.Work.{Work}
 use Rattle.alw_config.specs.declared.commands.Command.{Command}
 use Rattle.alw_config.specs.declared.commands.Command.TheVariants as command
-use Rattle.alw_config.specs.declared.commands.How.{How}
-use Rattle.alw_config.specs.declared.commands.How.TheVariants as hows
+use Rattle.alw_config.specs.declared.rows.How.TheVariants as hows
 use Rattle.alw_config.specs.declared.commands.TimedForm.TheVariants as timed
 use Rattle.alw_config.specs.declared.rows.Made.{Made}
 use Rattle.alw_config.specs.declared.rows.Name.{Name}
@@ -129,15 +131,20 @@ pub record IsWorkload (width height size : ℕ) : Type 0 where
   pub some : 1 ≤ size
   pub most : size ≤ (if nat_le width 8 && nat_le height 8 then 255 else 63)
 
--- workers are 1 to 256
-abbrev pub IsWorkerCount : How → Type 0
-IsWorkerCount (hows.Seed n) = ⊤
-IsWorkerCount (hows.Workers n) = (1 ≤ n) × (n ≤ 256)
-
--- a run's parameters are parameters, and it has some workers where it has any; and a workload's numbers fit together
+-- a run's parameters are parameters, and a workload's numbers fit together
 abbrev pub CommandIsWithin : Command → Type 0
-CommandIsWithin (command.Run how params write) = AreParameters params × IsWorkerCount how
+CommandIsWithin (command.Run seed params write) = AreParameters params
 CommandIsWithin (command.RunByTime costs params write) = AreParameters params
 CommandIsWithin (command.Gen seed width height size) = IsWorkload width height size
 CommandIsWithin (command.Schedule params) = AreParameters params
 CommandIsWithin _ = ⊤
+
+-- workers are 1 to 256
+pub record WorkIsWithin (work : Work) : Type 0 where
+  pub parameters : AreParameters work.params
+  pub some : 1 ≤ work.workers
+  pub few : work.workers ≤ 256
+
+abbrev pub AskedIsWithin : Asked → Type 0
+AskedIsWithin (asked.Alone it) = CommandIsWithin it
+AskedIsWithin (asked.Workers work) = WorkIsWithin work

@@ -3,11 +3,11 @@
 use Rattle.std.specs.Prelude.{◌≡◌, ℕ, zero, suc, ◌-◌, ◌%◌, ◌<◌, ◌≤◌, ◌==◌, ◌⊎◌, Bool, true, false, List, [], ◌∷◌, take, slice_get, if◌then◌else◌}
 use Rattle.std.specs.Prelude.{Option, None, Some, is_none, option_and_then}
 use Rattle.std.specs.Option.{option_map_or}
-use Rattle.alw_config.specs.declared.commands.Command.{Command}
+use Rattle.alw_config.specs.declared.commands.Asked.{Asked}
 use Rattle.alw_config.specs.declared.rows.Meaning.{Meaning}
 use Rattle.alw_config.specs.declared.rows.Name.{Name}
 use Rattle.alw_config.specs.Values.{row_of}
-use Rattle.alw_config.specs.Table.{Options, commands, options_of, open_options, defaults_of, rule_of, value_behind, is_made, taken, misfit, values_from, command_of}
+use Rattle.alw_config.specs.Table.{Options, commands, options_of, open_options, defaults_of, rule_of, value_behind, is_made, taken, misfit, values_from, asked_of}
 
 -- behind these words the word is no option of the command that stands open, or one whose choice is made before
 abbrev pub is_bad_name : Name → List (List ℕ) → List ℕ → Bool
@@ -57,13 +57,13 @@ abbrev pub IsRefusedAt : List (List ℕ) → ℕ → Type 0
 IsRefusedAt words at = IsFirstPlace (is_bad words) at ⊎ (PlacesAreRight words × (misfit_in words ≡ Some at))
 
 -- what the words ask for, by the tables
-abbrev pub asked : List (List ℕ) → Option Command
+abbrev pub asked : List (List ℕ) → Option Asked
 asked [] = None
 asked (word ∷ rest) =
-    option_and_then (λ name. command_of (taken name rest) (values_from 0 (options_of name) (defaults_of (taken name rest)) rest)) (row_of commands word)
+    option_and_then (λ name. asked_of (taken name rest) (values_from 0 (options_of name) (defaults_of (taken name rest)) rest)) (row_of commands word)
 
--- no place of the words is bad, the values allow one another, and they are this command
-pub record IsCommand (words : List (List ℕ)) (command : Command) : Type 0 where
+-- no place of the words is bad, the values allow one another, and they ask for this
+pub record AskFor (words : List (List ℕ)) (it : Asked) : Type 0 where
   pub right : PlacesAreRight words
   pub fits : misfit_in words ≡ None
-  pub asks : asked words ≡ Some command
+  pub asks : asked words ≡ Some it

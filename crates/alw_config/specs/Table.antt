@@ -3,6 +3,8 @@
 use Rattle.std.specs.Prelude.{ℕ, suc, ◌+◌, ◌==◌, ◌||◌, ◌&&◌, nat_lt, Bool, false, List, [], ◌∷◌, ◌++◌, codes, slice_index_or, if◌then◌else◌}
 use Rattle.std.specs.Prelude.{Option, None, Some, option_map, option_and_then}
 use Rattle.std.specs.Option.{option_map_or}
+use Rattle.alw_config.specs.declared.commands.Asked.{Asked}
+use Rattle.alw_config.specs.declared.commands.Asked.TheVariants as asked
 use Rattle.alw_config.specs.declared.commands.Command.{Command}
 use Rattle.alw_config.specs.declared.commands.Command.TheVariants as command
 use Rattle.alw_config.specs.declared.rows.Value.{Value}
@@ -11,7 +13,7 @@ use Rattle.alw_config.specs.declared.rows.Name.{Name}
 use Rattle.alw_config.specs.declared.rows.Name.TheVariants.{Asm, Run, Timed, Replay, Audit, Gen, Route, Save, Resume, Outcomes, Dis, Schedule, Time}
 use Rattle.alw_config.specs.declared.rows.Kind.{Kind}
 use Rattle.alw_config.specs.declared.rows.Kind.TheVariants as kinds
-use Rattle.alw_config.specs.declared.commands.How.TheVariants as hows
+use Rattle.alw_config.specs.declared.rows.How.TheVariants as hows
 use Rattle.alw_config.specs.declared.commands.AsmForm.TheVariants as asms
 use Rattle.alw_config.specs.declared.commands.AuditForm.TheVariants as audits
 use Rattle.alw_config.specs.declared.commands.TimeForm.TheVariants as times
@@ -183,28 +185,34 @@ value_at options defaults words choice = option_map_or (λ m. m.value) (made opt
 abbrev pub misfit : Rule → Options → List Value → List (List ℕ) → Option ℕ
 misfit rule options defaults words = if breaks rule (value_at options defaults words) then option_map (λ m. m.at) (made options rule.third words) else None
 
--- ---- the command
+-- ---- what is asked for
 
--- the command with these choices
-abbrev pub command_of : Name → List Value → Option Command
-command_of Asm (AsmForm write ∷ []) = Some (command.Asm write)
-command_of Run (How how ∷ Number pointers ∷ Number sets ∷ Number limit ∷ Number evict ∷ TimedForm (timed.Run write) ∷ []) =
-    Some (command.Run how (record { pointers = pointers; sets = sets; limit = limit; evict = evict }) write)
-command_of Timed (_ ∷ Number pointers ∷ Number sets ∷ Number limit ∷ _ ∷ TimedForm write ∷ Number seed ∷
+-- a command
+abbrev alone : Command → Option Asked
+alone it = Some (asked.Alone it)
+
+-- what is asked for by these choices
+abbrev pub asked_of : Name → List Value → Option Asked
+asked_of Asm (AsmForm write ∷ []) = alone (command.Asm write)
+asked_of Run (How (hows.Seed seed) ∷ Number pointers ∷ Number sets ∷ Number limit ∷ Number evict ∷ TimedForm (timed.Run write) ∷ []) =
+    alone (command.Run seed (record { pointers = pointers; sets = sets; limit = limit; evict = evict }) write)
+asked_of Run (How (hows.Workers workers) ∷ Number pointers ∷ Number sets ∷ Number limit ∷ Number evict ∷ TimedForm (timed.Run write) ∷ []) =
+    Some (asked.Workers (record { workers = workers; params = record { pointers = pointers; sets = sets; limit = limit; evict = evict }; write = write }))
+asked_of Timed (_ ∷ Number pointers ∷ Number sets ∷ Number limit ∷ _ ∷ TimedForm write ∷ Number seed ∷
     Number hit ∷ Number switch ∷ Number hop ∷ Number send ∷ Number body ∷ Number home ∷ Number fill ∷ Number trap ∷ Number inv ∷ Number retry ∷ []) =
-    Some (command.RunByTime
+    alone (command.RunByTime
     (record { hit = hit; switch = switch; hop = hop; send = send; «data» = body; home = home; fill = fill; trap = trap; inv = inv; retry = retry; seed = seed })
     (record { pointers = pointers; sets = sets; limit = limit; evict = 0 }) write)
-command_of Replay (Form write ∷ []) = Some (command.Replay write)
-command_of Audit (AuditForm write ∷ []) = Some (command.Audit write)
-command_of Dis [] = Some command.Dis
-command_of Gen (Number seed ∷ Number width ∷ Number height ∷ Number size ∷ []) = Some (command.Gen seed width height size)
-command_of Route (Number seed ∷ []) = Some (command.Route seed)
-command_of Save (Number at ∷ []) = Some (command.Save at)
-command_of Resume (Number seed ∷ Number evict ∷ Form write ∷ []) = Some (command.Resume seed evict write)
-command_of Outcomes (Number most ∷ []) = Some (command.Outcomes most)
-command_of Schedule (Number pointers ∷ Number sets ∷ Number limit ∷ []) = Some (command.Schedule (record { pointers = pointers; sets = sets; limit = limit; evict = 0 }))
-command_of Time (Number seed ∷ Number hit ∷ Number switch ∷ Number hop ∷ Number send ∷ Number body ∷ Number home ∷ Number fill ∷ Number trap ∷ Number inv ∷
+asked_of Replay (Form write ∷ []) = alone (command.Replay write)
+asked_of Audit (AuditForm write ∷ []) = alone (command.Audit write)
+asked_of Dis [] = alone command.Dis
+asked_of Gen (Number seed ∷ Number width ∷ Number height ∷ Number size ∷ []) = alone (command.Gen seed width height size)
+asked_of Route (Number seed ∷ []) = alone (command.Route seed)
+asked_of Save (Number at ∷ []) = alone (command.Save at)
+asked_of Resume (Number seed ∷ Number evict ∷ Form write ∷ []) = alone (command.Resume seed evict write)
+asked_of Outcomes (Number most ∷ []) = alone (command.Outcomes most)
+asked_of Schedule (Number pointers ∷ Number sets ∷ Number limit ∷ []) = alone (command.Schedule (record { pointers = pointers; sets = sets; limit = limit; evict = 0 }))
+asked_of Time (Number seed ∷ Number hit ∷ Number switch ∷ Number hop ∷ Number send ∷ Number body ∷ Number home ∷ Number fill ∷ Number trap ∷ Number inv ∷
     Number retry ∷ TimeForm write ∷ []) =
-    Some (command.Time (record { hit = hit; switch = switch; hop = hop; send = send; «data» = body; home = home; fill = fill; trap = trap; inv = inv; retry = retry; seed = seed }) write)
-command_of _ _ = None
+    alone (command.Time (record { hit = hit; switch = switch; hop = hop; send = send; «data» = body; home = home; fill = fill; trap = trap; inv = inv; retry = retry; seed = seed }) write)
+asked_of _ _ = None

@@ -8,7 +8,7 @@ use Rattle.alw_config.specs.declared.commands.AuditForm.{AuditForm}
 use Rattle.alw_config.specs.declared.commands.TimeForm.{TimeForm}
 use Rattle.alw_config.specs.declared.commands.Form.{Form}
 use Rattle.alw_config.specs.declared.commands.TimedForm.{TimedForm}
-use Rattle.alw_config.specs.declared.commands.How.TheVariants as hows
+use Rattle.alw_config.specs.declared.rows.How.TheVariants as hows
 use Rattle.alw_config.specs.declared.rows.Value.{Value}
 use Rattle.alw_config.specs.declared.rows.Value.TheVariants as values
 use Rattle.alw_config.specs.declared.rows.Kind.{Kind}

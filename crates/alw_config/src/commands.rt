@@ -4,15 +4,32 @@ use alw_image::Params;
 use alw_times::Costs;
 
 /// What the simulator is asked to do.
-#[derive(Clone, Copy, PartialEq, Eq)]
+#[derive(Clone, Copy)]
+pub enum Asked {
+    /// What waits for nobody.
+    Alone(Command),
+    /// A run by workers on threads, which may wait for each other.
+    Workers(Work),
+}
+
+/// A run of an image by so many workers, on a machine with these parameters.
+#[derive(Clone, Copy)]
+pub struct Work {
+    pub workers: u32,
+    pub params: Params,
+    pub write: Form,
+}
+
+/// What is done without workers.
+#[derive(Clone, Copy)]
 pub enum Command {
     /// Assembles a source.
     Asm {
         write: AsmForm,
     },
-    /// Runs an image on a machine with these parameters.
+    /// Runs an image on a machine with these parameters by the schedule of a seed.
     Run {
-        how: How,
+        seed: u64,
         params: Params,
         write: Form,
     },
@@ -92,15 +109,6 @@ pub enum TimeForm {
     Cycles,
     /// When each event started and finished.
     Moments,
-}
-
-/// What the order of a run's events is chosen by.
-#[derive(Clone, Copy, PartialEq, Eq)]
-pub enum How {
-    /// One schedule, drawn from this number.
-    Seed(u64),
-    /// So many workers, on threads.
-    Workers(u32),
 }
 
 /// What a run is written as.

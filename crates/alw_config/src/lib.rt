@@ -7,5 +7,5 @@ mod options;
 mod rows;
 mod words;
 
-pub use commands::{AsmForm, AuditForm, Command, Form, How, TimeForm, TimedForm, WordErr};
-pub use words::command;
+pub use commands::{Asked, AsmForm, AuditForm, Command, Form, TimeForm, TimedForm, WordErr, Work};
+pub use words::asked;

@@ -2,12 +2,12 @@ ghost use Rattle.std.specs.Prelude.{◌≡◌, ◌≤◌, map, nat_le, ◌==◌,
 ghost use Rattle.std.specs.List.{list_any};
 ghost use Rattle.alw_image.specs.Parameters.{set_counts};
 ghost use Rattle.alw_config.specs.declared.rows.Value.TheVariants as values;
-ghost use Rattle.alw_config.specs.declared.commands.How.TheVariants as hows;
+ghost use Rattle.alw_config.specs.declared.rows.How.TheVariants as hows;
 ghost use Rattle.alw_config.specs.declared.commands.TimedForm.TheVariants as timed;
 ghost use Rattle.alw_config.specs.Values.{row_of, number_if, pointers_of, value_of, asm_forms, audit_forms, time_forms, forms, timed_forms};
 
-use crate::commands::{How, TimedForm};
-use crate::rows::{ASM_FORMS, AUDIT_FORMS, FORMS, Kind, Row, TIME_FORMS, TIMED_FORMS, Value};
+use crate::commands::TimedForm;
+use crate::rows::{ASM_FORMS, AUDIT_FORMS, FORMS, How, Kind, Row, TIME_FORMS, TIMED_FORMS, Value};
 use alw_image::{FEW_POINTERS, MOST_POINTERS, SET_COUNTS};
 use alw_num::MOST_NODES;
 use alw_text::decimal;

@@ -2,15 +2,17 @@ ghost use Rattle.std.specs.Prelude.{◌≡◌, ◌<◌, ◌≤◌, length, map, 
 ghost use Rattle.alw_config.specs.declared.commands.TimedForm.TheVariants as timed;
 ghost use Rattle.alw_config.specs.declared.rows.Name.TheVariants as names;
 ghost use Rattle.alw_config.specs.declared.rows.Value.TheVariants as values;
-ghost use Rattle.alw_config.specs.Table.{options_of, defaults_of, rule_of, number_in, command_of};
+ghost use Rattle.alw_config.specs.Table.{options_of, defaults_of, rule_of, number_in, asked_of};
 ghost use Rattle.alw_config.specs.Places.{IsRefusedBehind};
-ghost use Rattle.alw_config.specs.Choices.{HavePlaces, ChoicesAreMade, ValuesAreAllowed, CommandIsWithin, allowed_of, open_now, taken_now, is_allowed, value_by, values_by, misfit_by, IsNumber, IsHow, IsAsmForm, IsAuditForm, IsTimeForm, IsForm, IsRunForm, IsTimedForm};
+ghost use Rattle.alw_config.specs.Choices.{HavePlaces, ChoicesAreMade, ValuesAreAllowed, AskedIsWithin, allowed_of, open_now, taken_now, is_allowed, value_by, values_by, misfit_by, IsNumber, IsHow, IsAsmForm, IsAuditForm, IsTimeForm, IsForm, IsRunForm, IsTimedForm};
 
-use crate::commands::{AsmForm, AuditForm, Command, Form, How, TimeForm, TimedForm, WordErr};
+use crate::commands::{
+    Asked, AsmForm, AuditForm, Command, Form, TimeForm, TimedForm, WordErr, Work,
+};
 use crate::lookups::row_of;
 use crate::rows::{
     ASM_DEFAULTS, ASM_OPTIONS, AUDIT_DEFAULTS, AUDIT_OPTIONS, GEN_DEFAULTS, GEN_OPTIONS, GEN_RULE,
-    MOST_CHOICES, Made, Meaning, NO_DEFAULTS, NO_OPTIONS, Name, OUTCOMES_DEFAULTS,
+    How, MOST_CHOICES, Made, Meaning, NO_DEFAULTS, NO_OPTIONS, Name, OUTCOMES_DEFAULTS,
     OUTCOMES_OPTIONS, REPLAY_DEFAULTS, REPLAY_OPTIONS, RESUME_DEFAULTS, RESUME_OPTIONS,
     ROUTE_DEFAULTS, ROUTE_OPTIONS, RUN_DEFAULTS, RUN_OPTIONS, Row, Rule, SAVE_DEFAULTS,
     SAVE_OPTIONS, SCHEDULE_DEFAULTS, SCHEDULE_OPTIONS, TIME_DEFAULTS, TIME_OPTIONS, TIMED_DEFAULTS,
@@ -81,14 +83,42 @@ fn run_options(chosen: &Chosen) -> &'static [Row<Meaning>]
     }
 }
 
+// The run with these choices, by a seed or by workers, and with the default of each that isn't made.
+fn drawn_run(chosen: &Chosen) -> Asked
+    requires allowed { ValuesAreAllowed (allowed_of names.Run) chosen.now }
+    ensures asked { asked_of names.Run (values_by 0 chosen.now (defaults_of names.Run)) ≡ Some result }
+    ensures within { AskedIsWithin result }
+{
+    let name = Name::Run;
+    let params = Params::of(
+        name.value(chosen, 1).number() as u16,
+        name.value(chosen, 2).number() as u32,
+        name.value(chosen, 3).number() as u32,
+        name.value(chosen, 4).number() as u8,
+    );
+    let write = name.value(chosen, 5).run_form();
+    match name.value(chosen, 0).how() {
+        How::Seed(seed) => Asked::Alone(Command::Run {
+            seed,
+            params,
+            write,
+        }),
+        How::Workers(workers) => Asked::Workers(Work {
+            workers,
+            params,
+            write,
+        }),
+    }
+}
+
 // The timed run with these choices, and with the default of each that isn't made.
-fn timed_run(chosen: &Chosen) -> Command
+fn timed_run(chosen: &Chosen) -> Asked
     requires allowed { ValuesAreAllowed (allowed_of names.Timed) chosen.now }
-    ensures command { command_of names.Timed (values_by 0 chosen.now (defaults_of names.Timed)) ≡ Some result }
-    ensures within { CommandIsWithin result }
+    ensures asked { asked_of names.Timed (values_by 0 chosen.now (defaults_of names.Timed)) ≡ Some result }
+    ensures within { AskedIsWithin result }
 {
     let name = Name::Timed;
-    Command::RunByTime {
+    Asked::Alone(Command::RunByTime {
         costs: Costs {
             hit: name.value(chosen, 7).number() as u16,
             switch: name.value(chosen, 8).number() as u16,
@@ -109,7 +139,7 @@ fn timed_run(chosen: &Chosen) -> Command
             0,
         ),
         write: name.value(chosen, 5).timed_form(),
-    }
+    })
 }
 
 impl Rule {
@@ -220,64 +250,55 @@ impl Name {
         value_of(chosen, self.defaults(), choice)
     }
 
-    // The command with these choices, and with the default of each that isn't made.
-    pub(crate) fn command(self, chosen: &Chosen) -> Command
+    // What is asked for with these choices, and with the default of each that isn't made.
+    pub(crate) fn asked(self, chosen: &Chosen) -> Asked
         requires allowed { ValuesAreAllowed (allowed_of self) chosen.now }
         requires fits { option_and_then (λ rule. misfit_by rule chosen.now (defaults_of self)) (rule_of self) ≡ None }
-        ensures command { command_of self (values_by 0 chosen.now (defaults_of self)) ≡ Some result }
-        ensures within { CommandIsWithin result }
+        ensures asked { asked_of self (values_by 0 chosen.now (defaults_of self)) ≡ Some result }
+        ensures within { AskedIsWithin result }
     {
         match self {
-            Name::Asm => Command::Asm {
+            Name::Asm => Asked::Alone(Command::Asm {
                 write: self.value(chosen, 0).asm_form(),
-            },
-            Name::Run => Command::Run {
-                how: self.value(chosen, 0).how(),
-                params: Params::of(
-                    self.value(chosen, 1).number() as u16,
-                    self.value(chosen, 2).number() as u32,
-                    self.value(chosen, 3).number() as u32,
-                    self.value(chosen, 4).number() as u8,
-                ),
-                write: self.value(chosen, 5).run_form(),
-            },
+            }),
+            Name::Run => drawn_run(chosen),
             Name::Timed => timed_run(chosen),
-            Name::Replay => Command::Replay {
+            Name::Replay => Asked::Alone(Command::Replay {
                 write: self.value(chosen, 0).form(),
-            },
-            Name::Audit => Command::Audit {
+            }),
+            Name::Audit => Asked::Alone(Command::Audit {
                 write: self.value(chosen, 0).audit_form(),
-            },
-            Name::Dis => Command::Dis,
-            Name::Gen => Command::Gen {
+            }),
+            Name::Dis => Asked::Alone(Command::Dis),
+            Name::Gen => Asked::Alone(Command::Gen {
                 seed: self.value(chosen, 0).number(),
                 width: self.value(chosen, 1).number() as u8,
                 height: self.value(chosen, 2).number() as u8,
                 size: self.value(chosen, 3).number() as u32,
-            },
-            Name::Route => Command::Route {
+            }),
+            Name::Route => Asked::Alone(Command::Route {
                 seed: self.value(chosen, 0).number(),
-            },
-            Name::Save => Command::Save {
+            }),
+            Name::Save => Asked::Alone(Command::Save {
                 at: self.value(chosen, 0).number() as u32,
-            },
-            Name::Resume => Command::Resume {
+            }),
+            Name::Resume => Asked::Alone(Command::Resume {
                 seed: self.value(chosen, 0).number(),
                 evict: self.value(chosen, 1).number() as u8,
                 write: self.value(chosen, 2).form(),
-            },
-            Name::Outcomes => Command::Outcomes {
+            }),
+            Name::Outcomes => Asked::Alone(Command::Outcomes {
                 most: self.value(chosen, 0).number() as u32,
-            },
-            Name::Schedule => Command::Schedule {
+            }),
+            Name::Schedule => Asked::Alone(Command::Schedule {
                 params: Params::of(
                     self.value(chosen, 0).number() as u16,
                     self.value(chosen, 1).number() as u32,
                     self.value(chosen, 2).number() as u32,
                     0,
                 ),
-            },
-            Name::Time => Command::Time {
+            }),
+            Name::Time => Asked::Alone(Command::Time {
                 costs: Costs {
                     hit: self.value(chosen, 1).number() as u16,
                     switch: self.value(chosen, 2).number() as u16,
@@ -292,7 +313,7 @@ impl Name {
                     seed: self.value(chosen, 0).number(),
                 },
                 write: self.value(chosen, 11).time_form(),
-            },
+            }),
         }
     }
 }

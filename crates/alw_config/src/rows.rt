@@ -1,6 +1,6 @@
 //! The tables of command words: each row is a name, and what it stands for. The definitions have them as literals.
 
-use crate::commands::{AsmForm, AuditForm, Form, How, TimeForm, TimedForm};
+use crate::commands::{AsmForm, AuditForm, Form, TimeForm, TimedForm};
 use alw_image::MOST_LIMIT;
 
 // A row of a table: a name, and what it stands for.
@@ -57,6 +57,15 @@ pub(crate) enum Kind {
     RunForm,
     // The names of `TIMED_FORMS`.
     TimedForm,
+}
+
+// What the order of a run's events is chosen by.
+#[derive(Clone, Copy)]
+pub(crate) enum How {
+    // One schedule, drawn from this number.
+    Seed(u64),
+    // So many workers, on threads.
+    Workers(u32),
 }
 
 // What a choice is made by.

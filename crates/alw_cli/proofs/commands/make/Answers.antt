@@ -3,6 +3,9 @@ use Rattle.alw_cli.proofs.commands.make.Goals as goal
 pub returns-in-Asm : goal.returns-in-Asm
 returns-in-Asm c = rw c.in-Asm.is c.assemble_source.ensures
 
+pub returns-in-Run : goal.returns-in-Run
+returns-in-Run c = rw c.in-Run.is c.run_bytes.ensures
+
 pub returns-in-RunByTime : goal.returns-in-RunByTime
 returns-in-RunByTime c = rw c.in-RunByTime.is c.run_by_time.ensures
 

@@ -1,7 +1,7 @@
 use Rattle.std.proofs.Common.{string_bytes, sym, ◌∙◌}
 use Rattle.std.proofs.lemmas.Result.{err_from_is_err_and}
 use Rattle.alw_config.proofs.Whole.{refused, accepted}
-use Rattle.alw_config.proofs.words.command.Goals as goal
+use Rattle.alw_config.proofs.words.asked.Goals as goal
 
 pub returns-in_err-choices-clause-cases : goal.returns-in_err-choices-clause-cases
 returns-in_err-choices-clause-cases c =
@@ -14,7 +14,7 @@ pub returns-in-None-clause-cases : goal.returns-in-None-clause-cases
 returns-in-None-clause-cases c =
     let known = rw (c.as_bytes.ensures.value, c.as_str.ensures.value) at c.in-Some-row_of.ensures in
     let all = c.in_ok-choices.ensures in
-    let command = rw c.taken-taken.ensures at c.command.ensures.command in
+    let it = rw c.taken-taken.ensures at c.asked.ensures.asked in
     let fits = rw c.taken-taken.ensures at c.misfit.ensures in
     rw c.in-Some.ensures.cases.0
-    (accepted (string_bytes c.in-Some.first.now) _ c.in-Some-row_of.name _ (sym known) all _ (sym fits ∙ c.in-None.is) command)
+    (accepted (string_bytes c.in-Some.first.now) _ c.in-Some-row_of.name _ (sym known) all _ (sym fits ∙ c.in-None.is) it)
