@@ -1,0 +1,7 @@
+mod Lines
+mod Statements
+mod Turns
+mod Deeds
+mod Entries
+mod Journals
+mod Logs
