@@ -166,8 +166,8 @@ same_entry a b u v l k e =
     let event = same_event a.event b.event u v l.1 k.1 (left ∙ ap (λ (t : List ℕ). 32 ∷ t) first.1 ∙ sym right) in
     ap (λ (n : ℕ). record { stamp = n; event = a.event }) first.0 ∙ ap (λ (it : Event). record { stamp = b.stamp; event = it }) event
 
--- an entry, and what its line says behind it
 module _ (parts : Parts) (parameters : Parameters) (machine : MachineState) (entry : Entry) where
+  -- a text begins with an entry, whose numbers are of 64 bits, and a blank
   pub record IsFront (text : List ℕ) : Type 0 where
     pub fits : IsEntry entry
     pub rest : List ℕ
@@ -181,6 +181,7 @@ module _ (parts : Parts) (parameters : Parameters) (machine : MachineState) (ent
     whole = ap (λ (t : List ℕ). decimal entry.stamp ++ (event_text entry.event ++ (t ++ (sends_text stepped.sends ++ codes "\n")))) deed.1;
   }
 
+  -- the line of an entry that may be next has such a front
   pub event_front : IsImage parts → AreParameters parameters → IsNext parts parameters machine entry → IsFront (event_line parts parameters machine entry)
   unfolding event_line
   event_front image are next =
@@ -189,6 +190,7 @@ module _ (parts : Parts) (parameters : Parameters) (machine : MachineState) (ent
       (deed_begins parts parameters machine (step parts parameters machine entry.event) stepped.did entry.event
       (enabled_is parts parameters machine entry.event next.enabled).may_be)
 
+-- two entries with one line are the same
 pub told_entry : (parts other_parts : Parts) (parameters other_parameters : Parameters) (machine other_machine : MachineState) (a b : Entry) (text : List ℕ)
     → IsFront parts parameters machine a text → IsFront other_parts other_parameters other_machine b text → a ≡ b
 told_entry parts other_parts parameters other_parameters machine other_machine a b text one other =

@@ -4,4 +4,4 @@ mod Turns
 mod Deeds
 mod Entries
 mod Journals
-mod Logs
+pub mod Logs

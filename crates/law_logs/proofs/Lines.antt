@@ -9,6 +9,7 @@ use Rattle.alw_text.specs.Numbers.{hex_digit, low_digits, hex_digits, hex_word, 
 
 -- ---- a text in a line
 
+-- a text has no LF, as a test
 abbrev pub is_unbroken : List ℕ → Bool
 is_unbroken [] = true
 is_unbroken (byte ∷ rest) = cond (byte == 10) false (is_unbroken rest)
@@ -34,9 +35,11 @@ unbroken (byte ∷ a) b one other = go (byte == 10) one (unbroken a b)
 pub beside : {a b : List ℕ} → IsUnbroken a → IsUnbroken b → IsUnbroken (a ++ b)
 beside {a} {b} one other = record { test = unbroken a b one.test other.test }
 
+-- a text behind a fixed one
 pub fronted : (front : List ℕ) {text : List ℕ} → is_unbroken front ≡ true → IsUnbroken text → IsUnbroken (front ++ text)
 fronted front test text = beside (plain front test) text
 
+-- one of two texts
 pub either : (b : Bool) {one other : List ℕ} → IsUnbroken one → IsUnbroken other → IsUnbroken (cond b one other)
 either true one other = one
 either false one other = other
@@ -46,11 +49,12 @@ pub unbroken_each : {X : Type 0} (text : X → List ℕ) → ((x : X) → IsUnbr
 unbroken_each text each [] = plain [] refl
 unbroken_each text each (x ∷ xs) = beside (each x) (unbroken_each text each xs)
 
--- a member of a table
+-- no text of a table has an LF, as a test
 abbrev pub are_unbroken : List (List ℕ) → Bool
 are_unbroken [] = true
 are_unbroken (name ∷ rest) = cond (is_unbroken name) (are_unbroken rest) false
 
+-- a member of such a table, or nothing behind its end
 pub unbroken_name : (names : List (List ℕ)) → are_unbroken names ≡ true → (place : ℕ) → IsUnbroken (slice_index_or names place [])
 unbroken_name [] are place = plain [] refl
 unbroken_name (name ∷ rest) are place = go (is_unbroken name) refl are place (unbroken_name rest)
@@ -66,6 +70,7 @@ unbroken_name (name ∷ rest) are place = go (is_unbroken name) refl are place (
 glyph : (n : ℕ) → (digit_glyph false (n % 10) == 10) ≡ false
 glyph n = grind (arith, nat_tests)
 
+-- a byte more in front
 pub longer : (byte : ℕ) (text : List ℕ) → (byte == 10) ≡ false → is_unbroken text ≡ true → is_unbroken (byte ∷ text) ≡ true
 longer byte text other test = rw other test
 
@@ -79,6 +84,7 @@ figures (suc k) n text test =
     go one other true is more = is
     go one other false is more = more
 
+-- a number in decimal
 pub number : (n : ℕ) → IsUnbroken (decimal n)
 unfolding digits
 number n = record { test = figures 64 n [] refl }
@@ -90,10 +96,12 @@ low : (count n : ℕ) → IsUnbroken (low_digits count n)
 low zero n = plain [] refl
 low (suc count) n = beside (low count (n / 16)) (record { test = longer (hex_digit (n % 16)) [] (hex_glyph (n % 16)) refl })
 
+-- a word in hexadecimal
 pub word : (n : ℕ) → IsUnbroken (hex_word n)
 unfolding hex_digits
 word n = fronted (48 ∷ 120 ∷ []) refl (low 8 n)
 
+-- a byte in hexadecimal
 pub byte_word : (n : ℕ) → IsUnbroken (hex_byte n)
 byte_word n =
     let last = longer (hex_digit (n % 16)) [] (hex_glyph (n % 16)) refl in
@@ -105,6 +113,7 @@ abbrev is_nothing : List ℕ → Bool
 is_nothing [] = true
 is_nothing (byte ∷ rest) = false
 
+-- a text is a line, as a test
 abbrev pub is_line : List ℕ → Bool
 is_line [] = false
 is_line (byte ∷ rest) = cond (byte == 10) (is_nothing rest) (is_line rest)
@@ -122,12 +131,15 @@ ended (byte ∷ a) b one other = go (byte == 10) one (ended a b)
     go true is more = absurd (false≢true is)
     go false is more = more is other
 
+-- a line with more in front
 pub before : {a b : List ℕ} → IsUnbroken a → IsLine b → IsLine (a ++ b)
 before {a} {b} one other = record { test = ended a b one.test other.test }
 
+-- a line with a fixed text in front
 pub begun : (front : List ℕ) {text : List ℕ} → is_unbroken front ≡ true → IsLine text → IsLine (front ++ text)
 begun front test line = before (plain front test) line
 
+-- an LF alone is a line
 pub feed : IsLine (10 ∷ [])
 feed = record { test = refl }
 

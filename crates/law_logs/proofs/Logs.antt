@@ -203,6 +203,7 @@ module _ (image other_image : Parts) (is : IsImage image) (also : IsImage other_
       (range_with_len 0 count) u v (behind ∙ ap (λ (n : ℕ). flat_map there (range_with_len 0 n) ++ v) (sym same)) in
       (one_line (end_is ended) (end_is other_ended) lines.1).0
 
+  -- what the first lines and the last ones tell
   pub rest_told : IsLegal image parameters one → IsLegal other_image other_parameters other → Log
       → AreToldAlike image other_image parameters other_parameters ended other_ended
   rest_told legal lawful e =

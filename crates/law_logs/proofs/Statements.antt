@@ -19,6 +19,7 @@ bank r = grind (arith, nat_tests)
 figure : (r : ℕ) → (48 + r % 8 == 10) ≡ false
 figure r = grind (arith, nat_tests)
 
+-- a register
 pub register : (r : ℕ) → IsUnbroken (register_text r)
 unfolding register_text
 register r =
@@ -109,5 +110,6 @@ unfolding statement_text
 stands here (Some value) = instr here value (instr_of value)
 stands here None = plain (codes "-") refl
 
+-- the statement at an address
 pub statement : (code : List ℕ) (here : ℕ) → IsUnbroken (statement_at code here)
 statement code here = stands here (slice_get code (here / 4))

@@ -32,10 +32,12 @@ use Rattle.alw_turns.specs.Turns.{bytes_needed, is_waited, opens_text, misses_te
 use Rattle.law_logs.proofs.Lines.{IsUnbroken, plain, beside, fronted, either, number, word, byte_word}
 use Rattle.law_logs.proofs.Statements.{register, statement}
 
+-- where a context stands
 pub stood : (code : List ℕ) (pc : ℕ) → IsUnbroken (stood_text code pc)
 unfolding stood_text
 stood code pc = fronted (codes " pc ") refl (beside (word pc) (fronted (codes " ") refl (statement code pc)))
 
+-- a mode
 pub mode_is : (mode : Mode) → IsUnbroken (mode_text mode)
 mode_is Read = plain (codes "read") refl
 mode_is Write = plain (codes "write") refl
@@ -145,5 +147,6 @@ module _ (image : Parts) (parameters : Parameters) (before after : NodeState) (d
   ran None = plain [] refl
   ran (Some slot) = slot_whole slot
 
+  -- what an instruction did
   pub instr_whole : IsUnbroken (instr_text image parameters before after did)
   instr_whole = ran (running before.slots before.current)

@@ -4,4 +4,4 @@
 
 mod log_laws;
 
-pub use log_laws::{logs_tell_journals, logs_tell_sizes_and_ends};
+pub use log_laws::{lines_tell_entries, logs_tell_journals, logs_tell_sizes_and_ends};
