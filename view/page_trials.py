@@ -337,9 +337,11 @@ def moments_are_refused(trial):
     trial.keep('node.moments', head + middle + first[:-1] + b'%d\n' % ((int(first[-1:]) + 1) % 6) + rest)
     trial.keep('fewer.moments', head + b'\nentries 1027\n' + first + b'\n' + rest[:rest[:-5].rfind(b'\n')] + b'\nend\n')
     trial.keep('more.moments', head + b'\nentries 1029\n' + rows[:-4] + b'9000 9001 I 0\nend\n')
-    trial.keep('cut.moments', head + middle + rest)
+    trial.keep('lost.moments', head + middle + rest)
+    trial.keep('cut.moments', head + middle + first + b'\n' + rest[:len(rest) // 2])
     trial.keep('torn.moments', head + middle + first + b' 1\n' + rest)
-    for trace, moments in (('timed', 'seeded'), ('two_writers', 'timed'), ('spill', 'timed'), ('timed', 'node'), ('timed', 'fewer'), ('timed', 'more')):
+    others = [('timed', name) for name in ('seeded', 'node', 'lost', 'fewer', 'more')]
+    for trace, moments in (*others, ('two_writers', 'timed'), ('spill', 'timed')):
         trial.refused('the moments are those of another run', f'{trace}.trace', '--moments', f'{moments}.moments')
     for moments in ('cut', 'torn'):
         trial.refused('the moments are cut, or one has no form', 'timed.trace', '--moments', f'{moments}.moments')

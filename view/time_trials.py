@@ -16,6 +16,21 @@ PROCESSOR, CONTROLLER, PORT = 1, 2, 3
 WITH_LINE = {'REPM', 'UPDATE', 'RDATA', 'WDATA'}
 SWITCHING = b'.mesh 3,1\n.contexts 2\n.lines 5\nset 0x40000000,%g1\nsll %o0,2,%g2\nmov 9,%g3\n' + (
     b'x: ld [%g1+%g2],%g4\nst %g4,[%g1+4]\nswap [%g1+64],%g4\nldub [%g1+129],%g4\nsubcc %g3,1,%g3\nbne x\nnop\nta 0\n')
+# Two nodes that take the same events: node 1 has a line to read, or to write, and then node 0 writes it.
+TWINS = """.mesh 2,1
+set 0x40000000,%%g1
+tst %%o0
+bne other
+mov 20,%%g2
+wait: subcc %%g2,1,%%g2
+bne wait
+nop
+st %%g0,[%%g1]
+ta 0
+other: %s
+ta 0
+"""
+READS, WRITES = (TWINS % statement for statement in ('ld [%g1],%g2', 'st %g0,[%g1]'))
 OTHER_COSTS = '--trap 7 --send 2 --data 9 --inv 3 --home 5 --hop 4 --retry 3'.split()
 NO_PORT = '--send 0 --data 0 --hop 0'.split()
 MOMENT = re.compile(r'(\d+) (\d+) ((?:[IH] \d+)|(?:[DE] \d+ \d+))')
@@ -344,5 +359,39 @@ def other_moments_are_refused(trial):
         expect(re.fullmatch(f'alewife-{tool}: {line}', told), f'{tool} {" ".join(words)}: {told}')
 
 
+def entries_in(text):
+    """The events of a trace, in the order of its entries."""
+    return [row.split(' ', 1)[1] for row in text.decode().partition('\nentries ')[2].split('\n')[1:-2]]
+
+
+def refused_moments(trial, tool, run, name):
+    """The line with which a script refuses the moments of a file beside a run."""
+    ran = subprocess.run([HERE / f'alewife-{tool}', run, '--moments', f'{name}.moments', '--program', trial.binary],
+                         cwd=trial.folder, input='', capture_output=True, text=True)
+    expect(ran.returncode == 1, f'{tool} {run} --moments {name}.moments: status {ran.returncode}, {ran.stderr}')
+    return ran.stderr
+
+
+def moments_of_other_programs_are_refused(trial):
+    """Moments of another program with the same events and other cycles are refused beside a trace, those of other sizes or parameters beside a log too"""
+    traces = {}
+    for name, source in (('reads', READS), ('writes', WRITES)):
+        traces[name] = trial.program(['run', '--cycles', '0', '--write', 'trace'], trial.program(['asm'], source.encode()))
+        keep_run(trial, name, traces[name])
+    expect(entries_in(traces['reads']) == entries_in(traces['writes']), 'the two programs have other events')
+    text = {name: (trial.folder / f'{name}.moments').read_text() for name in traces}
+    expect(text['reads'] != text['writes'], 'the two programs have the same cycles')
+    for name, change in (('nodes', ('mesh 2 1', 'mesh 1 2')), ('home', ('lines 1', 'lines 2')), ('pointers', ('pointers 4', 'pointers 2')),
+                         ('limit', ('limit 262144', 'limit 262143'))):
+        expect(change[0] in text['reads'], f'{change[0]} is not in the moments')
+        trial.keep(f'{name}.moments', text['reads'].replace(*change).encode())
+    calls = [(tool, 'reads.trace', name) for tool in ('log', 'timeline', 'top', 'view', 'gdb') for name in ('writes', 'nodes', 'home', 'pointers', 'limit')]
+    calls += [(tool, 'reads.log', name) for tool in ('log', 'timeline', 'top') for name in ('nodes', 'home', 'pointers', 'limit')]
+    for tool, run, name in calls:
+        line = refused_moments(trial, tool, run, name)
+        expect(line == f'alewife-{tool}: the moments are those of another run\n', f'{tool} {run} --moments {name}.moments: {line}')
+
+
 TRIALS = (columns_are_the_moments, rows_hold_each_moment_once, arrows_are_messages, ports_say_when_messages_arrive, timelines_ask_the_program,
-          tables_have_the_sums_of_time, lines_of_sources_are_told, functions_and_variables_are_told, other_moments_are_refused)
+          tables_have_the_sums_of_time, lines_of_sources_are_told, functions_and_variables_are_told, other_moments_are_refused,
+          moments_of_other_programs_are_refused)
