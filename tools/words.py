@@ -103,10 +103,12 @@ OWN = {
     '--unproved': ('[WORDS..]', 'the same, and --which and --install too, by a program that nothing is proved of; without words builds it'),
     '--build': ('', 'proves and builds the program anew, and says so'),
     '--which': ('', 'says which program runs: the proved one, else one that nothing is proved of'),
-    '--install': ('PREFIX', 'puts program, manual and completions below a folder'),
+    '--install': ('PREFIX', 'puts the proved program, which it builds where none stands, manual and completions below a folder'),
     '--help': ('', 'says the words in short; so do -h, help and no words, and COMMAND --help those of one command'),
     '--version': ('', 'says the version, and the commit of the checkout'),
 }
+# Those of the launcher's own words that stand behind --unproved too.
+BEHIND_UNPROVED = ('--which', '--install')
 
 
 # ---- the table
@@ -313,12 +315,13 @@ WIDTH = 50
 
 
 def help_page(commands):
-    """The lines of the help: of each command what it reads and does, and a line for each of its options; then the launcher's own words."""
+    """The lines of the help: of each command what it reads and does, a line for each of its options, and its rule; then the launcher's own words."""
     lines = []
     for name, command in commands.items():
         call = f'  alewife {name}' + (' [OPTION VALUE]..' if command.options else '') + (f' < {command.reads.upper()}' if command.reads else '')
         lines.append(f'{call:<{WIDTH}} {command.does}')
         lines += [f'      {option.name + " " + option.value():<15} {option.told()}' for option in command.options]
+        lines += [f'    {command.rule_told().removesuffix(".")}'] if command.rule else []
         lines += [f'    behind {command.behind[0].behind}:'] if command.behind else []
         lines += [f'      {option.name + " " + option.value():<15} {option.told()}' for option in command.behind]
     lines += [f'{f"  alewife {name} {value}":<{WIDTH}} {phrase}' for name, (value, phrase) in OWN.items()]
@@ -379,7 +382,7 @@ _alewife() {
     *:[\\<\\>]*) ;;
     "$at":*)
         words='%(commands)s'
-        [ "$at" = 1 ] && words="$words help %(own)s"
+        if [ "$at" = 1 ]; then words="$words help %(own)s"; else words="$words %(behind)s"; fi
         ;;
     *)
         case ${COMP_WORDS[at]}:$before in
@@ -405,7 +408,8 @@ def bash_page(commands):
         lines += [f"        {name}:{option.name}) words='{' '.join(option.few())}' ;;" for option in options if option.few()]
         lines += [f'        {" | ".join(numbers)}) compopt +o default ;;'] if numbers else []
         lines += [f"        {name}:*) words='{' '.join(names)}' ;;"] if names else []
-    return BASH_HEAD % {'commands': ' '.join(commands), 'own': ' '.join(OWN)} + '\n'.join(lines) + '\n' + BASH_TAIL
+    head = BASH_HEAD % {'commands': ' '.join(commands), 'own': ' '.join(OWN), 'behind': ' '.join(BEHIND_UNPROVED)}
+    return head + '\n'.join(lines) + '\n' + BASH_TAIL
 
 
 ZSH_PAGE = '''#compdef alewife
@@ -427,7 +431,8 @@ _alewife() {
     if (( CURRENT == 2 )); then
         _describe 'what to do' commands -- own
     elif [[ $words[2] == --unproved ]] && (( CURRENT == 3 )); then
-        _describe 'what to do' commands
+        own=(${(M)own:#(%(behind)s):*})
+        _describe 'what to do' commands -- own
     else
         [[ $words[2] == --unproved ]] && shift words && (( CURRENT-- ))
         shift words && (( CURRENT-- ))
@@ -455,7 +460,7 @@ def zsh_page(commands):
         cases += f'    {name})\n        _arguments ' + ' \\\n            '.join([*words, "'--help[say the words of this command]'"]) + '\n        ;;\n'
     described = ''.join(f"        '{name}:{command.does.replace(':', chr(92) + ':')}'\n" for name, command in commands.items())
     own = ''.join(f"        '{name}:{phrase}'\n" for name, (_, phrase) in OWN.items())
-    return ZSH_PAGE % {'cases': cases, 'commands': described, 'own': own}
+    return ZSH_PAGE % {'cases': cases, 'commands': described, 'own': own, 'behind': '|'.join(BEHIND_UNPROVED)}
 
 
 def paragraphs(commands, before):

@@ -7,7 +7,7 @@ _alewife() {
     *:[\<\>]*) ;;
     "$at":*)
         words='asm run replay audit gen route save resume outcomes schedule time dis'
-        [ "$at" = 1 ] && words="$words help --unproved --build --which --install --help --version"
+        if [ "$at" = 1 ]; then words="$words help --unproved --build --which --install --help --version"; else words="$words --which --install"; fi
         ;;
     *)
         case ${COMP_WORDS[at]}:$before in
