@@ -91,7 +91,8 @@ def kept_runs(trial):
 
 def said(trial, tool, *words, ends_with=0, is_late=False):
     """What a tool writes, or its last line on standard error where it has to end with 1 or more: it writes nothing then, but where that comes late."""
-    ran = subprocess.run([HERE / f'alewife-{tool}', '--program', trial.binary, *words], cwd=trial.folder, capture_output=True, text=True)
+    call = [HERE / f'alewife-{tool}', '--program', trial.binary, *words]
+    ran = subprocess.run(call, cwd=trial.folder, stdin=subprocess.DEVNULL, capture_output=True, text=True)
     line = ran.stderr.strip().split('\n')[-1]
     expect(ran.returncode == ends_with, f'{tool} {" ".join(words)}: status {ran.returncode}, {line}')
     expect(not ends_with or is_late or not ran.stdout, f'{tool} {" ".join(words)}: is refused behind {len(ran.stdout)} characters')
@@ -364,14 +365,6 @@ def entries_in(text):
     return [row.split(' ', 1)[1] for row in text.decode().partition('\nentries ')[2].split('\n')[1:-2]]
 
 
-def refused_moments(trial, tool, run, name):
-    """The line with which a script refuses the moments of a file beside a run."""
-    ran = subprocess.run([HERE / f'alewife-{tool}', run, '--moments', f'{name}.moments', '--program', trial.binary],
-                         cwd=trial.folder, input='', capture_output=True, text=True)
-    expect(ran.returncode == 1, f'{tool} {run} --moments {name}.moments: status {ran.returncode}, {ran.stderr}')
-    return ran.stderr
-
-
 def moments_of_other_programs_are_refused(trial):
     """Moments of another program with the same events and other cycles are refused beside a trace, those of other sizes or parameters beside a log too"""
     traces = {}
@@ -388,8 +381,8 @@ def moments_of_other_programs_are_refused(trial):
     calls = [(tool, 'reads.trace', name) for tool in ('log', 'timeline', 'top', 'view', 'gdb') for name in ('writes', 'nodes', 'home', 'pointers', 'limit')]
     calls += [(tool, 'reads.log', name) for tool in ('log', 'timeline', 'top') for name in ('nodes', 'home', 'pointers', 'limit')]
     for tool, run, name in calls:
-        line = refused_moments(trial, tool, run, name)
-        expect(line == f'alewife-{tool}: the moments are those of another run\n', f'{tool} {run} --moments {name}.moments: {line}')
+        line = said(trial, tool, run, '--moments', f'{name}.moments', ends_with=1, is_late=name == 'writes')
+        expect(line == f'alewife-{tool}: the moments are those of another run', f'{tool} {run} --moments {name}.moments: {line}')
 
 
 TRIALS = (columns_are_the_moments, rows_hold_each_moment_once, arrows_are_messages, ports_say_when_messages_arrive, timelines_ask_the_program,
