@@ -330,6 +330,83 @@ def functions_and_variables_are_told(trial):
     expect({'flags', 'stack 0', 'stack 1'} <= {name for _, name in variables} and any(flags <= address < flags + 32 for address in ends), f'{variables}')
 
 
+BAR = re.compile(r'<rect x="([0-9.]+)" y="(\d+)" width="([0-9.]+)" height="7" fill="(#\w+)"><title>(.*) at node (\d+), (\d+) to (\d+)</title></rect>')
+AT_HOME = {'RREQ', 'WREQ', 'REPM', 'UPDATE', 'ACKC'}
+
+
+def bars_of(run, first=0, last=10 ** 9):
+    """The events of a run that are drawn in a range of cycles, by the log: of each its node, its cycles and what its colour stands for, in order."""
+    found = []
+    for place, event in enumerate(run.events):
+        begin, end = run.begins(place), run.moments[place][1]
+        what = event[1] if event[1] != 'D' else 'home' if event[4] in AT_HOME else 'cache'
+        if begin < last and end > first:
+            found.append((run.node(place), begin, end, what))
+    return sorted(found)
+
+
+def drawn_bars(text, first, last):
+    """The bars of a picture, each as bars_of has them, with its colour for what it is, and where it begins below the top. They stand where their cycles are."""
+    found = []
+    for x, y, width, fill, _, node, begin, end in BAR.findall(text):
+        left, right = (76 + (min(max(int(cycle), first), last) - first) * 864 / (last - first) for cycle in (begin, end))
+        expect(abs(float(x) - left) < 0.06 and abs(float(width) - max(right - left, 1)) < 0.11, f'{begin} to {end} is at {x}, {width} wide')
+        found.append(((int(node), int(begin), int(end), fill), int(y)))
+    return found
+
+
+def rows_of(drawn, wanted):
+    """Where the rows of nodes begin in a part of a picture, whose bars have to be these events, each in its half of its node's row; and what colours are of."""
+    rows, colours = defaultdict(set), defaultdict(set)
+    expect([bar[:3] for bar, _ in sorted(drawn)] == [event[:3] for event in wanted], f'{len(drawn)} bars, and {len(wanted)} events')
+    for (bar, y), (node, _, _, what) in zip(sorted(drawn), wanted):
+        rows[node].add(y - 7 * (what not in 'IH'))
+        colours[bar[3]].add(what)
+    tops = [top for _, each in sorted(rows.items()) for top in each]
+    expect(tops == [*range(tops[0], tops[0] + 18 * len(rows), 18)], f'rows begin at {tops}')
+    return tops, colours
+
+
+def delivered_elsewhere(run):
+    """How many messages of a run are delivered at another node than their own."""
+    return sum(taken is not None and int(sent_by(run.events[place])[at][2]) != run.node(place) for (place, at), taken in ways_of(run)['message'].items())
+
+
+def pictures_have_each_event(trial):
+    """A picture of two runs has each event once, in its node's row and where its cycles are, in a colour by what it is, and each message to another node"""
+    one, other = runs = kept_runs(trial)[:2]
+    moments = ('--moments', f'{one.name}.moments', '--moments', f'{other.name}.moments')
+    said(trial, 'timeline', f'{one.name}.log', f'{other.name}.trace', '--picture', 'two.svg', *moments, '--title', 'one', '--title', '<other>')
+    text, last = (trial.folder / 'two.svg').read_text(), max(finish for run in runs for _, finish in run.moments)
+    expect(re.findall('font-weight="bold">(.*?)<', text) == ['one', '&lt;other&gt;'], 'the titles')
+    drawn, count = drawn_bars(text, 0, last), len(one.events)
+    tops, colours = rows_of(drawn[:count], bars_of(one))
+    below, more = rows_of(drawn[count:], bars_of(other))
+    expect(below[0] > tops[-1] and all(len(each) == 1 for each in (*colours.values(), *more.values())), f'{tops} {below} {colours} {more}')
+    expect(len({what for each in (colours, more) for whats in each.values() for what in whats}) == len({*colours, *more}) == 5, f'{colours} {more}')
+    expect(text.count('stroke-width="0.8"') == sum(map(delivered_elsewhere, runs)), 'the lines of messages')
+    middle = last // 2
+    said(trial, 'timeline', f'{one.name}.log', '--picture', 'part.svg', *moments[:2], '--from', '20', '--to', str(middle))
+    rows_of(drawn_bars((trial.folder / 'part.svg').read_text(), 20, middle), bars_of(one, 20, middle))
+
+
+def pictures_are_refused(trial):
+    """Words that don't stand together are refused, and a range of cycles without an event"""
+    kept_runs(trial)
+    timed, picture = ('timed.log', '--moments', 'timed.moments'), ('--picture', 'no.svg')
+    for words, status, line in (
+            (('walks.log', *timed), 2, 'error: one log, or with --picture two'),
+            (('walks.log', 'seed.log', *timed, *picture), 2, 'error: one log, or with --picture two'),
+            (('walks.log', *timed, *picture), 2, 'error: --moments and --title stand once for each log, or not at all'),
+            ((*timed, '--title', 'one'), 2, 'error: --title, --from and --to are of a picture'),
+            ((*timed, *picture, '--from', '9', '--to', '9'), 2, 'error: the last cycle stands behind the first one'),
+            ((*timed, *picture, '--from', 'x'), 2, 'error: argument --from: x is no cycle'),
+            ((*timed, *picture, '--from', '9999999'), 1, 'timed: no event is between these cycles')):
+        told = said(trial, 'timeline', *words, ends_with=status)
+        expect(re.fullmatch(f'alewife-timeline: {line}', told), f'{" ".join(words)}: {told}')
+    expect(not (trial.folder / 'no.svg').exists(), 'a picture was written')
+
+
 def other_moments_are_refused(trial):
     """Moments of another run, or by other costs, what is none, and words without a meaning are refused by the three scripts, with a line"""
     kept_runs(trial)
@@ -386,5 +463,5 @@ def moments_of_other_programs_are_refused(trial):
 
 
 TRIALS = (columns_are_the_moments, rows_hold_each_moment_once, arrows_are_messages, ports_say_when_messages_arrive, timelines_ask_the_program,
-          tables_have_the_sums_of_time, lines_of_sources_are_told, functions_and_variables_are_told, other_moments_are_refused,
-          moments_of_other_programs_are_refused)
+          tables_have_the_sums_of_time, lines_of_sources_are_told, functions_and_variables_are_told, pictures_have_each_event, pictures_are_refused,
+          other_moments_are_refused, moments_of_other_programs_are_refused)
