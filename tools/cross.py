@@ -13,6 +13,7 @@ from collections import namedtuple
 from dataclasses import dataclass, field
 from pathlib import Path
 
+import placing
 import stacks
 from alewife import LINE_BYTES, MOST_WORDS, ROOT, SHARED, WORD, Image, Sizes
 
@@ -37,7 +38,7 @@ FLAGS = ['-m32', '-mcpu=v7', '-mflat', '-msoft-float', '-ffreestanding', '-std=c
 BEHIND_LOCKS = ['-fno-inline-atomics', '-w']
 UPDATE = re.compile('__atomic_(fetch|exchange|compare)')
 
-Options = namedtuple('Options', 'keep defines any_stack', defaults=(None, (), False))
+Options = namedtuple('Options', 'keep defines any_stack spread', defaults=(None, (), False, False))
 HINTS = (
     (re.compile(r'fatal error: \S+: No such file'),
      "of the C library's headers there are assert.h, limits.h and string.h, and the compiler's own: stdint.h, stdbool.h, stddef.h, stdatomic.h .."),
@@ -141,14 +142,15 @@ def with_check(line):
 
 @dataclass
 class Build:
-    """A build under way: the compiler, a folder for what is made, the machine's sizes, the options, the calls that are found, and flags that
-    follow from these."""
+    """A build under way: the compiler, a folder for what is made, the machine's sizes, the options, the calls that are found, flags that
+    follow from these, and where variables lie, if not one behind another."""
     gcc: str
     folder: Path
     sizes: Sizes
     options: Options
     calls: stacks.Calls
     flags: list = field(default_factory=list)
+    plan: placing.Plan | None = None
 
     def contexts(self):
         """How many contexts there are on all nodes."""
@@ -158,11 +160,21 @@ class Build:
         """The address behind shared data."""
         return SHARED + LINE_BYTES * self.sizes.width * self.sizes.height * self.sizes.lines
 
+    def part(self):
+        """The bytes of its node's home that a context has, as symbols and macros are given them; none where variables lie one behind another."""
+        return {'part_bytes': LINE_BYTES * self.sizes.lines // self.sizes.contexts} if self.options.spread else {}
+
+    def lowest(self, symbols):
+        """The lowest address of each stack."""
+        size = symbols['stack_size']
+        for context in range(self.contexts()):
+            yield SHARED + (context + 1) * self.plan.part - size if self.plan else self.end() - (context + 1) * size
+
 
 def translated(build, file, made):
     """Compiles a source in C to assembly for this machine, and notes its calls."""
     headers = [word for folder in (RUNTIME / 'include', called([build.gcc, '-print-file-name=include']).strip()) for word in ('-isystem', folder)]
-    sizes = [f'-DCONTEXTS_A_NODE={build.sizes.contexts}', f'-DCONTEXTS={build.contexts()}']
+    sizes = [f'-DCONTEXTS_A_NODE={build.sizes.contexts}', f'-DCONTEXTS={build.contexts()}', *(f'-D{name.upper()}={size}' for name, size in build.part().items())]
     called([build.gcc, *FLAGS, *build.flags, *headers, *sizes, *(f'-D{each}' for each in build.options.defines), f'-I{RUNTIME}', '-S', file, '-o', made])
     lines = (part for line in made.read_text().splitlines() for part in without_doubles(line))
     made.write_text(''.join(part + '\n' for line in lines for part in with_check(line)))
@@ -182,7 +194,7 @@ def compiled(build, file, number):
     else:
         raise BuildError(f'{file} is neither C (.c) nor assembly (.s)')
     lines = ['-gdwarf-5'] if assembly == file else []
-    called(['sparc64-linux-gnu-as', '-32', '-Av8', *lines, assembly, '-o', made])
+    called(['sparc64-linux-gnu-as', '-32', '-Av8', *lines, *(f'--defsym={name}={size}' for name, size in build.part().items()), assembly, '-o', made])
     return made
 
 
@@ -200,15 +212,29 @@ UNUSED = re.compile(r"removing unused section '(\S+)' in file '(.*)'")
 UNUSED_AT = 0x80000000
 
 
+def planned(build, objects, unused):
+    """Where the variables of object files lie by --spread, of which some sections aren't used. Refuses more than a context's part has room for."""
+    found = [section for file in objects for section in placing.sections_of(file, called(['sparc64-linux-gnu-objdump', '-h', file]))]
+    plan = placing.plan_of(build.sizes, [section for section in found if (section.name, str(section.file)) not in unused])
+    if not plan.stack:
+        raise BuildError(f'variables take {max(plan.taken)} bytes of a context\'s part, which has {plan.part}: give {plan.lines(BELOW + ABOVE)} lines a node')
+    return plan
+
+
 def linked(build, files):
     """The linked program. It is linked twice. The first time says what isn't used. The second time puts that at addresses of its own, for else
-    the debugger's lines of it would be at addresses of the code."""
+    the debugger's lines of it would be at addresses of the code; and by --spread it puts variables where they lie."""
     objects, made, script = all_compiled(build, files), build.folder / 'program.elf', build.folder / 'machine.ld'
     words = ['sparc64-linux-gnu-ld', '-m', 'elf32_sparc', '-z', 'noexecstack', '--orphan-handling=error', f'--defsym=shared_end={build.end()}',
-             f'--defsym=stack_mark={MARK}', f'--defsym=contexts={build.contexts()}', *objects, '-o', made]
-    said = answered([*words, '--gc-sections', '--print-gc-sections', '-T', RUNTIME / 'machine.ld'])[1]
-    unused = ''.join(f'"{file}"({name}) ' for name, file in UNUSED.findall(said))
-    script.write_text((RUNTIME / 'machine.ld').read_text().replace('SECTIONS\n{\n', f'SECTIONS\n{{\n    .unused {UNUSED_AT:#x} : {{ {unused}}}\n'))
+             f'--defsym=stack_mark={MARK}', f'--defsym=contexts={build.contexts()}', *(f'--defsym={name}={size}' for name, size in build.part().items()),
+             *objects, '-o', made]
+    unused = UNUSED.findall(answered([*words, '--gc-sections', '--print-gc-sections', '-T', RUNTIME / 'machine.ld'])[1])
+    text = (RUNTIME / 'machine.ld').read_text()
+    if build.options.spread:
+        build.plan = planned(build, objects, set(unused))
+        text = placing.script_of(build.plan, text)
+    named = ''.join(f'"{file}"({name}) ' for name, file in unused)
+    script.write_text(text.replace('SECTIONS\n{\n', f'SECTIONS\n{{\n    .unused {UNUSED_AT:#x} : {{ {named}}}\n'))
     called([*words, '--unresolved-symbols=ignore-all', '-T', script])
     return made
 
@@ -252,7 +278,7 @@ def places_of(elf, addresses):
     return places
 
 
-GIVEN = ('alewife.h', 'locks.h', 'barriers.h', 'atomic.c', 'runtime.c', 'start.s')
+GIVEN = ('alewife.h', 'each.h', 'locks.h', 'barriers.h', 'atomic.c', 'runtime.c', 'start.s')
 ONE_TURN = ('load_word', 'store_word', 'exchange', 'test_and_set', 'print')
 
 
@@ -291,7 +317,7 @@ def check_stack(build, symbols):
     least = ' at least' if unknown else ''
     if wanted > size:
         room = symbols['data_end'] - SHARED + contexts * ((wanted + LINE_BYTES - 1) // LINE_BYTES * LINE_BYTES)
-        lines = -(-room // (LINE_BYTES * build.sizes.width * build.sizes.height))
+        lines = build.plan.lines(wanted) if build.plan else -(-room // (LINE_BYTES * build.sizes.width * build.sizes.height))
         said = f'stack {wanted} bytes a context{least}, there are {size}: give {lines} lines a node'
         if not build.options.any_stack or size < BELOW + ABOVE:
             raise BuildError(said + (', or say --any-stack' if size >= BELOW + ABOVE else ''))
@@ -340,8 +366,7 @@ def lines_of(build, data, symbols):
     """The lines that aren't 0 at the start, by their numbers: those of data, and the mark under each stack."""
     bodies = (data[at:at + LINE_BYTES].ljust(LINE_BYTES, b'\0') for at in range(0, len(data), LINE_BYTES))
     lines = dict(enumerate(bodies))
-    lowest = (build.end() - SHARED - (context + 1) * symbols['stack_size'] for context in range(build.contexts()))
-    lines.update({address // LINE_BYTES: struct.pack('>I', MARK).ljust(LINE_BYTES, b'\0') for address in lowest})
+    lines.update({(address - SHARED) // LINE_BYTES: struct.pack('>I', MARK).ljust(LINE_BYTES, b'\0') for address in build.lowest(symbols)})
     return {number: line for number, line in lines.items() if any(line)}
 
 
@@ -354,6 +379,8 @@ def image(sizes, code, lines, start):
 def build(files, sizes, options=Options()):
     """The image of a program. The options have a path at which the linked program is kept too."""
     gcc = compiler()
+    if options.spread and sizes.lines % sizes.contexts:
+        raise BuildError(f'--spread gives each context as many lines of its home: {sizes.lines} lines aren\'t {sizes.contexts} times as many')
     with tempfile.TemporaryDirectory() as folder:
         made = Build(gcc, Path(folder), sizes, options, stacks.Calls())
         program = linked(made, files)

@@ -14,7 +14,7 @@ ASKED_AT_ONCE = 4096
 
 class Places:
     """Where code is in the source, by address, and what lies in shared data. The words of the code are None where they aren't known."""
-    words, places, symbols, end, stacks = None, {}, (), 0, (0, 0, 0)
+    words, places, symbols, end, stacks = None, {}, (), 0, statements.Stacks()
 
     def place(self, address):
         """The place of an address of code behind two blanks, or nothing."""

@@ -3,7 +3,7 @@ import bisect
 import re
 import struct
 import tempfile
-from collections import Counter
+from collections import Counter, namedtuple
 from pathlib import Path
 
 import cross
@@ -16,6 +16,9 @@ BRANCH, TRAP, ALWAYS = 2, 0x3A, (0, 8)
 WITH_RD = {0x04, 0x05, 0x06, 0x0F}
 WAYS = {'ready': 'is ready', 'wait': 'waits for line', 'hold': 'has just got line', 'trapped': 'has trapped with tt', 'halted': 'has halted'}
 MOST_TOLD = 4
+# Where a linked program has its stacks: the address behind all of them, the bytes of each, and how many there are; and by --spread the bytes of a context's
+# part, and the address behind the first context's elements.
+Stacks = namedtuple('Stacks', 'end size count part elements', defaults=(0,) * 5)
 
 
 # ---- the code
@@ -83,20 +86,23 @@ class Linked(Code):
         return {address: (texts.get(address, ''), placed.get(f'0x{address:08x}', '') + self.asserted(address)) for address in addresses}
 
     def line_name(self, address):
-        if address >= self.end:
+        if stack_at(self.stacks, address) or address >= self.end:
             return stack_at(self.stacks, address)
-        names = [name for value, name in self.symbols if address <= value < address + LINE_BYTES]
-        covering = [] if any(value == address for value, _ in self.symbols) else [self.name(address).strip(' ()')]
+        first, whose = element_at(self.stacks, address)
+        names = [name + whose for value, name in self.symbols if first <= value < first + LINE_BYTES]
+        covering = [] if any(value == first for value, _ in self.symbols) else [self.name(address).strip(' ()')]
         return ', '.join(filter(None, covering + names))
 
     def name(self, address):
-        at = bisect.bisect_right(self.symbols, (address, '\x7f')) - 1
-        if address >= self.end:
-            return f' ({stack_at(self.stacks, address)})' if stack_at(self.stacks, address) else ''
+        stack = stack_at(self.stacks, address)
+        if stack or address >= self.end:
+            return f' ({stack})' if stack else ''
+        first, whose = element_at(self.stacks, address)
+        at = bisect.bisect_right(self.symbols, (first, '\x7f')) - 1
         if at < 0:
             return ''
-        beyond = address - self.symbols[at][0]
-        return f' ({self.symbols[at][1]}{f"+{beyond}" if beyond else ""})'
+        beyond = first - self.symbols[at][0]
+        return f' ({self.symbols[at][1]}{f"+{beyond}" if beyond else ""}{whose})'
 
 
 def variables_of(elf):
@@ -107,16 +113,24 @@ def variables_of(elf):
 
 
 def stacks_of(elf):
-    """The address behind the stacks of a linked program, of which that of context 0 is the last one, how many bytes each has, and how many there are."""
+    """The stacks of a linked program."""
     symbols = cross.symbols_of(elf)
-    return tuple(symbols.get(name, 0) for name in ('shared_end', 'stack_size', 'contexts'))
+    return Stacks(*(symbols.get(name, 0) for name in ('shared_end', 'stack_size', 'contexts', 'part_bytes', 'each_end')))
 
 
 def stack_at(stacks, address):
-    """The stack in which an address lies, as 'stack 0', or nothing."""
-    end, size, count = stacks
-    number = (end - 1 - address) // size if size else count
-    return f'stack {number}' if 0 <= number < count else ''
+    """The stack in which an address lies, as 'stack 0', or nothing. That of context 0 is the last one, or by --spread each ends with its context's part."""
+    if stacks.part:
+        number, place = divmod(address - SHARED, stacks.part)
+        return f'stack {number}' if number < stacks.count and place >= stacks.part - stacks.size else ''
+    number = (stacks.end - 1 - address) // stacks.size if stacks.size else stacks.count
+    return f'stack {number}' if 0 <= number < stacks.count else ''
+
+
+def element_at(stacks, address):
+    """The address in the first context's part for one of the elements of another context, and whose it is, in words; another address as it is."""
+    number, place = divmod(address - SHARED, stacks.part) if stacks.part else (0, 0)
+    return (SHARED + place, f' of context {number}') if number and SHARED + place < stacks.elements else (address, '')
 
 
 def disassembled(elf):

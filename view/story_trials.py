@@ -35,11 +35,11 @@ WRONG = (('gone > 1', 'the program has no variable gone in shared data'), ('pair
          ('less % 0', "'less % 0' divides by 0"), ('open("x")', '.* is no part of an expression: .*'), ('less if flag else 0', '.* is no part of an expression: .*'))
 
 
-def kept(trial, name, text, nodes=2):
-    """Keeps the image and the linked program of a source in C, for so many nodes in a row."""
+def kept(trial, name, text, nodes=2, spread=False):
+    """Keeps the image and the linked program of a source in C, for so many nodes in a row, whose variables may be spread."""
     trial.keep(f'{name}.c', text.encode())
     try:
-        image = cross.build([trial.folder / f'{name}.c'], cross.Sizes(nodes, 1, 1, 32), cross.Options(keep=trial.folder / f'{name}.elf'))
+        image = cross.build([trial.folder / f'{name}.c'], cross.Sizes(nodes, 1, 1, 32), cross.Options(keep=trial.folder / f'{name}.elf', spread=spread))
     except cross.MissingTool as missing:
         raise LeftOut(missing) from missing
     trial.keep(f'{name}.img', image)
@@ -217,6 +217,23 @@ def places_have_names(trial):
     expect(re.fullmatch(r'2 run at .* \(acquire\) in locks\.c:10 .*: 0-1', where.strip()), where)
 
 
+def spread_variables_are_named(trial):
+    """Of a program whose variables are spread alewife-log names the element and the stack of each context, each at its node, and other variables"""
+    words = kept(trial, 'spread', """#include "alewife.h"
+struct pair { LINE uint32_t left; uint32_t right; };
+static struct pair EACH(own);
+static uint32_t count;
+void program(uint32_t context, uint32_t contexts) { store_word(&AT(own, context).right, context); store_word(&count, 1); }""", 3, True)
+    trial.keep('spread.trace', trial.program(['run', '--write', 'trace'], (trial.folder / words[0]).read_bytes()))
+    ran = subprocess.run([HERE / 'alewife-log', 'spread.trace', *words[1:], '--program', trial.binary], cwd=trial.folder, capture_output=True, text=True)
+    told = {match.groups() for match in (re.search(r': context (\d): .* at (0x\S+) \((.*?)\)', row) for row in ran.stdout.splitlines()) if match}
+    count = cross.symbols_of(trial.folder / words[2])['count']
+    own = {(str(context), f'0x{0x40000004 + 512 * context:08x}', 'own+4' + (f' of context {context}' if context else '')) for context in range(3)}
+    expect(told >= own | {(str(context), f'0x{count:08x}', 'count') for context in range(3)}, f'{told}, {ran.stderr}')
+    stacks = {(context, name): (int(at, 16) - 0x40000000) // 512 for context, at, name in told if name.startswith('stack')}
+    expect(stacks == {(str(context), f'stack {context}'): context for context in range(3)}, f'{told}')
+
+
 def claims_are_named(trial):
     """Given a claim the debugger, the page and alewife-log say what it is, and that a trace is wanted"""
     trial.keep('run.claim', trial.program(['run', '--write', 'claim'], trial.program(['asm'], (OUTCOMES / 'peterson.s').read_bytes())))
@@ -228,4 +245,4 @@ def claims_are_named(trial):
 
 
 TRIALS = (stories_are_of_claims, parts_have_names_and_values, statuses_are_the_searchs, searches_stop_at_traps, traces_are_of_claims, traps_on_data_are_told,
-          places_have_names, claims_are_named)
+          places_have_names, spread_variables_are_named, claims_are_named)

@@ -5,9 +5,9 @@
 #ifndef ALEWIFE_H
 #define ALEWIFE_H
 
-#include <stddef.h>
 #include <stdint.h>
 #include <string.h>
+#include "each.h"
 
 /* The program. `context` counts from 0, and there are `contexts`, at most CONTEXTS. */
 void program(uint32_t context, uint32_t contexts);
@@ -156,20 +156,20 @@ struct queue_lock {
     struct {
         LINE uint32_t next;
         uint32_t waits;
-    } of[CONTEXTS];
+    } EACH(of);
 };
 
 /* Waits for the lock, and takes it. */
 static inline void queue_acquire(struct queue_lock *lock)
 {
     uint32_t own = own_context() + 1, before;
-    store_word(&lock->of[own - 1].next, 0);
-    store_word(&lock->of[own - 1].waits, 1);
+    store_word(&AT(lock->of, own - 1).next, 0);
+    store_word(&AT(lock->of, own - 1).waits, 1);
     before = exchange(&lock->last, own);
     if (before == 0)
         return;
-    store_word(&lock->of[before - 1].next, own);
-    while (load_word(&lock->of[own - 1].waits))
+    store_word(&AT(lock->of, before - 1).next, own);
+    while (load_word(&AT(lock->of, own - 1).waits))
         yield();
 }
 
@@ -177,19 +177,19 @@ static inline void queue_acquire(struct queue_lock *lock)
    who comes between the two is before those that were there. */
 static inline void queue_release(struct queue_lock *lock)
 {
-    uint32_t own = own_context() + 1, next = load_word(&lock->of[own - 1].next), between = 0;
+    uint32_t own = own_context() + 1, next = load_word(&AT(lock->of, own - 1).next), between = 0;
     if (next == 0) {
         uint32_t last = exchange(&lock->last, 0);
         if (last == own)
             return;
         between = exchange(&lock->last, last);
-        while ((next = load_word(&lock->of[own - 1].next)) == 0)
+        while ((next = load_word(&AT(lock->of, own - 1).next)) == 0)
             yield();
     }
     if (between)
-        store_word(&lock->of[between - 1].next, next);
+        store_word(&AT(lock->of, between - 1).next, next);
     else
-        store_word(&lock->of[next - 1].waits, 0);
+        store_word(&AT(lock->of, next - 1).waits, 0);
 }
 
 /* A barrier as a tree (after Mellor-Crummey and Scott 1991), in which context c stands above 2c + 1 and 2c + 2. Each line has one context that stores
@@ -200,31 +200,31 @@ struct barrier {
         uint32_t part;
         LINE uint32_t released;
         uint32_t whole;
-    } of[CONTEXTS];
+    } EACH(of);
 };
 
 /* Waits until all contexts have come here with a number, and answers the sum: waits for those below, then for the one above, and lets those
    below go on. */
 static inline uint32_t sum_of_all(struct barrier *barrier, uint32_t contexts, uint32_t number)
 {
-    uint32_t own = own_context(), round = load_word(&barrier->of[own].released) + 1;
+    uint32_t own = own_context(), round = load_word(&AT(barrier->of, own).released) + 1;
     uint32_t first = 2 * own + 1, end = first + 2 < contexts ? first + 2 : contexts;
     for (uint32_t below = first; below < end; below++) {
-        while (load_word(&barrier->of[below].arrived) != round)
+        while (load_word(&AT(barrier->of, below).arrived) != round)
             yield();
-        number += barrier->of[below].part;
+        number += AT(barrier->of, below).part;
     }
     if (own > 0) {
-        barrier->of[own].part = number;
-        store_word(&barrier->of[own].arrived, round);
-        while (load_word(&barrier->of[own].released) != round)
+        AT(barrier->of, own).part = number;
+        store_word(&AT(barrier->of, own).arrived, round);
+        while (load_word(&AT(barrier->of, own).released) != round)
             yield();
-        number = barrier->of[own].whole;
+        number = AT(barrier->of, own).whole;
     } else
-        store_word(&barrier->of[own].released, round);
+        store_word(&AT(barrier->of, own).released, round);
     for (uint32_t below = first; below < end; below++) {
-        barrier->of[below].whole = number;
-        store_word(&barrier->of[below].released, round);
+        AT(barrier->of, below).whole = number;
+        store_word(&AT(barrier->of, below).released, round);
     }
     return number;
 }

@@ -40,18 +40,18 @@ struct dissemination_barrier {
         struct {
             LINE uint32_t told;
         } in[DISSEMINATION_STEPS];
-    } of[CONTEXTS];
+    } EACH(of);
 };
 
 /* Waits until all contexts have come here. What is told is the number of the round, in place of a parity and a sense. Who tells may be a round
    ahead when the other one looks. So that one waits while it finds the number of the last round, and not until it finds that of its own. */
 static inline void dissemination_wait_for_all(struct dissemination_barrier *barrier, uint32_t contexts)
 {
-    uint32_t own = own_context(), round = ++barrier->of[own].round;
+    uint32_t own = own_context(), round = ++AT(barrier->of, own).round;
     for (uint32_t step = 0; 1u << step < contexts; step++) {
         uint32_t behind = own + (1u << step);
-        store_word(&barrier->of[behind < contexts ? behind : behind - contexts].in[step].told, round);
-        while (load_word(&barrier->of[own].in[step].told) == round - 1)
+        store_word(&AT(barrier->of, behind < contexts ? behind : behind - contexts).in[step].told, round);
+        while (load_word(&AT(barrier->of, own).in[step].told) == round - 1)
             yield();
     }
 }

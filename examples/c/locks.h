@@ -74,27 +74,27 @@ struct clh_lock {
     LINE uint32_t last;
     struct {
         LINE uint32_t waits;
-    } lines[CONTEXTS + 1];
+    } ONE_AND_EACH(lines);
     struct {
         LINE uint32_t moved;
         uint32_t before;
-    } of[CONTEXTS];
+    } EACH(of);
 };
 
 /* The number of a context's line. At first it is one more than that of the context, and `moved` is by how much it is more by now. */
 static inline uint32_t clh_line(const struct clh_lock *lock, uint32_t context)
 {
-    return context + 1 + lock->of[context].moved;
+    return context + 1 + AT(lock->of, context).moved;
 }
 
 /* Waits for the lock, and takes it. */
 static inline void clh_acquire(struct clh_lock *lock)
 {
     uint32_t context = own_context(), line = clh_line(lock, context);
-    store_word(&lock->lines[line].waits, 1);
+    store_word(&AT_NUMBER(lock->lines, line).waits, 1);
     uint32_t before = exchange(&lock->last, line);
-    lock->of[context].before = before;
-    while (load_word(&lock->lines[before].waits))
+    AT(lock->of, context).before = before;
+    while (load_word(&AT_NUMBER(lock->lines, before).waits))
         yield();
 }
 
@@ -102,8 +102,8 @@ static inline void clh_acquire(struct clh_lock *lock)
 static inline void clh_release(struct clh_lock *lock)
 {
     uint32_t context = own_context(), line = clh_line(lock, context);
-    lock->of[context].moved = lock->of[context].before - context - 1;
-    store_word(&lock->lines[line].waits, 0);
+    AT(lock->of, context).moved = AT(lock->of, context).before - context - 1;
+    store_word(&AT_NUMBER(lock->lines, line).waits, 0);
 }
 
 #endif

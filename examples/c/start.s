@@ -6,10 +6,18 @@
         .cfi_startproc
         .cfi_undefined 15               ! nothing calls this, of which a debugger has to know
 start:  mov     %o0,%g7                 ! for own_context
+        .ifdef  part_bytes
+        set     part_bytes,%g1          ! by build --spread each stack ends with the part of its context
+        umul    %o0,%g1,%g2
+        set     0x40000000+part_bytes,%g3
+        add     %g3,%g2,%g2
+        set     stack_size,%g1
+        .else
         set     stack_size,%g1
         umul    %o0,%g1,%g2
         set     shared_end,%g3
         sub     %g3,%g2,%g2
+        .endif
         sub     %g2,96,%sp              ! room for what the called function saves
         sub     %g2,%g1,%g2
         add     %g2,16,%g6              ! where a function's frame may begin at the lowest
