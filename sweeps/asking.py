@@ -53,6 +53,14 @@ class Study:
         runs.sweep(path, self.binary, image, runs.TIMED, runs.runs_of(chosen, 1, 1), self.jobs)
         return tables.with_nodes(runs.gather([path])[1])
 
+    def row(self, name, data, /, **options):
+        """The row of one run by time, which isn't kept: options that aren't given are as by default."""
+        image = runs.Image(data, runs.digest_of(data), name)
+        self.images[image.digest] = image
+        chosen = {each: OPTIONS[each]['default'] for each in runs.TIMED.options if each != 'seed'} | {'seed': 0, 'limit': LIMIT} | options
+        row = runs.row_of(runs.read_program(self.binary), image, {each: str(chosen[each]) for each in runs.TIMED.options})
+        return tables.with_nodes([row])[0]
+
     def differing(self, program, rows):
         """How rows are told otherwise by another program, which times their runs again, each in words."""
         def again(row):
@@ -91,9 +99,9 @@ def in_turn(study, make, each):
         return list(pool.map(make, each))
 
 
-def compiled(source, nodes, lines, contexts=1, **defines):
-    """The image of a program in C on a square of nodes."""
-    options = cross.Options(defines=tuple(f'{name}={value}' for name, value in defines.items()))
+def compiled(source, nodes, lines, contexts=1, spread=False, **defines):
+    """The image of a program in C on a square of nodes, whose variables lie one behind another, or spread over the homes."""
+    options = cross.Options(defines=tuple(f'{name}={value}' for name, value in defines.items()), spread=spread)
     return cross.build([source], Sizes(*MESHES[nodes], contexts, lines), options)
 
 

@@ -3,6 +3,7 @@ from itertools import product
 from pathlib import Path
 
 import asking
+import cross
 import tables
 from asking import compiled, lines_of, median, statement, widest
 
@@ -39,6 +40,16 @@ def image_of(source, kind, number):
     """The image of a lock for so many contexts on 64 nodes, or of a barrier on so many nodes."""
     path = HERE / f'{source}.c'
     return compiled(path, 64, LINES, LOCK=kind, ACTIVE=number) if source == 'locks' else compiled(path, number, LINES, BARRIER=kind)
+
+
+def lock_of(kind, number, lines, spread=False):
+    """The image of a lock that so many of 64 contexts take."""
+    return compiled(cross.RUNTIME / 'locks.c', 64, lines, spread=spread, LOCK=kind, ACTIVE=number, TIMES=TIMES)
+
+
+def barrier_of(kind, nodes, lines, spread=False):
+    """The image of a barrier to which all contexts of so many nodes come, with nothing between its rounds."""
+    return compiled(cross.RUNTIME / 'barriers.c', nodes, lines, spread=spread, BARRIER=kind, ROUNDS=ROUNDS, LOOKS=0)
 
 
 def each_table(head, own, kinds, numbers, per):

@@ -66,7 +66,13 @@ def measured(study, access, costs):
 
 
 def measured_of(study, access, source, costs, pointers=4):
-    """The cycles of an access of a source, from the start of the miss to the end of the last delivery to its node, as a run's moments tell it."""
+    """The cycles of an access of a source."""
+    begun, ended = span_of(study, access, source, costs, pointers)
+    return ended - begun
+
+
+def span_of(study, access, source, costs, pointers):
+    """The cycle in which the miss of an access starts, and the one in which the last delivery to its node ends, as a run's moments tell them."""
     image = runs.asked(study.binary, ['asm'], source)
     words = [word for name, value in {**costs, 'pointers': pointers}.items() for word in (f'--{name}', str(value))]
     begun = ended = None
@@ -74,7 +80,12 @@ def measured_of(study, access, source, costs, pointers=4):
     last = max(at for at, match in enumerate(moments) if match[4] == str(access.node))
     for match in moments[:last + 1]:
         begun, ended = (int(match[1]) if match[3] == str(access.node) else begun), int(match[2])
-    return ended - begun
+    return begun, ended
+
+
+def row_of(study, access, costs):
+    """The row of the run of an access."""
+    return study.row(access.text, runs.asked(study.binary, ['asm'], source_of(access)), **costs)
 
 
 def answer(study):
@@ -92,4 +103,5 @@ def answer(study):
     said += statement(measured(study, software, asking.COSTS | {'trap': trap}) == SOFTWARE_READ, 'table 5', f'a load that software serves takes {SOFTWARE_READ} cycles: so it '
                       f'does with a handler of {trap}, a cost that was chosen for it; by default it takes {own}.')
     said += statement(None, '', "the paper's other latencies: the paper wasn't at hand, and since a user sets the costs, a sum that gives a figure would show nothing.")
-    return asking.Answer({'accesses': lines_of(('access', 'by hand', 'cycles', 'run'), rows, 2), 'latencies': said}, {}, f'{len(tried) + 1} runs on 64 nodes')
+    audited = asking.in_turn(study, lambda each: row_of(study, *each), tried)
+    return asking.Answer({'accesses': lines_of(('access', 'by hand', 'cycles', 'run'), rows, 2), 'latencies': said}, {}, f'{len(tried) + 1} runs on 64 nodes', audited)

@@ -1,18 +1,25 @@
 """What sharing costs: words of several nodes in one line, and a store to a line of which others have copies."""
 import re
+import subprocess
+import tempfile
 from itertools import product
 from pathlib import Path
 
 import asking
+import cross
 import latencies
+import plots
 import runs
 import tables
+from alewife import limit_of
 from asking import MESHES, lines_of, median, statement, told_ratios, widest
 
 SOURCE = Path(__file__).resolve().parent / 'sharing.s'
 CONTEXTS, WORDS, TIMES = (2, 4, 8, 16), (4, 2, 1), 32
 TURN = tables.Per(str(TIMES))
 NODES, TRIED, COPIES = (16, 64), 16, (1, 2, 4, 8, 15, 31, 63)
+# The store that is drawn: how many copies it finds on the most nodes, and how many cycles stand before and behind it.
+DRAWN, AROUND = 16, 12
 # The home of the line that is stored to, and the node that does, two hops from it.
 PLACES = {16: (5, 7), 64: (latencies.HOME, latencies.NEAR[0])}
 
@@ -164,6 +171,34 @@ def copy_statements(tried, own):
                     f'table 11 says: on {NODES[-1]} nodes a store takes {one} cycles with one copy, and {most} with {COPIES[-1]}.')
 
 
+# ---- pictures
+
+
+def copies_picture(own):
+    """Cycles of a store by its copies on the most nodes, with few pointers and with a full map."""
+    named = {4: '4 pointers', runs.ALL: 'a full map'}
+    groups = {(named[pointers], str(copies)): [{'cycles': str(run)}] for (nodes, copies, pointers), (_, run) in own.items() if nodes == NODES[-1]}
+    return plots.picture(groups, 'copies of the line', ['cycles'], plots.Look('linear', True, order=tuple(named.values())), per=tables.Per('1', 'cycles of the store'))
+
+
+def store_picture(study):
+    """What each node does in each cycle of one store, with few pointers and below it with a full map, as view/alewife-timeline draws it."""
+    access, source = store_of(NODES[-1], DRAWN)
+    image, spans = runs.asked(study.binary, ['asm'], source), {pointers: latencies.span_of(study, access, source, asking.COSTS, pointers) for pointers in (4, runs.ALL)}
+    ends = [min(begun for begun, _ in spans.values()) - AROUND, max(ended for _, ended in spans.values()) + AROUND]
+    words = ['--program', str(study.binary), '--from', str(ends[0]), '--to', str(ends[1])]
+    with tempfile.TemporaryDirectory() as folder:
+        logs = [Path(folder, f'{pointers}.trace') for pointers in spans]
+        for log, (pointers, (begun, ended)) in zip(logs, spans.items()):
+            log.write_bytes(runs.asked(study.binary, ['run', '--cycles', '0', '--limit', str(limit_of(NODES[-1])), '--pointers', str(pointers), '--write', 'trace'], image))
+            words += ['--title', f'{"a full map" if pointers == runs.ALL else f"{pointers} pointers"}: the store takes {ended - begun} cycles']
+        made = Path(folder, 'store.svg')
+        ran = subprocess.run([cross.ROOT / 'view' / 'alewife-timeline', *logs, *words, '--picture', made], stderr=subprocess.PIPE, text=True)
+        if ran.returncode:
+            raise runs.SweepError(f'view/alewife-timeline draws no store: {ran.stderr.strip()}')
+        return made.read_text()
+
+
 def answer(study):
     """The blocks of this question."""
     rows, beside = line_rows(study)
@@ -171,5 +206,6 @@ def answer(study):
     own = {each[:3]: found for each, found in tried if each[3] == asking.COSTS}
     said = ''.join([*line_statements(rows, beside), *copy_statements(tried, own)])
     count = sum(len(group) for each in (rows, beside) for group in each.values()) + len(tried)
-    return asking.Answer({'lines': lines_table(rows), 'copies': copies_table(own), 'sharing': said}, {}, study.told(count, NODES),
+    pictures = {'papers-copies.svg': copies_picture(own), 'papers-store.svg': store_picture(study)}
+    return asking.Answer({'lines': lines_table(rows), 'copies': copies_table(own), 'sharing': said}, pictures, study.told(count, NODES),
                          [row for group in rows.values() for row in group])

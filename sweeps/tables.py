@@ -94,11 +94,14 @@ def grouped(rows, by, series=None):
 
 @dataclass(frozen=True)
 class Per:
-    """What counts are divided by: columns and numbers, multiplied, as nodes*4."""
+    """What counts are divided by: columns and numbers, multiplied, as nodes*4; and what they are called then, where that is said."""
     text: str
+    called: str = ''
 
     def head(self, column):
         """What a count is called that is divided so."""
+        if self.called:
+            return self.called
         return f'{column} / ({self.text})' if '*' in self.text else f'{column} / {self.text}'
 
     def of(self, row):

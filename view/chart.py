@@ -11,7 +11,7 @@ from frames import ViewError
 from picture import text
 
 WIDE, LEFT, RIGHT, ROW, LANE, HEAD, LEGEND, FOOT = 960, 76, 20, 18, 7, 30, 58, 44
-MOST_MARKS = 12
+MOST_MARKS = 16
 LETTER = 7.6
 AT_HOME = ('RREQ', 'WREQ', 'REPM', 'UPDATE', 'ACKC')
 INSTRUCTION, HOME, CACHE, HANDLER, EVICTION = 'instruction', 'delivery at a home', 'delivery at a cache', 'handler', 'eviction'
