@@ -23,6 +23,7 @@ COMPILERS = ['sparc64-linux-gnu-gcc'] + [f'sparc64-linux-gnu-gcc-{version}' for 
 BINUTILS = ('as', 'ld', 'objcopy', 'objdump', 'nm', 'addr2line')
 MARK = 0x5354414b
 BELOW, ABOVE = 16, 96
+YIELD_LINES = 256
 
 # Code without register windows, floating point and tables of jumps, since data can't be read from code, and with nothing in delay
 # slots, where the two instructions that take the place of one would have no room. What isn't used isn't linked. A function begins with its
@@ -170,11 +171,21 @@ class Build:
         for context in range(self.contexts()):
             yield SHARED + (context + 1) * self.plan.part - size if self.plan else self.end() - (context + 1) * size
 
+    def yields_at_home(self):
+        """Whether yield loads from lines of the node itself: it has two so far apart, stands at whole KiB, and variables aren't spread over the nodes."""
+        return not self.options.spread and self.sizes.contexts > 1 and self.sizes.lines > YIELD_LINES and self.sizes.lines % YIELD_LINES == 0
+
+    def stack_of(self, least):
+        """The bytes of the smallest stack that has so many, as machine.ld makes them."""
+        unit = LINE_BYTES if not self.yields_at_home() else 256 if least <= 256 else 512 if least <= 512 else 1024
+        return -(-least // unit) * unit
+
 
 def translated(build, file, made):
     """Compiles a source in C to assembly for this machine, and notes its calls."""
     headers = [word for folder in (RUNTIME / 'include', called([build.gcc, '-print-file-name=include']).strip()) for word in ('-isystem', folder)]
-    sizes = [f'-DCONTEXTS_A_NODE={build.sizes.contexts}', f'-DCONTEXTS={build.contexts()}', *(f'-D{name.upper()}={size}' for name, size in build.part().items())]
+    sizes = [f'-DCONTEXTS_A_NODE={build.sizes.contexts}', f'-DCONTEXTS={build.contexts()}', f'-DLINES_A_NODE={build.sizes.lines}',
+             f'-DYIELDS_AT_HOME={build.yields_at_home():d}', *(f'-D{name.upper()}={size}' for name, size in build.part().items())]
     called([build.gcc, *FLAGS, *build.flags, *headers, *sizes, *(f'-D{each}' for each in build.options.defines), f'-I{RUNTIME}', '-S', file, '-o', made])
     lines = (part for line in made.read_text().splitlines() for part in without_doubles(line))
     made.write_text(''.join(part + '\n' for line in lines for part in with_check(line)))
@@ -226,8 +237,8 @@ def linked(build, files):
     the debugger's lines of it would be at addresses of the code; and by --spread it puts variables where they lie."""
     objects, made, script = all_compiled(build, files), build.folder / 'program.elf', build.folder / 'machine.ld'
     words = ['sparc64-linux-gnu-ld', '-m', 'elf32_sparc', '-z', 'noexecstack', '--orphan-handling=error', f'--defsym=shared_end={build.end()}',
-             f'--defsym=stack_mark={MARK}', f'--defsym=contexts={build.contexts()}', *(f'--defsym={name}={size}' for name, size in build.part().items()),
-             *objects, '-o', made]
+             f'--defsym=stack_mark={MARK}', f'--defsym=contexts={build.contexts()}', f'--defsym=yields_at_home={build.yields_at_home():d}',
+             *(f'--defsym={name}={size}' for name, size in build.part().items()), *objects, '-o', made]
     unused = UNUSED.findall(answered([*words, '--gc-sections', '--print-gc-sections', '-T', RUNTIME / 'machine.ld'])[1])
     text = (RUNTIME / 'machine.ld').read_text()
     if build.options.spread:
@@ -316,7 +327,7 @@ def check_stack(build, symbols):
     wanted, size, contexts = BELOW + depth + ABOVE, symbols['stack_size'], build.contexts()
     least = ' at least' if unknown else ''
     if wanted > size:
-        room = symbols['data_end'] - SHARED + contexts * ((wanted + LINE_BYTES - 1) // LINE_BYTES * LINE_BYTES)
+        room = symbols['data_end'] - SHARED + contexts * build.stack_of(wanted)
         lines = build.plan.lines(wanted) if build.plan else -(-room // (LINE_BYTES * build.sizes.width * build.sizes.height))
         said = f'stack {wanted} bytes a context{least}, there are {size}: give {lines} lines a node'
         if not build.options.any_stack or size < BELOW + ABOVE:

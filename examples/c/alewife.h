@@ -61,15 +61,23 @@ static inline uint32_t own_context(void)
     return context;
 }
 
+/* The number of its node: a quotient without a division, right for up to 1024 contexts. */
+static inline uint32_t own_node(void)
+{
+    return own_context() * ((1 << 17) / CONTEXTS_A_NODE + 1) >> 17;
+}
+
 /* Lets the node's other contexts run. A context gives way only where it misses, so this loads from two lines that no cache of at most
-   256 sets can hold at once: one of them is missing. A context that is alone on its node has nobody to give way to. */
+   256 sets can hold at once: one of them is missing. Where a node has 512 home lines, or 256 more, and so on, each of its contexts has two
+   of these, in a set of its own, and else all contexts share two. A context that is alone on its node has nobody to give way to. */
 #if CONTEXTS_A_NODE > 1
-#define YIELD_WORDS (256 * 16 / 4)
-extern volatile uint32_t yield_words[YIELD_WORDS + 4];
+enum { YIELD_LINES = 256, YIELD_STEP = YIELD_LINES / 4 };
+extern volatile uint32_t yield_words[][YIELDS_AT_HOME ? LINES_A_NODE : YIELD_LINES + 1][4];
 static inline void yield(void)
 {
-    (void)yield_words[0];
-    (void)yield_words[YIELD_WORDS];
+    uint32_t node = YIELDS_AT_HOME ? own_node() : 0, first = YIELDS_AT_HOME ? (own_context() - node * CONTEXTS_A_NODE) * YIELD_STEP : 0;
+    (void)yield_words[node][first][0];
+    (void)yield_words[node][first + YIELD_LINES][0];
 }
 #else
 static inline void yield(void)

@@ -7,8 +7,8 @@ uint32_t unsigned_rest(uint32_t, uint32_t) __asm__(".urem");
 int32_t signed_quotient(int32_t, int32_t) __asm__(".div");
 int32_t signed_rest(int32_t, int32_t) __asm__(".rem");
 
-#if CONTEXTS_A_NODE > 1
-LINE volatile uint32_t yield_words[YIELD_WORDS + 4];
+#if CONTEXTS_A_NODE > 1 && !YIELDS_AT_HOME
+LINE volatile uint32_t yield_words[1][YIELD_LINES + 1][4];
 #endif
 
 /* Divides bit by bit, from the quotient's highest. Where the divisor is 0 the context traps with tt 0x82. */
