@@ -12,9 +12,11 @@ from concurrent.futures import ThreadPoolExecutor
 from dataclasses import dataclass
 from pathlib import Path
 
+import idle
 import progress
 import times
 from alewife import HEAD, MAGIC, RAN, SUMMARY_NAMES, ProgramError, called, digest_of, options_of, summary_of
+from idle import Idle
 
 MOST, MOST_TOLD = 1_000_000, 10
 MOST_POINTERS, ALL = options_of('run')['pointers']['last'], options_of('run')['pointers']['word']
@@ -86,10 +88,11 @@ def way_of(names):
 
 @dataclass(frozen=True)
 class Image:
-    """An image, the first 16 digits of its SHA-256, by which rows name it, and the name of what it runs."""
+    """An image, the first 16 digits of its SHA-256, by which rows name it, the name of what it runs, and what of it is idle, if that is asked."""
     data: bytes
     digest: str
     name: str
+    idle: Idle | None = None
 
     @property
     def nodes(self):
@@ -97,11 +100,18 @@ class Image:
         _, _, width, height, *_ = HEAD.unpack_from(self.data) if self.data.startswith(MAGIC) and len(self.data) >= HEAD.size else [0] * 4
         return width * height
 
+    def columns(self, way):
+        """The columns of a row of its runs."""
+        return (*way.columns[:-1], *(idle.NAMES if way is SEEDED else idle.TIMED_NAMES), way.columns[-1]) if self.idle else way.columns
 
-def read_image(path, name=None):
-    """The image in a file, called by a name, or else by the file's."""
+
+def read_image(path, name=None, elf=None, functions=()):
+    """The image in a file, called by a name, or else by the file's; functions of its linked program are idle."""
     data = read(path)
-    return Image(data, digest_of(data), name or Path(path).stem)
+    found = idle.idle_of(elf, functions, data) if functions else None
+    if functions and not found:
+        raise SweepError(f"the code of {elf} isn't that of {path}")
+    return Image(data, digest_of(data), name or Path(path).stem, found)
 
 
 def read(path):
@@ -206,7 +216,16 @@ def row_of(program, image, options):
     told = [options, read_as(summary_of, text, words, 'summary')]
     if way_of(options) is TIMED:
         told.append(read_as(times.times_of, asked(program.path, [*words, '--write', 'cycles'], image.data), words, 'account of cycles'))
+    if image.idle:
+        told.append(idle_columns(image.idle, asked(program.path, [*words, '--write', 'profile'], image.data), told[-1], options))
     return {'name': image.name, 'image': image.digest, **joined(words, *told), 'program': program.digest}
+
+
+def idle_columns(found, profile, told, options):
+    """What a row has of idle turns, by the profile of its run and by what was told of it last; a turn takes `hit` cycles."""
+    turns, misses = found.counts(profile)
+    work = {'work_cycles': str(int(told['turn_cycles']) - int(options['hit']) * turns)} if way_of(options) is TIMED else {}
+    return {'idle': found.told(), 'idle_turns': str(turns), 'idle_misses': str(misses), **work}
 
 
 def row_or_fault(program, image, options):
@@ -265,10 +284,10 @@ def read_rows(path, text):
 def keys_in(path, text, image, way, wanted):
     """The keys of the rows that a file of this sweep has. Refuses a file of another one."""
     columns, rows = read_rows(path, text)
-    if tuple(columns) != way.columns:
+    if tuple(columns) != image.columns(way):
         raise SweepError(f'{path} has other columns')
     for number, row in rows:
-        if row['image'] != image.digest or key_of(row) not in wanted:
+        if row['image'] != image.digest or key_of(row) not in wanted or (image.idle and row['idle'] != image.idle.told()):
             raise SweepError(f'{path} is there with other runs (line {number}): name another file, or remove it')
     return {key_of(row) for _, row in rows}
 
@@ -353,14 +372,14 @@ def sweep(path, binary, image, way, runs, jobs=1):
         if len(keys_in(path, read(path).decode(errors='replace'), image, way, wanted)) < len(wanted):
             raise SweepError(f'{path} is there with fewer runs: name another file, and gather both')
         return 0, len(wanted)
-    with Sheet(path, way.columns) as sheet:
+    with Sheet(path, image.columns(way)) as sheet:
         done, faults = keys_in(sheet.partial, sheet.text, image, way, wanted), []
         left = [options for key, options in wanted.items() if key not in done]
         for row in progress.counted(rows_of(read_program(binary), image, left, jobs), 'rows', len(left)):
             if isinstance(row, RunError):
                 faults.append(row)
             else:
-                sheet.add(row[name] for name in way.columns)
+                sheet.add(row[name] for name in image.columns(way))
         refuse_faults(faults, len(wanted), sheet.partial)
         sheet.finish()
     return len(wanted) - len(done), len(wanted)

@@ -123,7 +123,7 @@ def count_of(row, column):
 # The columns that are computed of a timed run: a count of it, and what that is told for.
 COMPUTED = {
     'latency': ('access_cycles', Per('accesses')),
-    **{f'{name}_share': (f'{name}_cycles', Per('nodes*cycles')) for name in times.SPENT.values()},
+    **{f'{name}_share': (f'{name}_cycles', Per('nodes*cycles')) for name in (*times.SPENT.values(), 'work')},
 }
 
 

@@ -1,15 +1,12 @@
 """Where the code of a run is in its source, and what lies in shared data, by the linked program or by a listing, for what doesn't have the code itself."""
 import shutil
 import struct
-import tempfile
 from pathlib import Path
 
 import cross
+import functions
 import statements
-from alewife import WORD
 from frames import ViewError
-
-ASKED_AT_ONCE = 4096
 
 
 class Places:
@@ -34,11 +31,8 @@ class Linked(Places):
                 raise ViewError(f'there is no sparc64-linux-gnu-{tool}; on Debian: apt-get install binutils-sparc64-linux-gnu')
         if not Path(elf).is_file():
             raise ViewError(f"can't read {elf}: it is no file")
-        with tempfile.TemporaryDirectory() as folder:
-            self.words = words_of(cross.section(elf, '.text', folder))
-        addresses = [f'0x{WORD * at:08x}' for at in range(len(self.words))]
-        parts = (addresses[at:at + ASKED_AT_ONCE] for at in range(0, len(addresses), ASKED_AT_ONCE))
-        placed = {int(address, 16): place for part in parts for address, place in cross.places_of(elf, part).items()}
+        self.words = words_of(functions.code_of(elf))
+        placed = functions.places_of(elf, len(self.words))
         asserted = {address: f': {text}' for address, (_, text) in cross.assertions_of(elf).items()}
         self.places = {address: f'{place}{asserted.get(address, "")}' for address, place in placed.items()}
         self.symbols, self.end = statements.variables_of(elf)

@@ -327,6 +327,16 @@ def functions_and_variables_are_told(trial):
     expect([sum(row[name] for row, _ in variables) for name in ('accesses', 'waited')] == run.totals('accesses')[:2], f'{variables}')
     ends = {int(event[event.index(way) + 1], 16) for event in run.events for way in ('reads', 'writes') if way in event}
     flags = cross.symbols_of(trial.folder / 'peterson.elf')['flags']
+    own = cross.symbols_of(trial.folder / 'peterson.elf')['program']
+    pcs = [int(event[6], 16) for event in run.events if event[1] == 'I' and 'misses' not in event]
+    turns = f'turns {len(pcs)} idle {sum(pc >= own for pc in pcs)} work {sum(pc < own for pc in pcs)}'
+    cycles = int(re.search(r'^cycles (\d+)$', run.cycles, re.M)[1])
+    shares = 'utilization {:.1f} %, by work alone {:.1f} %'.format(*(100 * count / cycles for count in (len(pcs), sum(pc < own for pc in pcs))))
+    head = said(trial, 'top', 'peterson.trace', *words, '--idle', 'program').split('\n\n')[0].split('\n')
+    expect((head[1], head[3]) == (turns, shares), f'{head}, and not {turns}, {shares}')
+    trial.keep('peterson.profile', trial.program(['run', '--cycles', '0', '--write', 'profile'], image))
+    head = said(trial, 'top', 'peterson.profile', '--elf', 'peterson.elf', '--idle', 'program', '--idle', 'yield').split('\n\n')[0]
+    expect(head == turns, f'{head}, and not {turns}')
     expect({'flags', 'stack 0', 'stack 1'} <= {name for _, name in variables} and any(flags <= address < flags + 32 for address in ends), f'{variables}')
 
 
@@ -432,6 +442,7 @@ def other_moments_are_refused(trial):
             ('timeline', ('timed.log',), 1, 'a log has no cycles: name its moments .*'), ('timeline', ('spill.trace',), 1, 'refused: .* not finished'),
             ('log', ('timed.log', '--moments', 'timed.moments', '--counts'), 2, 'error: argument --counts: not allowed with argument --moments'),
             ('top', ('timed.log', '--moments', 'timed.moments', '--by', 'misses'), 2, 'error: argument --by: of cycles it is one of cycles, waited'),
+            ('top', ('timed.log', '--moments', 'timed.moments', '--idle', 'look'), 2, 'error: argument --idle: it names a function of --elf'),
             ('top', ('timed.log', '--by', 'waited'), 2, 'error: argument --by: of a profile it is one of misses, .*')):
         told = said(trial, tool, *words, ends_with=status, is_late='costs.moments' in words)
         expect(re.fullmatch(f'alewife-{tool}: {line}', told), f'{tool} {" ".join(words)}: {told}')

@@ -42,10 +42,12 @@ class Code:
 
 
 class Waits:
-    """What a run's events so far took: the cycles of the run, all accesses, and those by place of the code, by line, and by variable."""
+    """What a run's events so far took: the cycles of the run, all accesses, and those by place of the code, by line, and by variable; and its turns,
+    all of them and those at idle addresses."""
 
-    def __init__(self, head, places):
+    def __init__(self, head, places, idle=frozenset()):
         self.contexts, self.places, self.cycles, self.accesses, self.firsts = head.contexts, places, 0, Total(), {}
+        self.idle, self.all, self.idling = idle, Code(), Code()
         self.code, self.lines, self.variables = defaultdict(Code), defaultdict(Total), defaultdict(Total)
 
     def place(self, event):
@@ -68,7 +70,8 @@ class Waits:
             code.misses, code.missing = code.misses + 1, code.missing + moment.finish - moment.start
             self.firsts.setdefault(context, moment.start)
             return
-        code.turns, code.cycles = code.turns + 1, code.cycles + moment.finish - moment.start
+        for each in (code, self.all, *([self.idling] if event.number('pc') in self.idle else [])):
+            each.turns, each.cycles = each.turns + 1, each.cycles + moment.finish - moment.start
         if context in self.firsts:
             address = event.number('read_at') or event.number('written_at')
             time = moment.start - self.firsts.pop(context)
