@@ -14,7 +14,7 @@ from alewife import MOST_TURNS, Sizes, options_of
 OPTIONS = options_of('run', times.TURNING)
 COSTS = {name: int(OPTIONS[name]['default']) for name in times.COSTS}
 LIMIT = OPTIONS['limit']['last']
-MESHES = {4: (2, 2), 16: (4, 4), 64: (8, 8)}
+MESHES = {4: (2, 2), 16: (4, 4), 64: (8, 8), 256: (16, 16)}
 SOUND = 'sound'
 KERNELS = cross.ROOT / 'examples' / 'c' / 'kernels'
 # What a question is answered with: blocks of the document by their names, pictures by theirs, what the tables were made of, and the rows of the main
@@ -42,11 +42,11 @@ class Study:
         on = ' and '.join(map(str, nodes or self.nodes))
         return f'{count:,} runs on {on} nodes, by ' + (f'seeds {min(self.seeds)} to {max(self.seeds)}' if len(self.seeds) > 1 else f'seed {self.seeds[0]}')
 
-    def rows(self, name, data, /, **lists):
+    def rows(self, name, data, /, idle=None, **lists):
         """The rows of an image's runs by time, kept under a name: each list is of an option, and those that aren't given are as by default. A full map
-        is told as all."""
+        is told as all. Turns of some functions may be told as idle."""
         digest = runs.digest_of(data)
-        image = self.images[digest] = runs.Image(data, digest, name)
+        image = self.images[digest] = runs.Image(data, digest, name, idle)
         chosen = {each: [int(OPTIONS[each]['default'])] for each in runs.TIMED.options} | {'seed': self.seeds, 'limit': [LIMIT]} | lists
         chosen['pointers'] = dict.fromkeys(image.nodes if each == runs.ALL else each for each in chosen['pointers'])
         path = self.parts / f'{name}.csv'

@@ -92,30 +92,32 @@ def over_full(wide, pointers, trap):
     return list(ratios([groups[pointers, trap]], [groups['all', trap]]))
 
 
-def near_statements(wide, beside):
-    """Whether four pointers are as good as a full map, by each trap of the paper."""
+def near_statements(wide, beside, others=('25', '100', '150'), table='table 1'):
+    """Whether four pointers are as good as a full map, with a handler of 50 cycles, by neighbouring costs if there are such runs, and by other traps."""
     near = over_full(wide, '4', '50')
     groups = [by(group, 'pointers') for group in beside.values()]
     near += ratios([group[('4',)] for group in groups], [group[('all',)] for group in groups])
-    yield statement(is_near(near), 'tables 1 and 4', f'four pointers and a handler of 50 cycles are as good as a full map, within {NEAR}: '
-                    f'{told_ratios(near)} times its cycles by all seeds, and with each cost a cycle less or more.')
-    for trap in ('25', '100', '150'):
+    also = ', and with each cost a cycle less or more' if beside else ''
+    yield statement(is_near(near), 'tables 1 and 4' if beside else table, f'four pointers and a handler of 50 cycles are as good as a full map, within {NEAR}: '
+                    f'{told_ratios(near)} times its cycles by all seeds{also}.')
+    for trap in others:
         found = over_full(wide, '4', trap)
-        yield statement(is_near(found), 'table 1', f'so they are with a handler of {trap} cycles: {told_ratios(found)}.')
+        yield statement(is_near(found), table, f'so they are with a handler of {trap} cycles: {told_ratios(found)}.')
 
 
-def few_statements(wide, beside):
+def few_statements(wide, beside, traps=('50', '100', '150'), table='table 1'):
     """Whether fewer pointers cost more, and whether one pointer is the worst step."""
     groups = by(wide, 'pointers', 'trap')
-    steps = {trap: [spread(groups[each, trap]).median for each in ('1', '2', '4', 'all')] for trap in ('50', '100', '150')}
+    steps = {trap: [spread(groups[each, trap]).median for each in ('1', '2', '4', 'all')] for trap in traps}
     falls = all(a >= b * 0.99 for each in steps.values() for a, b in zip(each, each[1:]))
     ones = [ratio for group in [default_of(wide), *beside.values()]
             for found in [by(group, 'pointers')] for ratio in ratios([found[('1',)]], [found[('all',)]])]
-    yield statement(falls and min(ones) > 1.05, 'tables 1 and 4', 'medians fall, or are level within 1 %, from one pointer to two, to four and to a full map, '
-                    f'with handlers of 50, 100 and 150 cycles; one pointer and 50 cycles take {told_ratios(ones)} times those of a full map, by all seeds and '
-                    'with each cost a cycle less or more.')
+    also = ' and with each cost a cycle less or more' if beside else ''
+    yield statement(falls and min(ones) > 1.05, 'tables 1 and 4' if beside else table, 'medians fall, or are level within 1 %, from one pointer to two, to four '
+                    f'and to a full map, with handlers of {", ".join(traps[:-1])} and {traps[-1]} cycles; one pointer and 50 cycles take {told_ratios(ones)} times '
+                    f'those of a full map, by all seeds{also}.')
     first = all(each[0] - each[1] > each[1] - each[2] for each in steps.values())
-    yield statement(first, 'table 1', 'the worst step is the one from two pointers to one, as in the paper, whose Weather has variables with two readers: from '
+    yield statement(first, table, 'the worst step is the one from two pointers to one, as in the paper, whose Weather has variables with two readers: from '
                     + '; '.join(f'{tables.told(a)} to {tables.told(b)} and {tables.told(c)} with {trap}' for trap, (a, b, c, _) in steps.items())
                     + '. Here a line of cells has three readers, so that the step from two pointers to three is the one that counts.')
 

@@ -85,5 +85,6 @@ def statements(rows, beside):
 def answer(study):
     """The blocks of this question."""
     rows, beside = all_rows(study)
-    count = sum(len(group) for groups in (*rows.values(), *beside.values()) for group in groups.values())
-    return asking.Answer({'contexts': table_of(rows), 'multithreading': ''.join(statements(rows, beside))}, {}, study.told(count, (64,)))
+    main, others = ([row for groups in found.values() for group in groups.values() for row in group] for found in (rows, beside))
+    blocks = {'contexts': table_of(rows), 'multithreading': ''.join(statements(rows, beside))}
+    return asking.Answer(blocks, {}, study.told(len(main) + len(others), (64,)), main)
