@@ -1,0 +1,32 @@
+//! Windows of the timed schedule: each node goes on by itself for as many cycles as a message takes at
+//! least to another node.
+#![tactic(auto)]
+
+ghost use Rattle.std.specs.Prelude.{◌≡◌, ◌≢◌, ◌+◌, ◌<◌, ℕ, true, ◌↔◌};
+ghost use Rattle.alw_msg.specs.declared.events.Event.{Event};
+ghost use Rattle.alw_msg.specs.Events.{node_of};
+ghost use Rattle.alw_image.specs.Images.{node_count};
+ghost use Rattle.alw_model.specs.Machine.{has_halted};
+ghost use Rattle.alw_mesh.specs.Histories.{History, IsRun, state_of, may_be_next, grown};
+ghost use Rattle.alw_times.specs.declared.costs.Costs.{Costs};
+ghost use Rattle.law_windows.specs.Windows.{lookahead, arrivals_between, GoOnFrom, start_next, key_next, ComesBelow};
+
+/// What an event sends to another node arrives no sooner than the lookahead behind the event's start, and
+/// behind all that was under way there. What is under way between two other nodes stays as it is.
+pub fn messages_take_time()
+    ensures sent { (h : History) → (costs : Costs) → (event : Event) → IsRun h → may_be_next h event ≡ true → (to : ℕ) → to < node_count h.image → to ≢ node_of event →
+        GoOnFrom (start_next h costs event + lookahead costs) (arrivals_between h costs (node_of event) to) (arrivals_between (grown h event) costs (node_of event) to) }
+    ensures others { (h : History) → (costs : Costs) → (event : Event) → IsRun h → may_be_next h event ≡ true → (from to : ℕ) → from ≢ node_of event → to < node_count h.image → to ≢ node_of event →
+        arrivals_between (grown h event) costs from to ≡ arrivals_between h costs from to }
+{}
+
+/// An event of one node changes nothing of what comes next at another one before the lookahead behind the
+/// event's start, nor the key of it. The last context doesn't halt with the event.
+pub fn nodes_choose_alone()
+    ensures comes { (h : History) → (costs : Costs) → (event : Event) → IsRun h → may_be_next h event ≡ true → has_halted (state_of (grown h event)) ≡ has_halted (state_of h) →
+        (n : ℕ) → n < node_count h.image → n ≢ node_of event → (other : Event) →
+        ComesBelow (grown h event) costs n (start_next h costs event + lookahead costs) other ↔ ComesBelow h costs n (start_next h costs event + lookahead costs) other }
+    ensures key { (h : History) → (costs : Costs) → (event : Event) → IsRun h → may_be_next h event ≡ true → has_halted (state_of (grown h event)) ≡ has_halted (state_of h) →
+        (n : ℕ) → n < node_count h.image → n ≢ node_of event → (other : Event) →
+        ComesBelow h costs n (start_next h costs event + lookahead costs) other → key_next (grown h event) costs other ≡ key_next h costs other }
+{}
