@@ -6,3 +6,4 @@ pub mod Others
 pub mod Together
 pub mod Choices
 pub mod Alone
+pub mod Windows

@@ -1,13 +1,13 @@
 -- Windows of cycles: each node goes on by itself through one, since what another node sends meanwhile arrives behind it.
-use Rattle.std.specs.Prelude.{◌≡◌, ℕ, ◌+◌, ◌<◌, ◌≤◌, true, false, List, ◌++◌, ◌⊎◌}
+use Rattle.std.specs.Prelude.{◌≡◌, ℕ, ◌+◌, ◌<◌, ◌≤◌, ◌==◌, true, false, List, [], ◌∷◌, ◌++◌, filter, ◌⊎◌}
 use Rattle.std.specs.List.{AllByRecursion}
 use Rattle.alw_msg.specs.declared.events.Event.{Event}
 use Rattle.alw_msg.specs.Events.{node_of, is_evict}
-use Rattle.alw_model.specs.Machine.{link_place}
-use Rattle.alw_mesh.specs.Histories.{History, may_be_next}
+use Rattle.alw_model.specs.Machine.{link_place, has_halted}
+use Rattle.alw_mesh.specs.Histories.{History, state_of, may_be_next, grown}
 use Rattle.alw_times.specs.declared.costs.Costs.{Costs}
 use Rattle.alw_times.specs.Times.{queue_at}
-use Rattle.alw_due.specs.Due.{times_in, start_for, is_due_for, key_for, is_before}
+use Rattle.alw_due.specs.Due.{times_in, start_for, is_due_for, key_for, is_before, IsFirstDue, EventsAreTimed}
 
 -- ---- what a message takes
 
@@ -46,3 +46,56 @@ pub record ComesBelow (h : History) (costs : Costs) (n bound : ℕ) (event : Eve
   pub due : IsDueAt h costs n event
   pub first : (other : Event) → IsDueAt h costs n other → (other ≡ event) ⊎ (is_before (key_next h costs event) (key_next h costs other) ≡ true)
   pub below : start_next h costs event < bound
+
+-- a node's run alone, below a bound: one after another its first events come, while all other nodes stand still
+abbrev pub RunsAlone : History → Costs → ℕ → ℕ → List Event → Type 0
+RunsAlone h costs n bound [] = Unit {0}
+RunsAlone h costs n bound (event ∷ rest) = ComesBelow h costs n bound event × RunsAlone (grown h event) costs n bound rest
+
+-- a machine once these events have happened
+abbrev pub grown_by : History → List Event → History
+grown_by h [] = h
+grown_by h (event ∷ rest) = grown_by (grown h event) rest
+
+-- the whole of it: none is left below the bound
+pub record IsRunAlone (h : History) (costs : Costs) (n bound : ℕ) (events : List Event) : Type 0 where
+  pub runs : RunsAlone h costs n bound events
+  pub none_left : (event : Event) → ComesBelow (grown_by h events) costs n bound event → ⊥
+
+-- ---- a window
+
+-- each of these events starts below a bound
+abbrev pub StartBelow : History → Costs → ℕ → List Event → Type 0
+StartBelow h costs bound [] = Unit {0}
+StartBelow h costs bound (event ∷ rest) = (start_next h costs event < bound) × StartBelow (grown h event) costs bound rest
+
+-- Events of the timed schedule within the lookahead from a time on, before which none would start. That every context has halted doesn't come about among them.
+pub record IsWindow (h : History) (costs : Costs) (from : ℕ) (events : List Event) (after : History) : Type 0 where
+  pub timed : EventsAreTimed h costs events after
+  pub none_before : (event : Event) → IsFirstDue h costs (times_in h costs) event → from ≤ start_next h costs event
+  pub within : StartBelow h costs (from + lookahead costs) events
+  pub halted : has_halted (state_of after) ≡ has_halted (state_of h)
+
+-- nothing that is due starts below a bound
+abbrev pub NothingIsLeft : History → Costs → ℕ → Type 0
+NothingIsLeft h costs bound = (n : ℕ) → (event : Event) → IsDueAt h costs n event → bound ≤ start_next h costs event
+
+-- the events of a node, in order
+abbrev pub events_of : ℕ → List Event → List Event
+events_of n events = filter (λ event. node_of event == n) events
+
+-- ---- told with starts
+
+-- events one after another, each with its start
+abbrev pub timeline : History → Costs → List Event → List (ℕ × Event)
+timeline h costs [] = []
+timeline h costs (event ∷ rest) = (start_next h costs event, event) ∷ timeline (grown h event) costs rest
+
+-- those of a node, in order
+abbrev pub told_of : ℕ → List (ℕ × Event) → List (ℕ × Event)
+told_of n told = filter (λ (one : ℕ × Event). node_of one.1 == n) told
+
+-- events that are the first ones of others
+pub record IsFrontOf (front whole : List Event) : Type 0 where
+  pub rest : List Event
+  pub whole_is : whole ≡ front ++ rest

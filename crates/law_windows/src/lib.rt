@@ -2,7 +2,7 @@
 //! least to another node.
 #![tactic(auto)]
 
-ghost use Rattle.std.specs.Prelude.{◌≡◌, ◌≢◌, ◌+◌, ◌<◌, ℕ, true, ◌↔◌};
+ghost use Rattle.std.specs.Prelude.{◌≡◌, ◌≢◌, ◌+◌, ◌<◌, ℕ, true, List, ◌↔◌};
 ghost use Rattle.alw_msg.specs.declared.events.Event.{Event};
 ghost use Rattle.alw_msg.specs.Events.{node_of};
 ghost use Rattle.alw_image.specs.Images.{node_count};
@@ -10,6 +10,7 @@ ghost use Rattle.alw_model.specs.Machine.{has_halted};
 ghost use Rattle.alw_mesh.specs.Histories.{History, IsRun, state_of, may_be_next, grown};
 ghost use Rattle.alw_times.specs.declared.costs.Costs.{Costs};
 ghost use Rattle.law_windows.specs.Windows.{lookahead, arrivals_between, GoOnFrom, start_next, key_next, ComesBelow};
+ghost use Rattle.law_windows.specs.Windows.{RunsAlone, IsRunAlone, IsWindow, NothingIsLeft, events_of, timeline, told_of, IsFrontOf};
 
 /// What an event sends to another node arrives no sooner than the lookahead behind the event's start, and
 /// behind all that was under way there. What is under way between two other nodes stays as it is.
@@ -29,4 +30,20 @@ pub fn nodes_choose_alone()
     ensures key { (h : History) → (costs : Costs) → (event : Event) → IsRun h → may_be_next h event ≡ true → has_halted (state_of (grown h event)) ≡ has_halted (state_of h) →
         (n : ℕ) → n < node_count h.image → n ≢ node_of event → (other : Event) →
         ComesBelow h costs n (start_next h costs event + lookahead costs) other → key_next (grown h event) costs other ≡ key_next h costs other }
+{}
+
+/// Within a window the events of each node are, in order, the first ones of its run alone below the window's
+/// end, with the same starts. They are all of it where nothing that is due is left below that end.
+pub fn windows_are_runs_alone()
+    ensures fronts { (h : History) → (costs : Costs) → (from : ℕ) → (events : List Event) → (after : History) → IsRun h → IsWindow h costs from events after → (n : ℕ) → n < node_count h.image →
+        RunsAlone h costs n (from + lookahead costs) (events_of n events) }
+    ensures starts { (h : History) → (costs : Costs) → (from : ℕ) → (events : List Event) → (after : History) → IsRun h → IsWindow h costs from events after → (n : ℕ) → n < node_count h.image →
+        told_of n (timeline h costs events) ≡ timeline h costs (events_of n events) }
+    ensures whole { (h : History) → (costs : Costs) → (from : ℕ) → (events : List Event) → (after : History) → IsRun h → IsWindow h costs from events after → (n : ℕ) → n < node_count h.image →
+        NothingIsLeft after costs (from + lookahead costs) → IsRunAlone h costs n (from + lookahead costs) (events_of n events) }
+{}
+
+/// A node's run alone is one: whatever has come of it is a front of the whole.
+pub fn runs_alone_are_one()
+    ensures { (h : History) → (costs : Costs) → (n bound : ℕ) → (front whole : List Event) → RunsAlone h costs n bound front → IsRunAlone h costs n bound whole → IsFrontOf front whole }
 {}
