@@ -7,3 +7,4 @@ pub mod Together
 pub mod Choices
 pub mod Alone
 pub mod Windows
+pub mod Merges

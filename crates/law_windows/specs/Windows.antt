@@ -95,6 +95,15 @@ timeline h costs (event ∷ rest) = (start_next h costs event, event) ∷ timeli
 abbrev pub told_of : ℕ → List (ℕ × Event) → List (ℕ × Event)
 told_of n told = filter (λ (one : ℕ × Event). node_of one.1 == n) told
 
+-- one comes no later than another: by start, and then by node
+abbrev pub NoLater : ℕ × Event → ℕ × Event → Type 0
+NoLater one other = (one.0 < other.0) ⊎ ((one.0 ≡ other.0) × (node_of one.1 ≤ node_of other.1))
+
+-- each comes no later than all behind it
+abbrev pub AreMerged : List (ℕ × Event) → Type 0
+AreMerged [] = Unit {0}
+AreMerged (one ∷ rest) = AllByRecursion (NoLater one) rest × AreMerged rest
+
 -- events that are the first ones of others
 pub record IsFrontOf (front whole : List Event) : Type 0 where
   pub rest : List Event

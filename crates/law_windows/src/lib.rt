@@ -10,7 +10,7 @@ ghost use Rattle.alw_model.specs.Machine.{has_halted};
 ghost use Rattle.alw_mesh.specs.Histories.{History, IsRun, state_of, may_be_next, grown};
 ghost use Rattle.alw_times.specs.declared.costs.Costs.{Costs};
 ghost use Rattle.law_windows.specs.Windows.{lookahead, arrivals_between, GoOnFrom, start_next, key_next, ComesBelow};
-ghost use Rattle.law_windows.specs.Windows.{RunsAlone, IsRunAlone, IsWindow, NothingIsLeft, events_of, timeline, told_of, IsFrontOf};
+ghost use Rattle.law_windows.specs.Windows.{RunsAlone, IsRunAlone, IsWindow, NothingIsLeft, events_of, timeline, told_of, AreMerged, IsFrontOf};
 
 /// What an event sends to another node arrives no sooner than the lookahead behind the event's start, and
 /// behind all that was under way there. What is under way between two other nodes stays as it is.
@@ -46,4 +46,11 @@ pub fn windows_are_runs_alone()
 /// A node's run alone is one: whatever has come of it is a front of the whole.
 pub fn runs_alone_are_one()
     ensures { (h : History) → (costs : Costs) → (n bound : ℕ) → (front whole : List Event) → RunsAlone h costs n bound front → IsRunAlone h costs n bound whole → IsFrontOf front whole }
+{}
+
+/// The events of a window, told with their starts, ascend by start and then by node. There is one such list of
+/// given parts by node: so a window is the merge of the nodes' runs alone.
+pub fn windows_merge_by_start()
+    ensures ascends { (h : History) → (costs : Costs) → (from : ℕ) → (events : List Event) → (after : History) → IsRun h → IsWindow h costs from events after → AreMerged (timeline h costs events) }
+    ensures one { (one other : List (ℕ × Event)) → AreMerged one → AreMerged other → ((n : ℕ) → told_of n one ≡ told_of n other) → one ≡ other }
 {}
