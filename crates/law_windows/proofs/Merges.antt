@@ -1,6 +1,8 @@
 -- The events of a window ascend by start and then by node, and so are the merge of the nodes' runs alone.
-use Rattle.std.proofs.Common.{◌≡◌, ◌≢◌, ℕ, ◌≤◌, ◌==◌, ◌||◌, ◌&&◌, nat_lt, Bool, true, false, cond, Some, List, [], ◌∷◌, ◌⊎◌, inl, inr, refl, sym, ap, subst, ◌∙◌, arith}
+use Rattle.std.proofs.Common.{◌≡◌, ◌+◌, ◌<◌, ◌≢◌, ℕ, ◌≤◌, ◌==◌, ◌||◌, ◌&&◌, nat_lt, Bool, true, false, cond, Some, List, [], ◌∷◌, ◌⊎◌, inl, inr, refl, sym, ap, subst, ◌∙◌, arith, ◌++◌, length, length-append, append-nil}
 use Rattle.std.specs.List.{AllByRecursion}
+use Rattle.std.proofs.lemmas.List.{nil_from_length}
+use Rattle.alw_image.specs.Images.{node_count}
 use Rattle.std.proofs.lemmas.Bool.{eq-eqb, ne_eqb}
 use Rattle.std.proofs.lemmas.Bool.Decides.{nat_tests}
 use Rattle.alw_num.proofs.Weigh.{is_node, cases_lt_then}
@@ -16,10 +18,10 @@ use Rattle.alw_due.proofs.Before.{first_le}
 use Rattle.alw_due.proofs.Mains.{here, in_next}
 use Rattle.alw_due.proofs.Members.{kept}
 use Rattle.alw_due.proofs.Timely.{first_may}
-use Rattle.law_windows.specs.Windows.{start_next, key_next, IsWindow, timeline, told_of, NoLater, AreMerged}
+use Rattle.law_windows.specs.Windows.{lookahead, start_next, key_next, IsWindow, timeline, told_of, NoLater, AreMerged, NothingIsLeft, IsRunAlone, IsMergeOf, IsFrontOf, events_of}
 use Rattle.law_windows.proofs.Alone.{chooses_alike, with_its_key}
 use Rattle.law_windows.proofs.Choices.{run_grows}
-use Rattle.law_windows.proofs.Windows.{IsWithin, AreWithin, all_within, comes_at}
+use Rattle.law_windows.proofs.Windows.{IsWithin, AreWithin, all_within, comes_at, front_of, starts_alone, is_run_alone}
 
 -- ---- the order
 
@@ -143,3 +145,34 @@ one_merge (x ∷ xs) (y ∷ ys) merged also same = is_node (x ∷ xs ≡ y ∷ y
         rests n = is_node (told_of n xs ≡ told_of n ys) (node_of y.1) n
             (λ at. subst (λ (k : ℕ). told_of k xs ≡ told_of k ys) at (ap behind whole))
             (λ other. sym (told_there n x xs (λ at. other (sym is ∙ at))) ∙ (same n ∙ told_there n y ys other))
+
+-- ---- the merge of whole runs alone
+
+both_fronts : (xs ys : List Event) → IsFrontOf xs ys → IsFrontOf ys xs → ys ≡ xs
+both_fronts xs ys one other =
+    let first = ap length one.whole_is ∙ length-append xs one.rest in
+    let second = ap length other.whole_is ∙ length-append ys other.rest in
+    let none : one.rest ≡ [] = nil_from_length one.rest (omega (arith, first, second)) in
+    one.whole_is ∙ (ap (λ (rest : List Event). xs ++ rest) none ∙ append-nil xs)
+
+-- no event is of a node that there isn't
+none_beyond : (g : History) (costs : Costs) (n : ℕ) (events : List Event) (after : History) → IsRun g → EventsAreTimed g costs events after → node_count g.image ≤ n → told_of n (timeline g costs events) ≡ []
+none_beyond g costs n [] after run are le = refl
+none_beyond g costs n (event ∷ rest) after run are le =
+    let may = first_may g costs (times_in g costs) event are.0.first in
+    let exists = here g event may in
+    told_there n (start_next g costs event, event) (timeline (grown g event) costs rest) (λ same. absurd (omega (arith, exists, le, same)))
+    ∙ none_beyond (grown g event) costs n rest after (run_grows g event run may) are.1 le
+
+pub whole_merge : (h : History) (costs : Costs) (from : ℕ) (events : List Event) (after : History) → IsRun h → IsWindow h costs from events after → NothingIsLeft after costs (from + lookahead costs) →
+    (own : ℕ → List Event) → ((n : ℕ) → n < node_count h.image → IsRunAlone h costs n (from + lookahead costs) (own n)) → (told : List (ℕ × Event)) → IsMergeOf h costs own told → told ≡ timeline h costs events
+whole_merge h costs from events after run window nothing own alone told merge =
+    one_merge told (timeline h costs events) merge.merged (windows_ascend h costs from events after run window) (λ n. cases_lt_then (node_count h.image) n
+    (λ exists. merge.parts n exists ∙ (ap (timeline h costs) (same_own n exists) ∙ sym (starts_alone h costs from events after run window n exists)))
+    (λ beyond. merge.no_more n beyond ∙ sym (none_beyond h costs n events after run window.timed beyond)))
+  where
+    same_own : (n : ℕ) → n < node_count h.image → own n ≡ events_of n events
+    same_own n exists =
+        let bound = from + lookahead costs in
+        let is = is_run_alone h costs from events after run window n exists nothing in
+        both_fronts (events_of n events) (own n) (front_of h costs n bound (events_of n events) (own n) is.runs (alone n exists)) (front_of h costs n bound (own n) (events_of n events) (alone n exists).runs is)

@@ -3,6 +3,7 @@ use Rattle.std.specs.Prelude.{◌≡◌, ℕ, ◌+◌, ◌<◌, ◌≤◌, ◌==
 use Rattle.std.specs.List.{AllByRecursion}
 use Rattle.alw_msg.specs.declared.events.Event.{Event}
 use Rattle.alw_msg.specs.Events.{node_of, is_evict}
+use Rattle.alw_image.specs.Images.{node_count}
 use Rattle.alw_model.specs.Machine.{link_place, has_halted}
 use Rattle.alw_mesh.specs.Histories.{History, state_of, may_be_next, grown}
 use Rattle.alw_times.specs.declared.costs.Costs.{Costs}
@@ -103,6 +104,12 @@ NoLater one other = (one.0 < other.0) ⊎ ((one.0 ≡ other.0) × (node_of one.1
 abbrev pub AreMerged : List (ℕ × Event) → Type 0
 AreMerged [] = Unit {0}
 AreMerged (one ∷ rest) = AllByRecursion (NoLater one) rest × AreMerged rest
+
+-- it is the merge of what each node did by itself, and has nothing of nodes that there aren't
+pub record IsMergeOf (h : History) (costs : Costs) (own : ℕ → List Event) (told : List (ℕ × Event)) : Type 0 where
+  pub merged : AreMerged told
+  pub parts : (n : ℕ) → n < node_count h.image → told_of n told ≡ timeline h costs (own n)
+  pub no_more : (n : ℕ) → node_count h.image ≤ n → told_of n told ≡ []
 
 -- events that are the first ones of others
 pub record IsFrontOf (front whole : List Event) : Type 0 where

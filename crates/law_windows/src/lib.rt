@@ -10,7 +10,7 @@ ghost use Rattle.alw_model.specs.Machine.{has_halted};
 ghost use Rattle.alw_mesh.specs.Histories.{History, IsRun, state_of, may_be_next, grown};
 ghost use Rattle.alw_times.specs.declared.costs.Costs.{Costs};
 ghost use Rattle.law_windows.specs.Windows.{lookahead, arrivals_between, GoOnFrom, start_next, key_next, ComesBelow};
-ghost use Rattle.law_windows.specs.Windows.{RunsAlone, IsRunAlone, IsWindow, NothingIsLeft, events_of, timeline, told_of, AreMerged, IsFrontOf};
+ghost use Rattle.law_windows.specs.Windows.{RunsAlone, IsRunAlone, IsWindow, NothingIsLeft, events_of, timeline, told_of, AreMerged, IsMergeOf, IsFrontOf};
 
 /// What an event sends to another node arrives no sooner than the lookahead behind the event's start, and
 /// behind all that was under way there. What is under way between two other nodes stays as it is.
@@ -48,9 +48,13 @@ pub fn runs_alone_are_one()
     ensures { (h : History) → (costs : Costs) → (n bound : ℕ) → (front whole : List Event) → RunsAlone h costs n bound front → IsRunAlone h costs n bound whole → IsFrontOf front whole }
 {}
 
-/// The events of a window, told with their starts, ascend by start and then by node. There is one such list of
-/// given parts by node: so a window is the merge of the nodes' runs alone.
+/// The events of a window, told with their starts, ascend by start and then by node, and there is one such list
+/// of given parts by node. So where nothing that is due is left of a window it is the merge of the nodes' whole
+/// runs alone, in whatever order these were made.
 pub fn windows_merge_by_start()
     ensures ascends { (h : History) → (costs : Costs) → (from : ℕ) → (events : List Event) → (after : History) → IsRun h → IsWindow h costs from events after → AreMerged (timeline h costs events) }
     ensures one { (one other : List (ℕ × Event)) → AreMerged one → AreMerged other → ((n : ℕ) → told_of n one ≡ told_of n other) → one ≡ other }
+    ensures merge { (h : History) → (costs : Costs) → (from : ℕ) → (events : List Event) → (after : History) → IsRun h → IsWindow h costs from events after →
+        NothingIsLeft after costs (from + lookahead costs) → (own : ℕ → List Event) → ((n : ℕ) → n < node_count h.image → IsRunAlone h costs n (from + lookahead costs) (own n)) →
+        (told : List (ℕ × Event)) → IsMergeOf h costs own told → told ≡ timeline h costs events }
 {}
