@@ -1,5 +1,5 @@
 -- One turn of a worker at a node: messages come in, the cell takes one step, and messages are given out.
-use Rattle.std.specs.Prelude.{◌≡◌, ℕ, zero, suc, ◌≤◌, nat_lt, Bool, true, false, ◌||◌, Result, Ok, Err, Some, IfOk}
+use Rattle.std.specs.Prelude.{◌≡◌, ℕ, zero, suc, ◌≤◌, Bool, true, false, ◌||◌, Result, Ok, Err, Some}
 use Rattle.alw_num.specs.declared.memory.NoMemory.{NoMemory}
 use Rattle.alw_cells.specs.declared.cells.Stepped.{Stepped}
 use Rattle.alw_cells.specs.declared.cells.Stepped.TheVariants.{Did, Idle}
@@ -50,14 +50,20 @@ pub record Turns (pick : ℕ) (before after : Seat) (result : Result Bool NoMemo
 abbrev pub IsAlone : Cell → Type 0
 IsAlone cell = (pick : ℕ) → picked_event cell pick ≡ Some (Instr (record { 0 = cell.node.number }))
 
--- the cell behind a lock took so many steps in a row, each of an instruction that every number picks
+-- the cell behind a lock took so many steps in a row, each of an instruction that every number picks, and each was taken
 abbrev pub ActsAlone : ℕ → Seat → Seat → Type 0
 ActsAlone zero before after = after ≡ before
-ActsAlone (suc steps) before after = (between : Seat) × (ActsAlone steps before between × IsAlone between.cell × ((result : Result Bool NoMemory) × Acts 0 between after result))
+ActsAlone (suc steps) before after = (between : Seat) × (ActsAlone steps before between × IsAlone between.cell × Acts 0 between after (Ok true))
 
--- a run: at most so many such steps, and the answer says whether there was one
-pub record Runs (most : ℕ) (before after : Seat) (result : Result Bool NoMemory) : Type 0 where
+-- what a run tells behind its last step: how many there were, and nothing else happened; or memory was refused to one more, and all is as it was
+abbrev pub EndsRun : ℕ → Seat → Seat → Result ℕ NoMemory → Type 0
+EndsRun steps last after (Ok count) = (count ≡ steps) × (after ≡ last)
+EndsRun steps last after (Err refused) = (after.number ≡ last.number) × (after.cell ≡ last.cell) × (after.trapped ≡ last.trapped)
+
+-- a run: at most so many such steps, and what it tells behind the last
+pub record Runs (most : ℕ) (before after : Seat) (result : Result ℕ NoMemory) : Type 0 where
   pub steps : ℕ
   pub few : steps ≤ most
-  pub acts : ActsAlone steps before after
-  pub told : IfOk result (λ has_acted. has_acted ≡ nat_lt 0 steps)
+  pub last : Seat
+  pub acts : ActsAlone steps before last
+  pub told : EndsRun steps last after result

@@ -8,6 +8,7 @@ mod ends;
 mod gates;
 mod laying;
 mod moves;
+mod paces;
 mod ready;
 mod runs;
 mod seats;

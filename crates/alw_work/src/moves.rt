@@ -133,6 +133,7 @@ pub fn offer<R: Wait>(
         next = None;
         let sent = offer_at(rt, links, number, nodes, to, cell, outs);
         signs.mark(to, number);
+        signs.wake(to, cell.node().clock());
         if !sent {
             return Some(to);
         }

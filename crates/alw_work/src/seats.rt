@@ -52,6 +52,7 @@ pub struct Locked<I: Naming> {
     ins: Vec<In>,
     late: Option<NodeNo>,
     trapped: bool,
+    has_moved: bool,
     of: PhantomData<I>,
 }
 
@@ -85,6 +86,7 @@ impl<I: Naming> Locked<I> {
             ins,
             late: None,
             trapped: false,
+            has_moved: false,
             of: PhantomData,
         }
     }
@@ -115,9 +117,10 @@ impl<I: Naming> Locked<I> {
 
     /// Takes instructions in a row, as long as each is the one event that the node may take, and nothing that
     /// was sent waits to be given out: at most so many. What comes meanwhile is taken in by the next turn.
-    /// Answers whether there was any.
+    /// Answers how many there were. Where memory is refused the last of them is whole, and nothing happened
+    /// behind it.
     #[inline(always)]
-    pub fn run(&mut self, most: u32) -> Result<bool, NoMemory>
+    pub fn run(&mut self, most: u32) -> Result<u32, NoMemory>
         ensures { Runs most self.old self.new result }
     {
         let mut steps = 0;
@@ -125,7 +128,7 @@ impl<I: Naming> Locked<I> {
             self.act(0)?;
             steps += 1;
         }
-        Ok(steps > 0)
+        Ok(steps)
     }
 
     // The node may take one event, an instruction, and nothing that was sent waits to be given out.
@@ -148,6 +151,7 @@ impl<I: Naming> Locked<I> {
         if senders.is_empty() {
             return Ok(());
         }
+        self.has_moved = true;
         fetch(
             rt,
             links,
@@ -179,6 +183,7 @@ impl<I: Naming> Locked<I> {
             return;
         }
         let (number, nodes) = (self.number, self.nodes);
+        self.has_moved = true;
         self.late = offer(
             rt,
             links,
@@ -189,6 +194,30 @@ impl<I: Naming> Locked<I> {
             self.late,
             signs,
         );
+    }
+
+    /// The node's clock.
+    #[inline(always)]
+    pub fn clock(&self) -> u32
+        ensures { result ≡ self.now.cell.node.state.clock }
+    {
+        self.cell.node().clock()
+    }
+
+    /// Something that was sent waits to be given out. No clause says so.
+    #[inline(always)]
+    pub fn has_more(&self) -> bool {
+        self.late.is_some() || self.cell.first_out().is_some()
+    }
+
+    /// A message may have come or was given out since the last call. No clause says so.
+    #[inline(always)]
+    pub fn take_moved(&mut self) -> bool
+        ensures { self.new ≡ self.old }
+    {
+        let has_moved = self.has_moved;
+        self.has_moved = false;
+        has_moved
     }
 
     /// The number, the cell, whether it took a trapping turn, and the ends of its links, once the lock is
@@ -207,6 +236,7 @@ impl<I: Naming> Locked<I> {
             ins,
             late: _,
             trapped,
+            has_moved: _,
             of: _,
         } = self;
         let _stands = cell.log(); // for its clause

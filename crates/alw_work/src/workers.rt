@@ -1,12 +1,12 @@
 ghost use Rattle.std.specs.Prelude.{◌≡◌, ◌<◌, ◌^◌};
-ghost use Rattle.alw_work.specs.declared.workers.TheConstants.{MOST_RUN};
 ghost use Rattle.alw_work.specs.Turns.{Turns, Runs};
 
 use crate::gates::Gate;
+use crate::paces::Pace;
 use crate::ready::{Counting, Ready};
 use crate::seats::{Locked, Naming};
 use crate::signs::Signs;
-use alw_num::{Draws, NoMemory};
+use alw_num::{Draws, NoMemory, NodeNo};
 use alw_ruled::Link;
 use std::alloc::Global;
 use std::sync::{Mutex, Wait};
@@ -19,8 +19,20 @@ const MOST_IDLE: u32 = 1024;
 // The most turns that a worker takes at a node before it gives the node back.
 const MOST_TURNS: u32 = 16;
 
-// The most instructions that run in a row before a turn.
+// The most instructions that run in a row behind a turn.
 const MOST_RUN: u32 = 64;
+
+// A worker that was held back so often in a row gives way to other threads.
+const MOST_HELD: u32 = 16;
+
+// What a visit of a node came to: the node did something, or nothing; or it was too far ahead, and wasn't
+// looked at.
+#[derive(Clone, Copy)]
+enum VisitEnd {
+    Acted,
+    Idle,
+    Held,
+}
 
 /// Steps so many nodes on so many threads, until each worker has ended. Where a thread can't be made its
 /// worker works when the others have ended.
@@ -38,7 +50,7 @@ pub fn work<I: Naming + Counting + Send + Sync, R: Threads + Wait + Sync, G: Gat
     requires links { links.now ≡ I.links }
 {
     let (ready, _filler) = Ready::<I>::start(rt, alloc, u32::from(nodes))?;
-    let signs = Signs::none(alloc, nodes)?;
+    let signs = Signs::none(alloc, nodes, workers)?;
     let (queue, told) = (&ready, &signs);
     let ends = thread::map_indices(
         rt,
@@ -46,7 +58,18 @@ pub fn work<I: Naming + Counting + Send + Sync, R: Threads + Wait + Sync, G: Gat
         workers as usize,
         &|k: usize| -> Result<(), NoMemory>
             requires { (k < 2 ^ 32) × (links.now ≡ I.links) }
-        { worker::<I, R, G>(rt, locks, links, queue, told, gate, k as u32) },
+        {
+            worker::<I, R, G>(
+                rt,
+                locks,
+                links,
+                queue,
+                told,
+                gate,
+                k as u32,
+                u32::from(nodes),
+            )
+        },
     )?;
     for end in &ends {
         (*end)?;
@@ -54,9 +77,10 @@ pub fn work<I: Naming + Counting + Send + Sync, R: Threads + Wait + Sync, G: Gat
     Ok(())
 }
 
-// Worker number k. It takes a node that no worker has, takes turns at it with picks of its own draws, and
-// gives it back. It ends after enough visits in a row at idle nodes, where no node is left to it, after a trap, and
-// where memory is refused.
+// Worker number k of a machine of so many nodes. It takes a node that no worker has, takes turns at it with picks of
+// its own draws, and gives it back. It ends after enough visits in a row at idle nodes, where no node is left to it,
+// after a trap, and where memory is refused. A node that is held back isn't idle: another goes on. Where it has met
+// enough of these it gives way, since a thread that the system holds back may have that other. It has no number then.
 fn worker<I: Naming + Counting, R: Wait, G: Gate>(
     rt: &R,
     locks: &[Mutex<Locked<I>>],
@@ -65,6 +89,7 @@ fn worker<I: Naming + Counting, R: Wait, G: Gate>(
     signs: &Signs,
     gate: &G,
     k: u32,
+    nodes: u32,
 ) -> Result<(), NoMemory>
     requires { links.now ≡ I.links }
 {
@@ -72,7 +97,9 @@ fn worker<I: Naming + Counting, R: Wait, G: Gate>(
     let mut draws = Draws {
         state: u64::from(k),
     };
+    let mut pace = Pace::start(nodes);
     let mut idle = 0u32;
+    let mut held = 0u32;
     for _ in rt.forever() {
         if idle >= MOST_IDLE || signs.has_stopped() {
             return Ok(());
@@ -83,55 +110,90 @@ fn worker<I: Naming + Counting, R: Wait, G: Gate>(
         let Some(lock) = locks.get(usize::from(node.0)) else {
             return Ok(());
         };
-        let place = (k, u32::from(node.0));
-        if visit(rt, lock, links, signs, gate, place, &mut draws)? {
-            idle = 0;
-        } else {
-            idle += 1;
+        match visit(
+            rt,
+            lock,
+            links,
+            signs,
+            gate,
+            (k, node),
+            &mut draws,
+            &mut pace,
+        )? {
+            VisitEnd::Acted => {
+                idle = 0;
+                held = 0;
+            }
+            VisitEnd::Idle => idle += 1,
+            VisitEnd::Held => {
+                idle = 0;
+                held = held.saturating_add(1);
+            }
         }
         ready.give(rt, &mut pass);
+        if held >= MOST_HELD {
+            held = 0;
+            thread::yield_now();
+        }
     }
     Ok(())
 }
 
-// Turns of a worker at a node, one after the other: until one is idle, or there were enough of them, or all
-// are to stop. Answers whether the node did anything. The gate is passed before the lock is taken, so that a
-// worker that waits there holds none. The lock is held for all the turns: the queue gave the node to this
-// worker alone, so nobody waits for it, while an unlock waits until all that a turn stored is written.
+// Turns of a worker at a node, one after the other, each before instructions in a row: until one is idle, or there
+// were enough of them or of instructions, or the node is too far ahead of another, or all are to stop. The gate is
+// passed before the lock is taken, so that a worker that waits there holds none. The lock is held for all the turns:
+// the queue gave the node to this worker alone, so nobody waits for it, while an unlock waits until all that a turn
+// stored is written.
 fn visit<I: Naming, R: Wait, G: Gate>(
     rt: &R,
     lock: &Mutex<Locked<I>>,
     links: &[Link],
     signs: &Signs,
     gate: &G,
-    place: (u32, u32),
+    place: (u32, NodeNo),
     draws: &mut Draws,
-) -> Result<bool, NoMemory>
+    pace: &mut Pace,
+) -> Result<VisitEnd, NoMemory>
     requires { links.now ≡ I.links }
 {
     let (worker, node) = place;
-    gate.pass(worker, node);
+    gate.pass(worker, u32::from(node.0));
     let mut seat = lock.lock(rt);
-    let mut has_acted = false;
+    if signs.is_held(node, seat.clock()) {
+        return Ok(VisitEnd::Held);
+    }
+    let mut did = VisitEnd::Idle;
+    let mut left = pace.most();
+    let mut rests = false;
     for _ in 0..MOST_TURNS {
-        has_acted |= run(&mut seat, signs)?;
         if !turn(rt, &mut seat, links, signs, draws.draw())? {
-            return Ok(has_acted);
+            rests = !seat.has_more();
+            break;
         }
-        has_acted = true;
-        if signs.has_stopped() {
-            return Ok(has_acted);
+        did = VisitEnd::Acted;
+        if signs.has_stopped() || signs.is_ahead(seat.clock()) {
+            break;
+        }
+        left = left.saturating_sub(run(&mut seat, signs, left.min(MOST_RUN))?);
+        if left == 0 {
+            break;
         }
     }
-    Ok(has_acted)
+    if rests {
+        signs.rests(node);
+    } else {
+        signs.goes_on(node, seat.clock());
+    }
+    pace.pass(seat.take_moved());
+    Ok(did)
 }
 
-// Instructions in a row at a node. Answers whether there was any. Want of memory stops all workers.
+// At most so many instructions in a row at a node. Answers how many. Want of memory stops all workers.
 #[inline(always)]
-fn run<I: Naming>(seat: &mut Locked<I>, signs: &Signs) -> Result<bool, NoMemory>
-    ensures { Runs MOST_RUN seat.old seat.new result }
+fn run<I: Naming>(seat: &mut Locked<I>, signs: &Signs, most: u32) -> Result<u32, NoMemory>
+    ensures { Runs most seat.old seat.new result }
 {
-    let ran = seat.run(MOST_RUN);
+    let ran = seat.run(most);
     if ran.is_err() {
         signs.stop();
     }
