@@ -2,9 +2,10 @@ ghost use Rattle.std.specs.Prelude.{◌≡◌, ◌≤◌, ℕ, List, map, string
 ghost use Rattle.alw_config.specs.Choices.{WorkIsWithin};
 ghost use Rattle.alw_config.specs.Places.{AskFor};
 ghost use Rattle.alw_config.specs.declared.commands.Asked.TheVariants as asked;
-ghost use Rattle.alw_cli.specs.Answers.{Answers, IsComplete, Tells};
+ghost use Rattle.alw_cli.specs.Answers.{Answers, IsComplete, Tells, task_for};
 ghost use Rattle.alw_cli.specs.Headline.{Headline};
 ghost use Rattle.alw_cli.specs.Streams.{Stays, stream_of};
+ghost use Rattle.alw_cli.specs.Answered.{Answered};
 
 use crate::commands::carry_out;
 use crate::streams::{bytes_for, write_made};
@@ -124,7 +125,7 @@ fn answer<S: Source, K: Sink>(
     }
 }
 
-// The same without the line on `err`, of workers.
+// Carries out a run by workers.
 fn carry_out_by<R: Threads + Wait + Sync, S: Source, K: Sink, G: Gate>(
     rt: &R,
     alloc: Global,
@@ -134,7 +135,7 @@ fn carry_out_by<R: Threads + Wait + Sync, S: Source, K: Sink, G: Gate>(
     gate: &G,
 ) -> Done
     requires within { WorkIsWithin work.now }
-    ensures answers { (words : List (List ℕ)) → AskFor words (asked.Workers work.now) → Answers words
+    ensures answered { Answered (task_for (asked.Workers work.now))
         (stream_of (S.left input.old) (S.faults input.old)) (stream_of (S.left input.new) (S.faults input.new))
         (stream_of (K.held out.old) (K.faults out.old)) (stream_of (K.held out.new) (K.faults out.new))
         result.cause result.journal result.merged }
