@@ -1,12 +1,14 @@
 -- The trace of a run is accepted by `replay`, which answers and writes the same as a report.
-use Rattle.std.proofs.Common.{◌≡◌, ℕ, List, ◌++◌, codes, refl, sym, ap, subst, ◌∙◌, arith}
+use Rattle.std.proofs.Common.{◌≡◌, ℕ, true, List, ◌++◌, codes, refl, sym, ap, subst, ◌∙◌, arith}
 use Rattle.alw_msg.specs.declared.events.Entry.{Entry}
 use Rattle.alw_image.specs.declared.parts.Parts.{Parts}
-use Rattle.alw_image.specs.Images.{node_count}
+use Rattle.alw_image.specs.Images.{IsImage, node_count}
 use Rattle.alw_image.specs.Numbers.{HasWords}
-use Rattle.alw_image.specs.Parameters.{Parameters}
+use Rattle.alw_image.specs.Parameters.{Parameters, AreParameters, may_point}
 use Rattle.alw_model.specs.declared.ends.Ended.{Ended}
 use Rattle.alw_model.specs.Headline.{IsCoherentRun}
+use Rattle.alw_model.specs.Machine.{IsLegal}
+use Rattle.alw_mesh.specs.Histories.{whole}
 use Rattle.alw_mesh.specs.Limits.{most_timed_steps}
 use Rattle.alw_mesh.proofs.Journals.{journal_fits}
 use Rattle.alw_report.specs.Reports.{report_of}
@@ -17,7 +19,7 @@ use Rattle.alw_waits.specs.Waits.{waits_start, waited_all, waits_of, spans_all, 
 use Rattle.alw_timing.specs.Texts.{head_text, cycles_title, cycles_line, totals_text, nodes_text, cycles_text, moments_title, entries_text, moments_text}
 use Rattle.alw_trace.specs.declared.values.Trace.{Trace}
 use Rattle.alw_trace.specs.Texts.{trace_text}
-use Rattle.alw_trace.specs.Readings.{without_evict}
+use Rattle.alw_trace.specs.Readings.{IsTrace, HasTraceTypes, without_evict}
 use Rattle.alw_trace.proofs.OneTrace.{no_evict}
 use Rattle.alw_config.specs.declared.commands.Form.TheVariants as forms
 use Rattle.alw_config.specs.declared.commands.TimeForm.{TimeForm}
@@ -30,6 +32,31 @@ use Rattle.alw_runs.specs.Replaying.{Spells, TakesAgain, IsFinishedTrace, IsFini
 use Rattle.alw_runs.proofs.NoEvict.{calm, legal_same, end_after_same, ends_so, one_end, some_end, moments_same, report_same, stamped}
 use Rattle.alw_runs.proofs.Kept.{one_spelled}
 
+-- ---- what is read of a legal journal's text
+
+module _ (image : Parts) (p : Parameters) (journal : List Entry) (image_is : IsImage image) (are : AreParameters p) where
+  -- is a trace
+  pub read_is : may_point (node_count image) p.pointers ≡ true → IsLegal image p journal → IsTrace (without_evict (trace_of image p journal))
+  read_is points legal = record {
+    image = image_is;
+    params = record {
+      some_pointer = are.some_pointer;
+      pointers = are.pointers;
+      sets = are.sets;
+      some_limit = are.some_limit;
+      limit = are.limit;
+      evict = omega arith;
+    };
+    points = points;
+    evict = refl;
+    journal = stamped image p journal legal;
+  }
+
+  -- of words, and no longer than a trace may be
+  pub read_types : HasWords image → IsLegal image p journal → HasTraceTypes (without_evict (trace_of image p journal))
+  read_types words legal =
+      (words, omega (arith, journal_fits (whole image p journal) (record { image = image_is; parameters = are; legal = legal; joined = omega arith })))
+
 module _ (image : Parts) (p : Parameters) (journal : List Entry) (e : Ended) (most : ℕ) (is : IsRunThatFits most image p journal e) where
   abbrev text : List ℕ
   text = trace_text (trace_of image p journal)
@@ -41,28 +68,8 @@ module _ (image : Parts) (p : Parameters) (journal : List Entry) (e : Ended) (mo
   spelled : Spells text read
   spelled = record {
     text = sym (no_evict (trace_of image p journal));
-    is = record {
-      image = is.image_is;
-      params = record {
-        some_pointer = is.parameters_are.some_pointer;
-        pointers = is.parameters_are.pointers;
-        sets = is.parameters_are.sets;
-        some_limit = is.parameters_are.some_limit;
-        limit = is.parameters_are.limit;
-        evict = omega arith;
-      };
-      points = is.points;
-      evict = refl;
-      journal = stamped image p journal is.run.legal;
-    };
-    types = (
-      is.words,
-      omega (
-        arith,
-        journal_fits (record { image = image; parameters = p; journal = journal; joined = 0 })
-            (record { image = is.image_is; parameters = is.parameters_are; legal = is.run.legal; joined = omega arith }),
-      ),
-    );
+    is = read_is image p journal is.image_is is.parameters_are is.points is.run.legal;
+    types = read_types image p journal is.image_is is.parameters_are is.words is.run.legal;
   }
 
   finished : IsFinishedTrace most read

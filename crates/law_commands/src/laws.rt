@@ -6,15 +6,17 @@ ghost use Rattle.alw_model.specs.declared.ends.Ended.{Ended};
 ghost use Rattle.alw_audit.specs.Claims.{claim_of};
 ghost use Rattle.alw_trace.specs.Texts.{trace_text};
 ghost use Rattle.alw_config.specs.declared.commands.Form.TheVariants as forms;
+ghost use Rattle.std.specs.List.{AllByRecursion};
 ghost use Rattle.law_order.specs.Orders.{kept_by};
-ghost use Rattle.alw_mesh.specs.Histories.{History};
+ghost use Rattle.alw_mesh.specs.Histories.{History, state_of};
 ghost use Rattle.alw_trace.specs.declared.values.Trace.{Trace};
 ghost use Rattle.alw_trace.specs.Readings.{IsTrace, HasTraceTypes};
 ghost use Rattle.alw_save.specs.declared.faults.RestoreErr.{RestoreErr};
 ghost use Rattle.alw_save.specs.declared.faults.RestoreErr.TheVariants.{NoMemory};
-ghost use Rattle.alw_save.specs.Cuts.{TraceIsSound};
+ghost use Rattle.alw_save.specs.Cuts.{TraceIsSound, cut_machine};
+ghost use Rattle.alw_save.specs.States.{state_text};
 ghost use Rattle.alw_save.specs.Checkpoints.{checkpoint_text};
-ghost use Rattle.alw_save.specs.Restoring.{IsCheckpoint, Restores};
+ghost use Rattle.alw_save.specs.Restoring.{IsCheckpoint, Restores, with_evict};
 ghost use Rattle.alw_answers.specs.declared.outputs.Output.{Output};
 ghost use Rattle.alw_answers.specs.declared.outputs.Refusal.{Refusal};
 ghost use Rattle.alw_config.specs.declared.commands.AsmForm.TheVariants as asms;
@@ -32,9 +34,11 @@ ghost use Rattle.alw_cycles.specs.Timing.{time_text};
 ghost use Rattle.alw_cycles.specs.ByTime.{timed_text};
 ghost use Rattle.alw_image.specs.Numbers.{HasWords};
 ghost use Rattle.alw_mesh.specs.Limits.{most_steps, most_timed_steps};
-ghost use Rattle.alw_cuts.specs.Resuming.{IsSomeCheckpoint};
+ghost use Rattle.alw_cuts.specs.Saving.{Saves};
+ghost use Rattle.alw_cuts.specs.Resuming.{IsSomeCheckpoint, GoesOn, Resumes};
 ghost use Rattle.alw_image.specs.Faults.{image_in};
 ghost use Rattle.alw_model.specs.declared.ends.Ended.TheVariants.{Halted};
+ghost use Rattle.alw_model.specs.Ends.{IsEnd};
 ghost use Rattle.alw_report.specs.Reports.{told_of};
 ghost use Rattle.alw_config.specs.declared.commands.AuditForm.{AuditForm};
 ghost use Rattle.alw_config.specs.declared.commands.Form.{Form};
@@ -47,6 +51,8 @@ ghost use Rattle.law_turns.specs.Stuck.{NoneIsStuck, NoneIsStuckForever};
 ghost use Rattle.law_endings.specs.Runs.{ComesToTold, TellsRuns};
 ghost use Rattle.alw_orders.specs.Scheduling.{Schedules};
 ghost use Rattle.alw_checks.specs.Searching.{Searches, TellsReport};
+
+use law_texts::texts_tell_states;
 
 /// A replay reports what the run reported. The trace of a run is accepted, and where its replay is
 /// carried out, the journal and the end are the run's, and so is the report that is written: the text
@@ -90,6 +96,47 @@ pub fn checkpoints_are_resumed()
         IsSomeCheckpoint evict (checkpoint_text trace.image trace.params (kept_by at trace.journal)) }
     ensures unrefused { (bytes : List ℕ) → (evict : ℕ) → (machine : History) → IsCheckpoint bytes evict machine → (fault : RestoreErr) →
         Restores bytes evict (Err fault) → fault ≡ NoMemory }
+{}
+
+/// A checkpoint that is resumed by a seed is the run that goes on by that seed from the cut. Of what `save` wrote of a trace,
+/// `resume` makes the trace's entries with at most the stamp, in the trace's order, and behind them what the seed's schedule
+/// makes of the machine that they leave, under the trace's parameters with the evict that is given, up to an end. Nothing else
+/// of the trace is in it: each journal that goes on so, up to an end, is this one.
+pub fn saved_runs_go_on()
+    ensures accepted { (at : ℕ) → (traced : List ℕ) → (saved : Output) → Saves at traced saved → (evict : ℕ) → evict ≤ 255 → IsSomeCheckpoint evict saved.text }
+    ensures goes_on { (at : ℕ) → (traced : List ℕ) → (saved : Output) → (saves : Saves at traced saved) → (seed : ℕ) → (evict : ℕ) → (form : Form) → (resumed : Output) →
+        Resumes seed evict form saved.text resumed → GoesOn (cut_machine (with_evict saves.trace evict) at) seed resumed.journal }
+    ensures told { (at : ℕ) → (traced : List ℕ) → (saved : Output) → (saves : Saves at traced saved) → (seed : ℕ) → (evict : ℕ) → (form : Form) → (resumed : Output) →
+        Resumes seed evict form saved.text resumed → IsTold saves.trace.image (with_evict saves.trace evict).params form resumed }
+    ensures alone { (at : ℕ) → (traced : List ℕ) → (saved : Output) → (saves : Saves at traced saved) → (seed : ℕ) → (evict : ℕ) → (form : Form) → (resumed : Output) →
+        Resumes seed evict form saved.text resumed → (journal : List Entry) → (ended : Ended) → GoesOn (cut_machine (with_evict saves.trace evict) at) seed journal →
+        IsEnd saves.trace.image (with_evict saves.trace evict).params journal ended → journal ≡ resumed.journal }
+{}
+
+/// What a checkpoint says is all that matters of it. One text, of whatever traces, is resumed by one seed to one run. And of
+/// two checkpoints of one image under the same parameters with the same lines of state, whatever entries came to that state,
+/// one seed makes the same entries behind theirs.
+pub fn states_go_on_alike()
+    ensures texts { (seed : ℕ) → (evict : ℕ) → (form : Form) → (text : List ℕ) → (one : Output) → (other : Output) →
+        Resumes seed evict form text one → Resumes seed evict form text other → TellsAgain one other }
+    ensures states { (seed : ℕ) → (evict : ℕ) → (form : Form) → (other_form : Form) → (text : List ℕ) → (other_text : List ℕ) → (one : Output) → (other : Output) →
+        (first : Resumes seed evict form text one) → (second : Resumes seed evict other_form other_text other) →
+        first.machine.image ≡ second.machine.image → first.machine.parameters ≡ second.machine.parameters →
+        state_text first.machine.image (state_of first.machine) ≡ state_text second.machine.image (state_of second.machine) →
+        first.goes_on.later ≡ second.goes_on.later }
+{
+    texts_tell_states()
+}
+
+/// The trace of a run that came to an end, cut at no lower stamp than any of its entries has, is resumed to that run, by every
+/// seed: to its journal, and to the report of its replay.
+pub fn finished_runs_are_resumed()
+    ensures same { (at : ℕ) → (traced : List ℕ) → (saved : Output) → (saves : Saves at traced saved) → IsFinishedText most_steps traced →
+        AllByRecursion (λ (entry : Entry). entry.stamp ≤ at) saves.trace.journal → (seed : ℕ) → (evict : ℕ) → (form : Form) → (resumed : Output) →
+        Resumes seed evict form saved.text resumed → resumed.journal ≡ saves.trace.journal }
+    ensures reports { (at : ℕ) → (traced : List ℕ) → (saved : Output) → (saves : Saves at traced saved) → IsFinishedText most_steps traced →
+        AllByRecursion (λ (entry : Entry). entry.stamp ≤ at) saves.trace.journal → (seed : ℕ) → (evict : ℕ) → (resumed : Output) →
+        Resumes seed evict forms.Report saved.text resumed → (again : Output) → Replays forms.Report traced again → TellsAgain again resumed }
 {}
 
 /// What `outcomes` tells of an image has whatever a run of it comes to, where the search is complete. For every seed, all
