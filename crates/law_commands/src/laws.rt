@@ -139,6 +139,12 @@ pub fn finished_runs_are_resumed()
         Resumes seed evict forms.Report saved.text resumed → (again : Output) → Replays forms.Report traced again → TellsAgain again resumed }
 {}
 
+/// The log of a run tells the run: two runs, of whatever images, whose logs are one text have one journal.
+pub fn logs_tell_runs()
+    ensures { (image other_image : Parts) → (parameters other_parameters : Parameters) → (one other : Output) →
+        IsTold image parameters forms.Log one → IsTold other_image other_parameters forms.Log other → one.text ≡ other.text → one.journal ≡ other.journal }
+{}
+
 /// What `outcomes` tells of an image has whatever a run of it comes to, where the search is complete. For every seed, all
 /// parameters and any number of workers, after each legal journal: where all contexts have halted, an outcome with the
 /// prints by context and the memory of the run's report is told; and the trap of each context that has trapped. So it is

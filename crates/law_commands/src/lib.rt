@@ -6,7 +6,7 @@ mod laws;
 
 pub use laws::{
     checkpoints_are_resumed, claims_are_found_sound, every_schedule_is_told,
-    finished_runs_are_resumed, saved_runs_go_on, sources_are_assembled, states_go_on_alike,
-    told_ends_are_of_runs, told_turns_are_scheduled, traces_report_the_same,
+    finished_runs_are_resumed, logs_tell_runs, saved_runs_go_on, sources_are_assembled,
+    states_go_on_alike, told_ends_are_of_runs, told_turns_are_scheduled, traces_report_the_same,
     traces_tell_their_times,
 };
