@@ -1,11 +1,13 @@
 use crate::images::{ONE_NODE, Sizes, image_of};
 use alw_cells::{Logs, links_agree};
+use alw_config::Form;
 use alw_image::{Image, Params, Starts};
 use alw_num::NodeNo;
+use alw_threads::work_bytes;
 use alw_work::{Counting, Gate, OpenGate, Ready, run_workers};
 use std::alloc::{AllocGlobal, Global};
 use std::sync::Wait;
-use std::sync::atomic::{AtomicBool, Ordering};
+use std::sync::atomic::{AtomicBool, AtomicU32, Ordering};
 use std::test::Fail;
 use std::thread;
 use std::thread::Threads;
@@ -18,6 +20,50 @@ const STORE_LOAD_PRINT: [u32; 5] = [
     0x91d0_2001,
     0x91d0_2000,
 ];
+
+// An image of four nodes, each of which does the same.
+const FOUR_NODES: [u8; 84] = [
+    0x41, 0x4c, 0x45, 0x57, 0x00, 0x01, 0x02, 0x02, 0x01, 0x00, 0x00, 0x01, 0x00, 0x00, 0x00, 0x06,
+    0x00, 0x00, 0x00, 0x00, 0x00, 0x00, 0x00, 0x04, 0x00, 0x00, 0x00, 0x00, 0x03, 0x10, 0x00, 0x00,
+    0x82, 0x10, 0x60, 0x00, 0xc0, 0x20, 0x40, 0x00, 0xd0, 0x00, 0x40, 0x00, 0x91, 0xd0, 0x20, 0x01,
+    0x91, 0xd0, 0x20, 0x00, 0x00, 0x00, 0x00, 0x00, 0x00, 0x00, 0x00, 0x00, 0x00, 0x01, 0x00, 0x00,
+    0x00, 0x00, 0x00, 0x00, 0x00, 0x02, 0x00, 0x00, 0x00, 0x00, 0x00, 0x00, 0x00, 0x03, 0x00, 0x00,
+    0x00, 0x00, 0x00, 0x00,
+];
+
+// How often two workers have to meet at a gate.
+const MEETINGS: u32 = 3;
+
+// A gate of two workers, which each passes only when the other has come to it as often, or behind so many tries.
+// Who is alone doesn't come through.
+#[derive(Drop)]
+struct MeetingGate {
+    first: AtomicU32,
+    second: AtomicU32,
+    was_alone: AtomicBool,
+}
+
+impl Gate for MeetingGate {
+    fn pass(&self, worker: u32, _node: u32) {
+        let (own, other) = if worker == 0 {
+            (&self.first, &self.second)
+        } else {
+            (&self.second, &self.first)
+        };
+        let came = own.load(Ordering::SeqCst);
+        if came >= MEETINGS || self.was_alone.load(Ordering::SeqCst) {
+            return;
+        }
+        own.store(came + 1, Ordering::SeqCst);
+        for _ in 0..1_000_000 {
+            if other.load(Ordering::SeqCst) > came {
+                return;
+            }
+            thread::yield_now();
+        }
+        self.was_alone.store(true, Ordering::SeqCst);
+    }
+}
 
 // A gate that holds worker 0 in its first pass until worker 1 has passed, or for so many tries.
 #[derive(Drop)]
@@ -106,6 +152,31 @@ fn two_workers_run_at_once(rt: HostRuntime) -> Result<(), Fail> {
     let logs = logs_of(&rt, &image, &params, 2, &gate)?;
     assert!(rt; gate.was_passed.load(Ordering::SeqCst));
     assert!(rt; links_agree(&logs));
+    Ok(())
+}
+
+// In a run by the command two workers come to the gate at once, again and again.
+#[test]
+fn a_run_has_two_workers_at_once(rt: HostRuntime) -> Result<(), Fail> {
+    let params = Params::new(4, 64, 1000, 0).ok_or("no parameters")?;
+    let gate = MeetingGate {
+        first: AtomicU32::new(0),
+        second: AtomicU32::new(0),
+        was_alone: AtomicBool::new(false),
+    };
+    let ran = work_bytes(
+        &rt,
+        rt.alloc(),
+        2,
+        &params,
+        Form::Summary,
+        &FOUR_NODES,
+        &gate,
+    );
+    assert!(rt; ran.is_ok());
+    assert!(rt; !gate.was_alone.load(Ordering::SeqCst));
+    assert_eq!(rt; gate.first.load(Ordering::SeqCst), MEETINGS);
+    assert_eq!(rt; gate.second.load(Ordering::SeqCst), MEETINGS);
     Ok(())
 }
 
