@@ -34,7 +34,7 @@ use Rattle.alw_answers.specs.declared.outputs.Refusal.TheVariants as refusal
 use Rattle.alw_answers.specs.Outputs.{Gives}
 use Rattle.alw_answers.specs.Refusals.{refusal_of_fit}
 use Rattle.alw_runs.specs.Forms.{IsTold, IsTooMuch, output_of}
-use Rattle.alw_threads.specs.Working.{IsJoinedByWorkers, IsBegun, KeepsCopies, Works, AreTooMany, HasRoom, IsNotWorked}
+use Rattle.alw_threads.specs.Working.{AreLeftByWorkers, IsJoinedByWorkers, IsBegun, KeepsCopies, Works, AreTooMany, HasRoom, IsNotWorked}
 use Rattle.alw_runs.proofs.Ended.{IsReadAs, IsFitFor, told_of_run}
 use Rattle.alw_threads.proofs.Trapped.{trapped_after, any_of}
 
@@ -71,9 +71,15 @@ all_logs (log ∷ rest) each =
 
 -- ---- what workers left
 
-module _ (image : Parts) (params : Parameters) (machine : History) (left : IsJoinedByWorkers image params machine) where
+module _ (image : Parts) (params : Parameters) (machine : History) (joined : IsJoinedByWorkers image params machine) where
+  abbrev left : AreLeftByWorkers image params machine.journal
+  left = joined.left
+
   abbrev entries : List Entry
   entries = merged left.logs
+
+  joined_so : machine ≡ joined_of image params entries
+  joined_so = joined.is ∙ ap (λ (es : List Entry). joined_of image params es) left.are
 
   legal : IsLegal image params entries
   legal = merged_legal image params left.logs left.runs
@@ -102,7 +108,7 @@ module _ (image : Parts) (params : Parameters) (machine : History) (left : IsJoi
   -- the schedule of seed 0 went on from there
   module _ (after : History) (e : Ended) (finished : RunIsFinished machine 0 after e) where
     from_all : MachineIsSeeded (joined_of image params entries) 0 after
-    from_all = subst (λ (h : History). MachineIsSeeded h 0 after) left.is finished.seeded
+    from_all = subst (λ (h : History). MachineIsSeeded h 0 after) joined_so finished.seeded
 
     after_is : after ≡ record { image = image; parameters = params; journal = after.journal; joined = length entries }
     after_is = seeded_stays _ 0 after from_all
@@ -117,6 +123,7 @@ module _ (image : Parts) (params : Parameters) (machine : History) (left : IsJoi
         let more = seeded_front _ 0 after from_all in
         record {
           few = omega (arith, ap length more.1, length-append entries more.0);
+          left = record { logs = left.logs; runs = left.runs; spent = left.spent; are = front_is };
           ascends = subst Ascends (sym front_is) (merged_ascends image params left.logs left.runs);
           spent = subst (λ (es : List Entry). any_trapped (state image params es) ≡ false → (n : ℕ) → n < node_count image → IsSpent params (node_at (state image params es) n))
               (sym front_is) spent;
@@ -141,7 +148,7 @@ module _ (image : Parts) (params : Parameters) (machine : History) (left : IsJoi
       told = subst (λ (p : Parts). IsTold p params form (record (output_of after e form) { merged = length machine.journal })) read.same (told_so form fit);
       evicts = λ none. seeded_evicts _ 0 after from_all none (main none);
       begun = subst (λ (p : Parts). IsBegun p params after.journal (length machine.journal)) read.same
-          (subst (λ (n : ℕ). IsBegun image params after.journal n) (sym (ap (λ (h : History). length h.journal) left.is)) begun_so);
+          (subst (λ (n : ℕ). IsBegun image params after.journal n) (sym (ap (λ (es : List Entry). length es) left.are)) begun_so);
     }
 
 -- why workers didn't run an image that was read

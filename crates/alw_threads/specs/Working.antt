@@ -27,10 +27,19 @@ use Rattle.alw_runs.specs.Forms.{IsTold, IsTooMuch}
 use Rattle.alw_runs.specs.Running.{parameters_in}
 use Rattle.alw_answers.specs.Tasks.{Task}
 
--- What workers left of a journal: its first entries ascend by stamp and node, each node is spent after them unless a context has trapped, and the
--- others are those that the schedule of seed 0 makes from there.
+-- Workers left entries of an image: there are logs, one for each node, each a run of its node from the start, whose links agree; unless one of them
+-- holds a trapping turn, each node is spent after its own; and the entries are their merge.
+pub record AreLeftByWorkers (image : Parts) (parameters : Parameters) (entries : List Entry) : Type 0 where
+  pub logs : Logs
+  pub runs : AreLocalRuns image parameters logs
+  pub spent : AreSpent image parameters logs
+  pub are : entries ≡ merged logs
+
+-- What workers left of a journal: its first entries are the merge of their logs, and ascend by stamp and node, each node is spent after them unless a
+-- context has trapped, and the others are those that the schedule of seed 0 makes from there.
 pub record IsBegun (image : Parts) (parameters : Parameters) (journal : List Entry) (merged : ℕ) : Type 0 where
   pub few : merged ≤ length journal
+  pub left : AreLeftByWorkers image parameters (take merged journal)
   pub ascends : Ascends (take merged journal)
   pub spent : any_trapped (state image parameters (take merged journal)) ≡ false → (n : ℕ) → n < node_count image →
       IsSpent parameters (node_at (state image parameters (take merged journal)) n)
@@ -89,9 +98,7 @@ work_task workers parameters form = record {
   is_done = is_run;
 }
 
--- a machine was joined from logs that workers left of an image
+-- a machine was joined from what workers left of an image
 pub record IsJoinedByWorkers (image : Parts) (parameters : Parameters) (machine : History) : Type 0 where
-  pub logs : Logs
-  pub runs : AreLocalRuns image parameters logs
-  pub spent : AreSpent image parameters logs
-  pub is : machine ≡ joined_of image parameters (merged logs)
+  pub left : AreLeftByWorkers image parameters machine.journal
+  pub is : machine ≡ joined_of image parameters machine.journal
