@@ -92,14 +92,15 @@ def over_full(wide, pointers, trap):
     return list(ratios([groups[pointers, trap]], [groups['all', trap]]))
 
 
-def near_statements(wide, beside, others=('25', '100', '150'), table='table 1'):
-    """Whether four pointers are as good as a full map, with a handler of 50 cycles, by neighbouring costs if there are such runs, and by other traps."""
+def near_statements(wide, beside, others=('25', '100', '150'), table='table 1', of=''):
+    """Whether four pointers are as good as a full map, with a handler of 50 cycles, by neighbouring costs if there are such runs, and by other traps. The
+    program is named where there are several."""
     near = over_full(wide, '4', '50')
     groups = [by(group, 'pointers') for group in beside.values()]
     near += ratios([group[('4',)] for group in groups], [group[('all',)] for group in groups])
     also = ', and with each cost a cycle less or more' if beside else ''
-    yield statement(is_near(near), 'tables 1 and 4' if beside else table, f'four pointers and a handler of 50 cycles are as good as a full map, within {NEAR}: '
-                    f'{told_ratios(near)} times its cycles by all seeds{also}.')
+    yield statement(is_near(near), 'tables 1 and 4' if beside else table, f'{of}four pointers and a handler of 50 cycles are as good as a full map, '
+                    f'within {NEAR}: {told_ratios(near)} times its cycles by all seeds{also}.')
     for trap in others:
         found = over_full(wide, '4', trap)
         yield statement(is_near(found), table, f'so they are with a handler of {trap} cycles: {told_ratios(found)}.')
