@@ -1,13 +1,12 @@
 """The questions of Anderson (1990) and of Mellor-Crummey and Scott (1991): what locks cost by those that want them, and barriers by their nodes."""
 from itertools import product
-from pathlib import Path
 
 import asking
 import cross
+import plots
 import tables
 from asking import compiled, lines_of, median, statement, widest
 
-HERE = Path(__file__).resolve().parent
 LOCKS, BARRIERS = ('TAS', 'TTAS', 'BACKOFF', 'TICKET', 'CLH', 'MCS'), ('CENTRAL', 'TREE', 'DISSEMINATION')
 CALLED = {'TAS': 'test-and-set', 'TTAS': 'test-and-test-and-set', 'BACKOFF': 'test-and-set with pauses', 'TICKET': 'ticket', 'CLH': 'CLH', 'MCS': 'MCS',
           'CENTRAL': 'central', 'TREE': 'tree', 'DISSEMINATION': 'dissemination'}
@@ -38,8 +37,9 @@ def asked(study, source, kinds, numbers, beside):
 
 def image_of(source, kind, number):
     """The image of a lock for so many contexts on 64 nodes, or of a barrier on so many nodes."""
-    path = HERE / f'{source}.c'
-    return compiled(path, 64, LINES, LOCK=kind, ACTIVE=number) if source == 'locks' else compiled(path, number, LINES, BARRIER=kind)
+    if source == 'locks':
+        return lock_of(kind, number, LINES)
+    return barrier_of(kind, number, LINES)
 
 
 def lock_of(kind, number, lines, spread=False):
@@ -63,6 +63,11 @@ def cycles(rows, per):
     return [int(row['cycles']) / per if row['ended'] == 'halted' else float('inf') for row in rows]
 
 
+def least(rows, per):
+    """The cycles an acquisition of each run: those until it halted, or till its limit."""
+    return [int(row['cycles']) / per for row in rows]
+
+
 def pairs(found, first, second):
     """The values of two kinds or numbers, run by run."""
     yield from zip(found[first], found[second], strict=True)
@@ -77,10 +82,12 @@ def lock_statements(own, beside):
     """What the papers say of locks."""
     both = {key: cycles(own[key] + beside.get(key, []), TIMES * key[1]) for key in own}
     each = {key: cycles(rows, TIMES * key[1]) for key, rows in own.items()}
-    rises = all(b > a for n, m in zip(CONTEXTS[1:], CONTEXTS[2:]) for a, b in pairs(each, ('TAS', n), ('TAS', m)) if a < float('inf'))
-    grown = [b / a for a, b in pairs(each, ('TAS', 2), ('TAS', 32))]
-    yield statement(rises, 'table 6', f'test-and-set takes longer the more contexts want the lock: with 32 {told(min(grown))} to {told(max(grown))} times as long as with two.')
-    better = {name: [n for n in CONTEXTS[1:] if all(a < b for a, b in pairs(each, (name, n), (other, n)))] for name, other in (('TTAS', 'TAS'), ('BACKOFF', 'TTAS'))}
+    floor = {key: least(rows, TIMES * key[1]) for key, rows in own.items()}
+    rises = all(b > a for n, m in zip(CONTEXTS[1:], CONTEXTS[2:]) for a, b in zip(each['TAS', n], floor['TAS', m], strict=True) if a < float('inf'))
+    grown = min(b / a for a, b in zip(each['TAS', 2], floor['TAS', 32], strict=True))
+    yield statement(rises, 'table 6', f'test-and-set takes longer the more contexts want the lock: with 32 contexts at least {told(grown)} times as long as with two. A run '
+                    'that came to its limit counts with its cycles till then, and no run with more contexts is held against it.')
+    better = {name: [n for n in CONTEXTS[1:] if is_quicker(each[name, n], floor[other, n])] for name, other in (('TTAS', 'TAS'), ('BACKOFF', 'TTAS'))}
     yield statement(better['TTAS'] == [*CONTEXTS[1:]], 'table 6', 'a look before the try is better from two contexts on: by all seeds with ' + listed(better['TTAS']) + ' contexts.')
     yield statement({*CONTEXTS[2:]} <= {*better['BACKOFF']}, 'table 6', 'pauses are better than a look, from four contexts on: by all seeds with ' + listed(better['BACKOFF'])
                     + ' contexts. Pauses are 16 to 4,096 rounds of three turns long.')
@@ -89,10 +96,15 @@ def lock_statements(own, beside):
                     'what it costs with 4, by all seeds, and with each cost a cycle less or more. What is left is the way, which is longer on more nodes.')
     alone = [b / a for queue, simple in product(QUEUES, SIMPLE) for a, b in pairs(each, (simple, 1), (queue, 1))]
     yield statement(min(alone) > 1, 'table 6', f'where nobody else wants it, a lock with a queue costs more: {told(min(alone))} to {told(max(alone))} times a simple one.')
-    best = [n for n in CONTEXTS if all(a < b for queue, simple in product(QUEUES, SIMPLE) for a, b in pairs(each, (queue, n), (simple, n)))]
+    best = [n for n in CONTEXTS if all(is_quicker(each[queue, n], floor[simple, n]) for queue, simple in product(QUEUES, SIMPLE))]
     yield statement({n for n in CONTEXTS if n >= 16} <= {*best}, 'table 6', 'from 16 contexts on it is the best: by all seeds with ' + listed(best) + ' contexts.')
     yield statement(None, '', "the ticket lock with a fetch-and-add, and Anderson's queue in an array: the machine has no fetch-and-add, and *ticket* draws its tickets behind a "
                     'test-and-test-and-set, whose cost it has.')
+
+
+def is_quicker(most, floor):
+    """Whether each run of one kind has fewer cycles than the run of another one by the same seed has at least."""
+    return all(a < b for a, b in zip(most, floor, strict=True))
 
 
 def listed(numbers):
@@ -115,12 +127,21 @@ def barrier_statements(own, beside):
                     'more.')
 
 
+def picture(own, kinds, numbers, axis, per):
+    """Cycles by contexts or nodes, a line for each kind, without the runs that came to their limit."""
+    groups = {(CALLED[kind], str(number)): [{**row, 'number': str(number)} for row in own[kind, number]] for kind, number in product(kinds, numbers)}
+    halted = {key: rows for key, rows in groups.items() if all(row['ended'] == 'halted' for row in rows)}
+    return plots.picture(halted, axis, ['cycles'], plots.Look('log', True, order=tuple(CALLED[kind] for kind in kinds)), per=per)
+
+
 def answer(study):
-    """The blocks of this question."""
+    """The blocks and the pictures of this question."""
     locks, near_locks = asked(study, 'locks', LOCKS, CONTEXTS, set(product(QUEUES, (4, 64))))
     barriers, near_barriers = asked(study, 'barriers', BARRIERS, NODES, set(product(BARRIERS, (16, 64))))
     blocks = {'locks': each_table('lock', locks, LOCKS, CONTEXTS, lambda n: tables.Per(str(TIMES * n))),
               'barriers': each_table('barrier', barriers, BARRIERS, NODES, lambda n: tables.Per(str(ROUNDS))),
               'contention': ''.join([*lock_statements(locks, near_locks), *barrier_statements(barriers, near_barriers)])}
-    count = sum(len(rows) for each in (locks, near_locks, barriers, near_barriers) for rows in each.values())
-    return asking.Answer(blocks, {}, study.told(count, NODES))
+    pictures = {'papers-locks.svg': picture(locks, LOCKS, CONTEXTS, 'contexts that want the lock', tables.Per(f'number*{TIMES}', 'cycles an acquisition')),
+                'papers-barriers.svg': picture(barriers, BARRIERS, NODES, 'nodes', tables.Per(str(ROUNDS), 'cycles a round'))}
+    count = sum(len(rows) for each in (locks, barriers, near_locks, near_barriers) for rows in each.values())
+    return asking.Answer(blocks, pictures, study.told(count, NODES), [row for each in (locks, barriers) for rows in each.values() for row in rows])

@@ -40,9 +40,10 @@ def check_prints(study, data, traces, name):
 
 
 def asked(study, kernel, defines):
-    """Of a kernel the cycles of timed runs by all seeds, those of the schedules of seeds, and with each cost a cycle less or more the quotients of both."""
+    """Of a kernel the rows of timed runs by all seeds, the cycles of the schedules of seeds, and with each cost a cycle less or more the rows of timed runs
+    and the quotients of both."""
     data = compiled(asking.KERNELS / f'{kernel}.c', NODES, LINES, **defines)
-    timed = [int(row['cycles']) for row in study.rows(f'orders-{kernel}', data)]
+    timed = study.rows(f'orders-{kernel}', data)
     traces = asking.in_turn(study, lambda seed: trace_of(study, data, seed), SEEDS)
     check_prints(study, data, traces, kernel)
 
@@ -52,26 +53,27 @@ def asked(study, kernel, defines):
         return cycles_of(runs.asked(study.binary, ['time', *words_of(costs), '--write', 'cycles'], trace).decode())
     seeded = asking.in_turn(study, retimed, [(trace, {}) for trace in traces])
     one = asking.replace(study, seeds=study.seeds[:1])
-    beside = [int(one.rows(f'orders-{kernel}-{at}', data, **costs)[0]['cycles']) for at, costs in enumerate(asking.neighbours())]
+    beside = [row for at, costs in enumerate(asking.neighbours()) for row in one.rows(f'orders-{kernel}-{at}', data, **costs)]
     few = traces[:len(study.seeds)]
     again = asking.in_turn(study, retimed, [(trace, costs) for costs, trace in product(asking.neighbours(), few)])
-    return timed, seeded, [cycles / beside[at // len(few)] for at, cycles in enumerate(again)]
+    return timed, seeded, beside, [cycles / int(beside[at // len(few)]['cycles']) for at, cycles in enumerate(again)]
 
 
 def answer(study):
     """The blocks of this question."""
-    rows, ratios, near, apart, count = [], [], [], [], 0
+    rows, ratios, near, apart, count, audited = [], [], [], [], 0, []
     for kernel, defines in KERNELS.items():
-        timed, seeded, beside = asked(study, kernel, defines)
-        own, other = tables.spread_of(timed), tables.spread_of(seeded)
+        timed, seeded, beside, over = asked(study, kernel, defines)
+        own, other = asking.spread(timed), tables.spread_of(seeded)
         rows.append((f'{kernel}-wide' if defines else kernel, tables.cell(own, by_ends=True), tables.cell(other, by_ends=True), f'{other.median / own.median:.2f}'))
         ratios += [other.lowest / own.highest, other.highest / own.lowest]
-        near += beside
+        near += over
         apart.append(other.highest / other.lowest)
-        count += len(timed) + len(seeded) + len(beside) + len(list(asking.neighbours()))
+        count += len(timed) + len(seeded) + len(over) + len(beside)
+        audited += timed + beside
     said = statement(min(ratios + near) > 1, 'table 9', f'the schedule of each seed takes more cycles than the one in order of time: {told_ratios(ratios + near)} times as many, '
                      'also with each cost a cycle less or more by the first five seeds. All of them are legal, and print the same words.')
     said += statement(max(apart) < min(ratios), 'table 9', f'the schedules of {len(SEEDS)} seeds are nearer to each other than to that one: the slowest takes {told_ratios(apart)} '
                       f'times the cycles of the quickest, and the quickest {min(ratios):.3f} times those of the one in order of time at least.')
     return asking.Answer({'orders': lines_of(('kernel', 'in order of time', f'{len(SEEDS)} seeds', 'over'), rows), 'orders_said': said}, {},
-                         f'{count} runs and timed traces on {NODES} nodes')
+                         f'{count} runs and timed traces on {NODES} nodes', audited)

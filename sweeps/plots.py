@@ -68,7 +68,9 @@ DRAWN = {
             "     '' using 1:3:(0):($5-$3) with vectors nohead lc rgb '#000000' lw 2.5 dt solid",
 }
 PANEL_ROW, TITLE_ROW, LEGEND_ROW, ABOVE, BELOW, BETWEEN_ROWS = 280, 30, 22, 16.8, 64.4, 81.2
-UNITS, POINTS_HIGH, NAMES_A_ROW = 800, 14, 4
+UNITS, POINTS_HIGH = 800, 14
+# How many names stand in a row of the legend, and how many where one has more than so many characters.
+NAMES_A_ROW, LONG_NAMES_A_ROW, LONG = 4, 3, 20
 GREYS, POINTS = ('#000000', '#777777'), (7, 6, 5, 4, 9, 8, 11, 10)
 COLOURS = ('#0072b2', '#d55e00', '#009e73', '#e69f00', '#cc79a7', '#56b4e9', '#000000')
 FILLS = ('solid 1', 'solid 0.4', 'pattern 1', 'pattern 4', 'pattern 2', 'pattern 5')
@@ -103,7 +105,7 @@ class Sheet:
     scale: float
     rows: int
     columns: int
-    names: int
+    names: tuple
     has_title: bool
     sharper: float = 1
 
@@ -115,7 +117,12 @@ class Sheet:
     @property
     def above(self):
         """How high title and legend are."""
-        return TITLE_ROW * self.has_title + LEGEND_ROW * -(-self.names // NAMES_A_ROW)
+        return TITLE_ROW * self.has_title + LEGEND_ROW * -(-len(self.names) // self.names_a_row)
+
+    @property
+    def names_a_row(self):
+        """How many names stand in a row of the legend."""
+        return LONG_NAMES_A_ROW if any(len(name) > LONG for name in self.names) else NAMES_A_ROW
 
     def head(self, ending, axis):
         """The first lines of the script."""
@@ -130,10 +137,11 @@ class Sheet:
         y = 1 - 0.55 * TITLE_ROW / self.height
         return f"set label 90 '{quoted(text)}' at screen 0.5,{y:.4f} center font ',{18 * self.scale:g}'\n"
 
-    def legend(self, names, colour, way):
+    def legend(self, colour, way):
         """The lines of the names above all panels, each with how it is drawn."""
-        for at, name in enumerate(names):
-            left, y = 0.1 + 0.23 * (at % NAMES_A_ROW), 1 - (self.has_title * TITLE_ROW + LEGEND_ROW * (at // NAMES_A_ROW + 0.7)) / self.height
+        for at, name in enumerate(self.names):
+            row, column = divmod(at, self.names_a_row)
+            left, y = 0.1 + 0.92 / self.names_a_row * column, 1 - (self.has_title * TITLE_ROW + LEGEND_ROW * (row + 0.7)) / self.height
             style, half = style_of(at, colour, self.symbol), 6 / self.height
             place = {'at': at + 1, 'left': left, 'middle': left + 0.02, 'right': left + 0.04, 'y': y, 'low': y - half, 'high': y + half,
                      'lower': 0 if way == 'bars' else -0.25}
@@ -316,11 +324,11 @@ def picture(groups, by, columns, look=Look(), ending='.svg', per=None):
     names = list(dict.fromkeys(key[0] for key in groups)) if has_series else []
     counts = {column: dict(zip(groups, tables.spreads(groups, column, per))) for column in columns}
     is_log = look.scale == 'log' or look.scale is None and any(is_wide(list(each.values())) for each in counts.values())
-    way, sheet = way_of(values, is_log), sheet_of(ending, look, len(columns), len(names))
+    way, sheet = way_of(values, is_log), sheet_of(ending, look, len(columns), tuple(names))
     labels = {column: per.head(column) if per else LABELS.get(column, f'{column} a run') for column in columns}
     axes = {column: axis_of(labels[column], list(each.values()), is_log) for column, each in counts.items()}
     panels = [panel(axes[column], values, each, (look.colour, sheet.symbol), way) for column, each in counts.items()]
-    above = (sheet.title(look.title) if look.title else '') + ''.join(sheet.legend(names, look.colour, way))
+    above = (sheet.title(look.title) if look.title else '') + ''.join(sheet.legend(look.colour, way))
     script = sheet.head(ending, AXES.get(by, by)) + above + 'unset label\nunset arrow\nunset object\n'.join(panels) + 'unset multiplot\n'
     made = drawn(script, ending)
     return made if ending != '.svg' else smaller(made, *([] if has_series else [SYMBOLS]))
