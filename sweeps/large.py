@@ -1,4 +1,5 @@
-"""The question of LimitLESS Directories (1991) on 256 nodes: what few pointers cost there, by fewer handlers, pointers and seeds."""
+"""The question of LimitLESS Directories (1991) on 256 nodes: what few pointers cost there, by fewer handlers, pointers and seeds. Runs of weather have
+more turns than a claim may have, so that jacobi's alone are audited."""
 import asking
 import limitless
 from asking import by, compiled
@@ -27,4 +28,4 @@ def answer(study):
     few = asking.replace(study, seeds=study.seeds[:1])
     rows = [row for name, image in images() for row in few.rows(f'{name}-{NODES}', image, pointers=POINTERS, trap=TRAPS)]
     blocks = {'large_cycles': limitless.cycles_table(rows, 'trap'), 'large_statements': ''.join(statements(rows))}
-    return asking.Answer(blocks, {}, few.told(len(rows), (NODES,)), rows)
+    return asking.Answer(blocks, {}, few.told(len(rows), (NODES,)), by(rows, 'name')[(f'jacobi-{NODES}',)])
