@@ -70,7 +70,7 @@ DRAWN = {
 PANEL_ROW, TITLE_ROW, LEGEND_ROW, ABOVE, BELOW, BETWEEN_ROWS = 280, 30, 22, 16.8, 64.4, 81.2
 UNITS, POINTS_HIGH = 800, 14
 # How many names stand in a row of the legend, and how many where one has more than so many characters.
-NAMES_A_ROW, LONG_NAMES_A_ROW, LONG = 4, 3, 20
+NAMES_A_ROW, LONG_NAMES_A_ROW, LONG = 4, 3, 18
 GREYS, POINTS = ('#000000', '#777777'), (7, 6, 5, 4, 9, 8, 11, 10)
 COLOURS = ('#0072b2', '#d55e00', '#009e73', '#e69f00', '#cc79a7', '#56b4e9', '#000000')
 FILLS = ('solid 1', 'solid 0.4', 'pattern 1', 'pattern 4', 'pattern 2', 'pattern 5')
