@@ -47,6 +47,7 @@ HINTS = (
      'atomics are the __atomic_ ones of 1, 2, 4 and 8 bytes, as C11 has them; alewife.h has exchange and test_and_set besides'),
     (re.compile(r'undefined reference to `__\w*[sdt]f'), 'the machine has no floating point'),
     (re.compile(r'unplaced orphan section `\.t(bss|data)'), 'there are no variables of a thread: take an array with an element for each own_context()'),
+    (re.compile('_Alignas.? specifiers cannot reduce alignment'), 'a variable with an array of EACH begins a line by itself: leave LINE away'),
     (re.compile(r'undefined reference to `program'), 'one of the files has to have void program(uint32_t context, uint32_t contexts)'),
 )
 

@@ -12,8 +12,8 @@
 /* The program. `context` counts from 0, and there are `contexts`, at most CONTEXTS. */
 void program(uint32_t context, uint32_t contexts);
 
-/* A variable with this begins a line of 16 bytes, so that it shares none with what stands before it. */
-#define LINE __attribute__((aligned(16)))
+/* A variable with this begins a line of 16 bytes, so that it shares none with what stands before it. One that EACH declares does so anyway. */
+#define LINE _Alignas(16)
 
 #ifdef __sparc__
 

@@ -6,7 +6,7 @@ enum { SIZE = 8 };
 LINE static uint32_t left[SIZE][SIZE];
 LINE static uint32_t right[SIZE][SIZE];
 LINE static uint32_t product[SIZE][SIZE];
-LINE static struct barrier barrier;
+static struct barrier barrier;
 
 static void fill_row(uint32_t row)
 {

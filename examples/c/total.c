@@ -3,7 +3,7 @@
 
 LINE static struct lock lock;
 LINE static uint32_t total;
-LINE static struct barrier barrier;
+static struct barrier barrier;
 
 void program(uint32_t context, uint32_t contexts)
 {

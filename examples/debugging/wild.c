@@ -7,7 +7,7 @@ struct shares {
 };
 
 LINE static volatile struct shares shares = {.limit = 100};
-LINE static struct barrier barrier;
+static struct barrier barrier;
 
 static void put(uint32_t context, uint32_t share)
 {

@@ -5,7 +5,7 @@
 #include "alewife.h"
 #include <assert.h>
 
-LINE static struct queue_lock lock;
+static struct queue_lock lock;
 LINE static uint32_t inside;
 
 void program(uint32_t context, uint32_t contexts)

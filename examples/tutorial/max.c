@@ -2,7 +2,7 @@
 #include "alewife.h"
 
 LINE static uint32_t max;
-LINE static struct barrier barrier;
+static struct barrier barrier;
 
 void program(uint32_t context, uint32_t contexts)
 {

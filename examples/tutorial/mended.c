@@ -3,7 +3,7 @@
 
 LINE static uint32_t max;
 LINE static struct lock lock;
-LINE static struct barrier barrier;
+static struct barrier barrier;
 
 void program(uint32_t context, uint32_t contexts)
 {
