@@ -44,7 +44,7 @@ def image_of(source, kind, number):
 
 def lock_of(kind, number, lines, spread=False):
     """The image of a lock that so many of 64 contexts take."""
-    return compiled(cross.RUNTIME / 'locks.c', 64, lines, spread=spread, LOCK=kind, ACTIVE=number, TIMES=TIMES)
+    return compiled(cross.RUNTIME / 'locks.c', 64, lines, spread=spread, LOCK=kind, ACTIVE=number, TIMES=TIMES, TELLS=0)
 
 
 def barrier_of(kind, nodes, lines, spread=False):

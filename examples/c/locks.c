@@ -1,6 +1,6 @@
 /* A lock under contention: the first ACTIVE contexts each take it TIMES times, as soon as they can, and count behind it. The one that counts last
-   tells context 0, which prints the count: it is their product. LOCK says which one: TTAS or MCS of alewife.h, or TAS, BACKOFF, TICKET or CLH
-   of locks.h. */
+   tells context 0, which prints the count: it is their product. With TELLS as 0 it prints the count itself, and nobody waits for it. LOCK says
+   which one: TTAS or MCS of alewife.h, or TAS, BACKOFF, TICKET or CLH of locks.h. */
 #include "locks.h"
 
 enum { TTAS, TAS, BACKOFF, TICKET, CLH, MCS, SHORTEST = 16, LONGEST = 4096 };
@@ -13,6 +13,9 @@ enum { TTAS, TAS, BACKOFF, TICKET, CLH, MCS, SHORTEST = 16, LONGEST = 4096 };
 #endif
 #ifndef TIMES
 #define TIMES 8
+#endif
+#ifndef TELLS
+#define TELLS 1
 #endif
 
 LINE static struct lock lock;
@@ -54,14 +57,22 @@ static uint32_t counted(void)
     return own;
 }
 
+static void say(uint32_t product)
+{
+    if (TELLS)
+        store_word(&whole, product);
+    else
+        print(product);
+}
+
 void program(uint32_t context, uint32_t contexts)
 {
     if (context >= ACTIVE)
         return;
     for (uint32_t i = 0; i < TIMES; i++)
         if (counted() == ACTIVE * TIMES)
-            store_word(&whole, ACTIVE * TIMES);
-    if (context > 0)
+            say(ACTIVE * TIMES);
+    if (!TELLS || context > 0)
         return;
     while (!load_word(&whole))
         yield();
