@@ -1,6 +1,5 @@
 ghost use Rattle.std.specs.Prelude.{◌≡◌, ◌+◌, ◌*◌, ◌≤◌, ◌<◌, ◌^◌, ◌∷◌, ◌++◌, [], length, flat_map, vec_capacity, IfSome};
 ghost use Rattle.std.specs.List.{AllByRecursion};
-ghost use Rattle.alw_msg.specs.Kinds.{kind_number};
 ghost use Rattle.alw_cells.specs.Layout.{word, half, tag_of, argument_of, body_bytes, taken_bytes, sent_bytes, front_bytes, back_bytes, record_bytes};
 ghost use Rattle.alw_cells.specs.Records.{FitsLine, FitsMsg, FitsSend, FitsEvent, FitsRecord};
 
@@ -69,7 +68,7 @@ fn put_taken(bytes: &mut Vec<u8>, taken: Option<Msg>)
     ensures fits { IfSome taken FitsMsg }
 {
     if let Some(msg) = taken {
-        put_byte(bytes, number_of(msg.kind));
+        put_byte(bytes, msg.kind.number());
         put_word(bytes, msg.line.0);
         put_half(bytes, msg.src.0);
         put_word(bytes, msg.stamp);
@@ -104,7 +103,7 @@ fn put_sent(bytes: &mut Vec<u8>, to: u16, msg: Msg)
     ensures fits { FitsSend (to, msg) }
 {
     put_half(bytes, to);
-    put_byte(bytes, number_of(msg.kind));
+    put_byte(bytes, msg.kind.number());
     put_word(bytes, msg.line.0);
     put_body(bytes, msg.kind, msg.body);
 }
@@ -149,23 +148,6 @@ fn argument(event: Event) -> u32
         Event::Deliver { from, .. } => u32::from(from.0),
         Event::Evict { set, .. } => set,
         Event::Instr { .. } | Event::Handle { .. } => 0,
-    }
-}
-
-// Kinds by number.
-fn number_of(kind: Kind) -> u8
-    ensures { result ≡ kind_number kind }
-{
-    match kind {
-        Kind::RREQ => 0,
-        Kind::WREQ => 1,
-        Kind::REPM => 2,
-        Kind::UPDATE => 3,
-        Kind::ACKC => 4,
-        Kind::RDATA => 5,
-        Kind::WDATA => 6,
-        Kind::INV => 7,
-        Kind::BUSY => 8,
     }
 }
 

@@ -9,7 +9,7 @@ use Rattle.alw_msg.specs.declared.events.Event.TheVariants.{Instr, Handle, Deliv
 use Rattle.alw_msg.specs.Events.{node_of, is_evict}
 use Rattle.alw_msg.specs.Lists.{front}
 use Rattle.alw_image.specs.declared.parts.Parts.{Parts}
-use Rattle.alw_model.specs.Counts.{hops_between}
+use Rattle.alw_image.specs.Images.{hops_between}
 use Rattle.alw_model.specs.Machine.{is_enabled, has_halted, link_place}
 use Rattle.alw_model.proofs.Journals.{and_parts, legal_push}
 use Rattle.alw_times.specs.declared.costs.Costs.{Costs}

@@ -5,7 +5,7 @@ use Rattle.std.specs.List.{AllByRecursion, Contains}
 use Rattle.std.specs.List.Sorted.{IsStrictlySortedBy}
 use Rattle.std.proofs.lemmas.Option.{slice_get_read, slice_get_within, slice_get-get_or, get_or_from_slice_get}
 use Rattle.alw_image.specs.declared.parts.Parts.{Parts}
-use Rattle.alw_image.specs.Images.{line_count}
+use Rattle.alw_image.specs.Images.{line_count, sizes_of}
 use Rattle.alw_msg.specs.Stretches.{stretches, turns_in}
 use Rattle.alw_msg.proofs.StretchLaws.{same_turns}
 use Rattle.alw_outcomes.specs.Places.{Place}
@@ -22,7 +22,7 @@ use Rattle.alw_outcomes.proofs.Witnesses.{each_reached}
 use Rattle.alw_outcomes.specs.declared.endings.Endings.{Endings}
 use Rattle.alw_endings.specs.declared.values.Outcomes.{Outcomes}
 use Rattle.alw_endings.specs.declared.values.HaltEnd.{HaltEnd}
-use Rattle.alw_endings.specs.Ends.{prints_at, memory_at, place_by, halt_told, trap_told, endings_told, HasSizesOf, IsHaltEnd, IsTrapEnd, IsStuckRun, IsStuckThere, KeepsPlaces, AreOutcomes}
+use Rattle.alw_endings.specs.Ends.{prints_at, memory_at, place_by, halt_told, trap_told, endings_told, IsHaltEnd, IsTrapEnd, IsStuckRun, IsStuckThere, KeepsPlaces, AreOutcomes}
 
 -- members that are told of the numbers so far; the rest is to come
 pub record ToldSoFar {X Y : Type 0} (Is : X → Type 0) (tells : X → Ending) (names : Y → Ending) (all rest : List Y) (told : List X) : Type 0 where
@@ -152,7 +152,7 @@ module _ (parts : Parts) (found : Found) (endings : Endings) (told : Outcomes)
       ap (λ (one : List Ending). one ++ map trap_told told.traps) halts_told
       ∙ ap (λ (other : List Ending). map (halt_at found) endings.ends.items ++ other) traps_told
 
-  pub are_outcomes : HasSizesOf parts told → KeepsPlaces parts told.places → AllByRecursion (IsHaltEnd parts) told.halts → AllByRecursion (IsTrapEnd parts) told.traps →
+  pub are_outcomes : told.sizes ≡ sizes_of parts → KeepsPlaces parts told.places → AllByRecursion (IsHaltEnd parts) told.halts → AllByRecursion (IsTrapEnd parts) told.traps →
       (IsTrue told.is_complete → HasEvery parts (endings_in found)) → IsStuckRun parts told.stuck → AreOutcomes parts told
   are_outcomes sizes kept halts traps every stuck = record {
     sizes = sizes;

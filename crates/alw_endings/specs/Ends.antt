@@ -4,7 +4,7 @@ use Rattle.std.specs.List.{flat_map, range_with_len, AllByRecursion}
 use Rattle.std.specs.List.Sorted.{IsStrictlySortedBy}
 use Rattle.alw_msg.specs.Stretches.{stretches, turns_in}
 use Rattle.alw_image.specs.declared.parts.Parts.{Parts}
-use Rattle.alw_image.specs.Images.{line_count, context_count, zero_line}
+use Rattle.alw_image.specs.Images.{line_count, context_count, zero_line, sizes_of}
 use Rattle.alw_model.specs.Counts.{listed_words}
 use Rattle.alw_outcomes.specs.Places.{Place, place_start, places_after, IsRun}
 use Rattle.alw_outcomes.specs.Outcomes.{Ending, Traps, EndsIn, HasEvery, all_halted}
@@ -65,13 +65,6 @@ endings_told parts told = map (halt_told parts) told.halts ++ map trap_told told
 
 -- ---- the whole
 
--- the sizes are the image's
-pub record HasSizesOf (parts : Parts) (told : Outcomes) : Type 0 where
-  pub width : told.width ≡ parts.width
-  pub height : told.height ≡ parts.height
-  pub contexts : told.contexts ≡ parts.contexts
-  pub per_node : told.per_node ≡ parts.per_node
-
 -- such turns lead to a place from which none lead to an end
 pub record IsStuckThere (parts : Parts) (runs : List (ℕ × ℕ)) : Type 0 where
   pub turns : List ℕ
@@ -100,7 +93,7 @@ pub record KeepsPlaces (parts : Parts) (count : ℕ) : Type 0 where
 
 -- nothing is told that can't be, each once and in order; and where the search is complete, nothing is left out
 pub record AreOutcomes (parts : Parts) (told : Outcomes) : Type 0 where
-  pub sizes : HasSizesOf parts told
+  pub sizes : told.sizes ≡ sizes_of parts
   pub kept : KeepsPlaces parts told.places
   pub halts : AllByRecursion (IsHaltEnd parts) told.halts
   pub traps : AllByRecursion (IsTrapEnd parts) told.traps

@@ -27,7 +27,7 @@ unfoldable pub search_line : Bool → List ℕ
 search_line complete = codes "search " ++ (search_word complete ++ codes "\n")
 
 unfoldable pub head_text : Outcomes → List ℕ
-head_text e = title ++ (sizes_line e.width e.height e.contexts e.per_node ++ (places_line e.places ++ search_line e.is_complete))
+head_text e = title ++ (sizes_line e.sizes ++ (places_line e.places ++ search_line e.is_complete))
 
 -- ---- where all contexts have halted
 

@@ -32,10 +32,7 @@ pub fn outcomes_of(alloc: Global, image: &Image, most: u32) -> Result<Outcomes, 
     let halts = halts_of(alloc, image, &found, &endings.ends)?;
     let traps = traps_of(alloc, image, &found, &endings.traps)?;
     Ok(Outcomes {
-        width: image.width(),
-        height: image.height(),
-        contexts: image.contexts(),
-        per_node: image.per_node(),
+        sizes: image.sizes(),
         places,
         is_complete,
         halts,

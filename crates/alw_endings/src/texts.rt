@@ -29,7 +29,7 @@ fn put_head(text: &mut Text, told: &Outcomes) -> Result<(), NoMemory>
     ensures { OnOk result (text.new ≡ text.old ++ head_text told.now) }
 {
     put_title(text)?;
-    put_sizes(text, told.width, told.height, told.contexts, told.per_node)?;
+    put_sizes(text, told.sizes)?;
     put_places(text, told.places)?;
     put_search(text, told.is_complete)?;
     Ok(())

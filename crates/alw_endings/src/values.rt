@@ -1,3 +1,4 @@
+use alw_image::Sizes;
 use alw_msg::{Prints, Stretches, Words};
 use alw_num::Sequence;
 
@@ -5,14 +6,7 @@ use alw_num::Sequence;
 /// many places the search kept, whether it ended by itself, and what it found.
 #[derive(Drop)]
 pub struct Outcomes {
-    /// Columns of the mesh, 1 to 16.
-    pub width: u8,
-    /// Rows of the mesh, 1 to 16.
-    pub height: u8,
-    /// Contexts of each node, 1 to 4.
-    pub contexts: u8,
-    /// Lines of shared data that each node is the home of, 1 to 4096.
-    pub per_node: u16,
+    pub sizes: Sizes,
     /// The places that the search kept.
     pub places: u64,
     /// The search went on from every place that it found.

@@ -1,5 +1,5 @@
 -- What an image's parts say of its machine, which parts are an image, and how an image is spelled.
-use Rattle.std.specs.Prelude.{◌≡◌, ◌≢◌, ℕ, ◌+◌, ◌*◌, ◌%◌, ◌<◌, ◌≤◌, ◌&&◌, ◌==◌, Bool, if◌then◌else◌, nat_le, Option, find, List, [], ◌∷◌, ◌++◌, length, map, codes}
+use Rattle.std.specs.Prelude.{◌≡◌, ◌≢◌, ℕ, ◌+◌, ◌-◌, ◌*◌, ◌/◌, ◌%◌, ◌<◌, ◌≤◌, ◌&&◌, ◌==◌, Bool, if◌then◌else◌, nat_le, Option, find, List, [], ◌∷◌, ◌++◌, length, map, codes}
 use Rattle.std.specs.Int.{w16, w32, to_be_bytes}
 use Rattle.std.specs.Option.{option_map}
 use Rattle.std.specs.List.{list_any, flat_map, AllByRecursion}
@@ -9,6 +9,11 @@ use Rattle.alw_num.specs.declared.addresses.LineNo.{LineNo}
 use Rattle.alw_num.specs.declared.addresses.NodeNo.{NodeNo}
 use Rattle.alw_num.specs.Lanes.{bytes_of}
 use Rattle.alw_image.specs.declared.parts.Parts.{Parts}
+use Rattle.alw_image.specs.declared.parts.Sizes.{Sizes}
+
+-- the sizes of its machine
+abbrev pub sizes_of : Parts → Sizes
+sizes_of p = record { width = p.width; height = p.height; contexts = p.contexts; per_node = p.per_node }
 
 -- the number of nodes
 abbrev pub node_count : Parts → ℕ
@@ -21,6 +26,13 @@ line_count p = node_count p * p.per_node
 -- the number of contexts
 abbrev pub context_count : Parts → ℕ
 context_count p = node_count p * p.contexts
+
+-- columns and rows between two nodes
+abbrev pub hops_between : Parts → ℕ → ℕ → ℕ
+hops_between p from to = distance (from % p.width) (to % p.width) + distance (from / p.width) (to / p.width)
+  where
+    distance : ℕ → ℕ → ℕ
+    distance a b = (a - b) + (b - a)
 
 -- the line of 16 zero bytes
 abbrev pub zero_line : Line

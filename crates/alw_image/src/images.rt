@@ -1,8 +1,8 @@
-ghost use Rattle.std.specs.Prelude.{◌≡◌, ◌<◌, ◌≤◌, ◌*◌, ◌+◌, ◌/◌, ◌%◌, ◌↔◌, filter, length, IfOk, IfSome, IsSome};
+ghost use Rattle.std.specs.Prelude.{◌≡◌, ◌<◌, ◌≤◌, ◌-◌, ◌*◌, ◌+◌, ◌/◌, ◌%◌, ◌^◌, ◌↔◌, ℕ, filter, length, IfOk, IfSome, IsSome};
 ghost use Rattle.alw_image.specs.Nodes.{is_body_of, is_line_of, is_start_of};
 
 use crate::checks::is_image;
-use crate::parts::{Code, Parts};
+use crate::parts::{Code, Parts, Sizes};
 use crate::ranges::between;
 use alw_num::{Line, LineNo, MOST_LINES, MOST_NODES, NoMemory, NodeNo};
 use std::marker::Model;
@@ -70,7 +70,19 @@ impl Image {
         Image { parts }
     }
 
-    ghost use Rattle.alw_image.specs.Images.{IsImage, node_count, line_count, context_count, body_of, started_at, is_always};
+    ghost use Rattle.alw_image.specs.Images.{IsImage, sizes_of, hops_between, node_count, line_count, context_count, body_of, started_at, is_always};
+
+    /// The machine's sizes.
+    pub fn sizes(&self) -> Sizes
+        ensures { result ≡ sizes_of self.now }
+    {
+        Sizes {
+            width: self.parts.width,
+            height: self.parts.height,
+            contexts: self.parts.contexts,
+            per_node: self.parts.per_node,
+        }
+    }
 
     /// Columns of the mesh.
     pub fn width(&self) -> u8
@@ -108,6 +120,15 @@ impl Image {
         ensures allowed { IsImage self.now }
     {
         u16::from(self.parts.width) * u16::from(self.parts.height)
+    }
+
+    /// The columns and rows between two nodes.
+    pub fn hops(&self, from: NodeNo, to: NodeNo) -> u64
+        ensures hops { result ≡ hops_between self.now from.0 to.0 }
+        ensures few { result < 2 ^ 16 + 2 ^ 8 }
+    {
+        let width = u16::from(self.parts.width);
+        distance(from.0 % width, to.0 % width) + distance(from.0 / width, to.0 / width)
     }
 
     /// The number of lines of shared data.
@@ -213,4 +234,11 @@ pub(crate) fn context_of(start: &(NodeNo, u8, u32), contexts: u8) -> u32
 {
     let (node, slot, _address) = *start;
     u32::from(node.0) * u32::from(contexts) + u32::from(slot)
+}
+
+fn distance(a: u16, b: u16) -> u64
+    ensures hops { result ≡ (a - b) + (b - a) }
+    ensures few { (most : ℕ) → a ≤ most → b ≤ most → result ≤ most }
+{
+    u64::from(if a < b { b - a } else { a - b })
 }

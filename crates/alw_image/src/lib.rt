@@ -18,6 +18,6 @@ pub use faults::ImageErr;
 pub use images::Image;
 pub use laws::images_are_read;
 pub use parameters::{FEW_POINTERS, MOST_LIMIT, MOST_POINTERS, Params, SET_COUNTS};
-pub use parts::{Bodies, Code, LineList, Parts, Starts};
+pub use parts::{Bodies, Code, LineList, Parts, Sizes, Starts};
 pub use reading::read_image;
 pub use writing::write_image;

@@ -12,6 +12,19 @@ pub type Bodies = Sequence<(LineNo, Line)>;
 /// Where contexts start: node, slot and address, by node and slot.
 pub type Starts = Sequence<(NodeNo, u8, u32)>;
 
+/// The sizes of a machine.
+#[derive(Clone, Copy, PartialEq, Eq)]
+pub struct Sizes {
+    /// Columns of the mesh, 1 to 16.
+    pub width: u8,
+    /// Rows of the mesh, 1 to 16.
+    pub height: u8,
+    /// Contexts of each node, 1 to 4.
+    pub contexts: u8,
+    /// Lines of shared data that each node is the home of, 1 to 4096.
+    pub per_node: u16,
+}
+
 /// What an image says, part by part.
 #[derive(Drop)]
 pub struct Parts {

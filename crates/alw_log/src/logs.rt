@@ -34,13 +34,7 @@ fn put_head(text: &mut Text, machine: &Machine) -> Result<(), NoMemory>
 {
     let image = machine.image();
     put_title(text)?;
-    put_sizes(
-        text,
-        image.width(),
-        image.height(),
-        image.contexts(),
-        image.per_node(),
-    )?;
+    put_sizes(text, image.sizes())?;
     put_params(text, machine.params())?;
     put_heading(text, b"events", machine.journal().len())?;
     Ok(())

@@ -21,7 +21,7 @@ use Rattle.alw_msg.specs.declared.events.Entry.{Entry}
 use Rattle.alw_msg.specs.Contents.{ToMemory, RREQ, WREQ, REPM, UPDATE, ACKC, ToCache, RDATA, WDATA, INV, BUSY, Content, ForMemory, ForCache, content}
 use Rattle.alw_msg.specs.Events.{node_of}
 use Rattle.alw_image.specs.declared.parts.Parts.{Parts}
-use Rattle.alw_image.specs.Images.{IsImage, node_count, line_count, zero_line}
+use Rattle.alw_image.specs.Images.{IsImage, node_count, line_count, zero_line, hops_between}
 use Rattle.alw_image.specs.Parameters.{Parameters}
 use Rattle.alw_model.specs.FullMap.{Home, Sends, others, sole, write_shared, recall, recall_from, give_back, give_back_from, end_read, end_write, acknowledge, row}
 use Rattle.alw_model.specs.LimitLess.{directory_start, full_map_of, hardware_of, is_trapped}
@@ -33,7 +33,6 @@ use Rattle.alw_model.specs.ProcessorSteps.{opened}
 use Rattle.alw_model.specs.NodeSteps.{access, instr_by, instr, at_home, deliver_by, deliver, handle_by, handle_front, event_at}
 use Rattle.alw_model.specs.Machine.{MachineState, machine_start, node_at, taken_by, is_enabled, stepped_by, step, AreLegal, IsLegal}
 use Rattle.alw_model.specs.Runs.{moment_of, moments_from, moments}
-use Rattle.alw_model.specs.Counts.{hops_between}
 use Rattle.law_entry.specs.Entries.{PointsBelow}
 use Rattle.law_entry.proofs.Pointers.{no_points}
 use Rattle.law_lines.specs.Links.{GoBelow}

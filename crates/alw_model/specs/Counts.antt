@@ -1,5 +1,5 @@
 -- What the report counts in a run, and what it lists of memory and directory at its end.
-use Rattle.std.specs.Prelude.{ℕ, ◌+◌, ◌-◌, ◌*◌, ◌/◌, ◌%◌, Bool, true, false, cond, not, ◌==◌, List, [], ◌∷◌, length, map, filter, flat_map, is_some}
+use Rattle.std.specs.Prelude.{ℕ, ◌+◌, ◌-◌, ◌*◌, Bool, true, false, cond, not, ◌==◌, List, [], ◌∷◌, length, map, filter, flat_map, is_some}
 use Rattle.std.specs.List.{range_with_len}
 use Rattle.alw_num.specs.Lanes.{lane_of}
 use Rattle.alw_num.specs.Weights.{digit, weigh}
@@ -15,7 +15,7 @@ use Rattle.alw_msg.specs.declared.messages.Kind.TheVariants as kinds
 use Rattle.alw_msg.specs.Kinds.{kind_number}
 use Rattle.alw_msg.specs.Contents.{Content, ForMemory, ForCache, content, brings_line}
 use Rattle.alw_image.specs.declared.parts.Parts.{Parts}
-use Rattle.alw_image.specs.Images.{line_count}
+use Rattle.alw_image.specs.Images.{line_count, hops_between}
 use Rattle.alw_image.specs.Parameters.{Parameters}
 use Rattle.alw_model.specs.declared.steps.Counts.{Counts}
 use Rattle.alw_model.specs.declared.steps.Did.{Did}
@@ -60,13 +60,6 @@ uses_hold before _ = false
 abbrev pub is_data : Content → Bool
 is_data (ForCache said) = brings_line said
 is_data (ForMemory said) = false
-
--- columns and rows between two nodes
-abbrev pub hops_between : Parts → ℕ → ℕ → ℕ
-hops_between parts from to = distance (from % parts.width) (to % parts.width) + distance (from / parts.width) (to / parts.width)
-  where
-    distance : ℕ → ℕ → ℕ
-    distance a b = (a - b) + (b - a)
 
 -- events that pass a test of what they did
 abbrev pub count_did : (Did → Bool) → List Moment → ℕ

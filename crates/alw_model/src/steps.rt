@@ -1,3 +1,6 @@
+ghost use Rattle.std.specs.Prelude.{◌≡◌};
+ghost use Rattle.alw_model.specs.Counts.{is_spill};
+
 use alw_msg::Kind;
 use alw_num::State;
 use sparc_table::Outcome;
@@ -48,4 +51,19 @@ pub enum Did {
     Packet,
     Handled { kind: Kind, state: State },
     Evicted,
+}
+
+impl Did {
+    /// The handler acted on an RREQ for a line in Read-Only.
+    pub fn is_spill(self) -> bool
+        ensures { result ≡ is_spill self }
+    {
+        matches!(
+            self,
+            Did::Handled {
+                kind: Kind::RREQ,
+                state: State::RO
+            }
+        )
+    }
 }

@@ -1,5 +1,5 @@
-ghost use Rattle.std.specs.Prelude.{◌≡◌};
-ghost use Rattle.alw_msg.specs.Kinds.{to_memory, has_body};
+ghost use Rattle.std.specs.Prelude.{◌≡◌, ◌<◌};
+ghost use Rattle.alw_msg.specs.Kinds.{to_memory, has_body, kind_number};
 
 use alw_num::{Line, LineNo, NodeNo, Sequence};
 
@@ -34,6 +34,24 @@ impl Kind {
         ensures { result ≡ has_body self }
     {
         matches!(self, Kind::REPM | Kind::UPDATE | Kind::RDATA | Kind::WDATA)
+    }
+
+    /// The kinds' numbers, in the order of their names.
+    pub fn number(self) -> u8
+        ensures number { result ≡ kind_number self }
+        ensures few { result < 9 }
+    {
+        match self {
+            Kind::RREQ => 0,
+            Kind::WREQ => 1,
+            Kind::REPM => 2,
+            Kind::UPDATE => 3,
+            Kind::ACKC => 4,
+            Kind::RDATA => 5,
+            Kind::WDATA => 6,
+            Kind::INV => 7,
+            Kind::BUSY => 8,
+        }
     }
 }
 

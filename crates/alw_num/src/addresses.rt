@@ -1,5 +1,5 @@
 ghost use Rattle.std.specs.Prelude.{◌≡◌, ◌<◌, ◌≤◌, ◌-◌, ◌*◌, ◌/◌, ◌%◌, ◌^◌, ◌↔◌, IsNone, IfSome};
-ghost use Rattle.alw_num.specs.Lanes.{bytes_of, line_from, lane_of, with_lane_of, IsAligned};
+ghost use Rattle.alw_num.specs.Lanes.{bytes_in, bytes_of, line_from, lane_of, with_lane_of, IsAligned};
 
 /// The first address of shared data. Code lies below it.
 pub const SHARED_BASE: u32 = 0x4000_0000;
@@ -48,6 +48,20 @@ pub enum Width {
     Byte,
     Half,
     Word,
+}
+
+impl Width {
+    /// How many bytes an access of this width takes.
+    pub fn bytes(self) -> u32
+        ensures bytes { result ≡ bytes_in self }
+        ensures few { result ≤ 4 }
+    {
+        match self {
+            Width::Byte => 1,
+            Width::Half => 2,
+            Width::Word => 4,
+        }
+    }
 }
 
 /// The line that an address lies in. None below shared data.

@@ -46,13 +46,13 @@ entry_data d = keyed (
 -- a report, whose end has these words
 abbrev pub ended_data : Report → List ℕ → Data
 ended_data r ended = keyed (
-    (codes "contexts", natural r.contexts) ∷
+    (codes "contexts", natural r.sizes.contexts) ∷
     (codes "counts", counts_data r.counts) ∷
     (codes "directory", listed entry_data r.directory) ∷
     (codes "ended", string ended) ∷
-    (codes "lines", natural r.per_node) ∷
+    (codes "lines", natural r.sizes.per_node) ∷
     (codes "memory", listed pair r.memory) ∷
-    (codes "mesh", pair (r.width, r.height)) ∷
+    (codes "mesh", pair (r.sizes.width, r.sizes.height)) ∷
     (codes "params", params_data r.params) ∷
     (codes "prints", listed pair r.prints) ∷
     (codes "runs", listed pair r.runs) ∷ [])

@@ -12,6 +12,8 @@ use Rattle.alw_text.specs.Pieces.{nodes_text}
 use Rattle.alw_msg.specs.declared.events.Entry.{Entry}
 use Rattle.alw_msg.specs.Stretches.{stretches}
 use Rattle.alw_image.specs.declared.parts.Parts.{Parts}
+use Rattle.alw_image.specs.declared.parts.Sizes.{Sizes}
+use Rattle.alw_image.specs.Images.{sizes_of}
 use Rattle.alw_image.specs.Parameters.{Parameters}
 use Rattle.alw_model.specs.declared.steps.Counts.{Counts}
 use Rattle.alw_model.specs.declared.ends.Ended.{Ended}
@@ -27,10 +29,10 @@ unfoldable pub title : List ℕ
 title = codes "ALEWIFE REPORT 1\n"
 
 -- columns and rows of the mesh, and how many contexts and lines each node has
-unfoldable pub sizes_line : ℕ → ℕ → ℕ → ℕ → List ℕ
-sizes_line width height contexts per_node =
-    codes "mesh " ++ (decimal width ++ (codes " " ++ (decimal height
-    ++ (codes " contexts " ++ (decimal contexts ++ (codes " lines " ++ (decimal per_node ++ codes "\n")))))))
+unfoldable pub sizes_line : Sizes → List ℕ
+sizes_line sizes =
+    codes "mesh " ++ (decimal sizes.width ++ (codes " " ++ (decimal sizes.height
+    ++ (codes " contexts " ++ (decimal sizes.contexts ++ (codes " lines " ++ (decimal sizes.per_node ++ codes "\n")))))))
 
 unfoldable pub params_word : List ℕ
 params_word = codes "params pointers "
@@ -73,7 +75,7 @@ hops_line c =
 
 -- the first four lines, and the counts in three
 unfoldable pub head_text : Report → List ℕ
-head_text r = title ++ (sizes_line r.width r.height r.contexts r.per_node ++ (params_line r.params ++ ended_line r.ended))
+head_text r = title ++ (sizes_line r.sizes ++ (params_line r.params ++ ended_line r.ended))
 
 unfoldable pub counts_text : Counts → List ℕ
 counts_text c = events_line c ++ (requests_text c ++ (replies_text c ++ hops_line c))
@@ -144,10 +146,7 @@ report_text r = summary_text r ++ (lists_text r ++ codes "end\n")
 -- what a report tells of a run: its turns in stretches, and memory and directory at its end
 abbrev pub told_of : Parts → Parameters → List Entry → Ended → Report
 told_of parts parameters journal ended = record {
-  width = parts.width;
-  height = parts.height;
-  contexts = parts.contexts;
-  per_node = parts.per_node;
+  sizes = sizes_of parts;
   params = parameters;
   ended = ended;
   counts = counts_of parts (moments parts parameters journal);

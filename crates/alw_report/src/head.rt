@@ -4,7 +4,7 @@ ghost use Rattle.alw_model.specs.declared.ends.Ended.TheVariants.{Trapped};
 ghost use Rattle.alw_report.specs.Reports.{title, sizes_line, params_word, params_line, ended_text, ended_line, events_line, requests_text, replies_text, hops_line, head_text, counts_text, summary_text};
 
 use crate::values::Report;
-use alw_image::Params;
+use alw_image::{Params, Sizes};
 use alw_model::{Counts, Ended, TrapAt};
 use alw_num::NoMemory;
 use alw_text::{Spell, Text, put_number};
@@ -25,13 +25,7 @@ fn put_head(text: &mut Text, report: &Report) -> Result<(), NoMemory>
     ensures { OnOk result (text.new ≡ text.old ++ head_text report.now) }
 {
     put_title(text)?;
-    put_sizes(
-        text,
-        report.width,
-        report.height,
-        report.contexts,
-        report.per_node,
-    )?;
+    put_sizes(text, report.sizes)?;
     put_params(text, &report.params)?;
     put_ended_line(text, &report.ended)?;
     Ok(())
@@ -58,19 +52,13 @@ fn put_title(text: &mut Text) -> Result<(), NoMemory>
 
 /// Columns and rows of the mesh, and how many contexts and lines each node has.
 #[tactic(auto, unfolding(crate::specs::Reports::sizes_line))]
-pub fn put_sizes(
-    text: &mut Text,
-    width: u8,
-    height: u8,
-    contexts: u8,
-    per_node: u16,
-) -> Result<(), NoMemory>
-    ensures { OnOk result (text.new ≡ text.old ++ sizes_line width height contexts per_node) }
+pub fn put_sizes(text: &mut Text, sizes: Sizes) -> Result<(), NoMemory>
+    ensures { OnOk result (text.new ≡ text.old ++ sizes_line sizes) }
 {
-    put_number(text, b"mesh ", u64::from(width))?;
-    put_number(text, b" ", u64::from(height))?;
-    put_number(text, b" contexts ", u64::from(contexts))?;
-    put_number(text, b" lines ", u64::from(per_node))?;
+    put_number(text, b"mesh ", u64::from(sizes.width))?;
+    put_number(text, b" ", u64::from(sizes.height))?;
+    put_number(text, b" contexts ", u64::from(sizes.contexts))?;
+    put_number(text, b" lines ", u64::from(sizes.per_node))?;
     text.put(b"\n")?;
     Ok(())
 }

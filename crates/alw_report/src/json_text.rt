@@ -44,13 +44,13 @@ impl ToJson for ReportObject<'_> {
     fn write(&self, out: &mut Tokens) -> Result<(), NoMemory> {
         let told = self.told;
         out.begin_object()?;
-        put(out, "contexts", &told.contexts)?;
+        put(out, "contexts", &told.sizes.contexts)?;
         put(out, "counts", &CountsObject(&told.counts))?;
         put(out, "directory", &told.directory.members())?;
         put(out, "ended", &self.ended)?;
-        put(out, "lines", &told.per_node)?;
+        put(out, "lines", &told.sizes.per_node)?;
         put(out, "memory", &told.memory.members())?;
-        put(out, "mesh", &(told.width, told.height))?;
+        put(out, "mesh", &(told.sizes.width, told.sizes.height))?;
         put(out, "params", &ParamsObject(&told.params))?;
         put(out, "prints", &told.prints.members())?;
         put(out, "runs", &told.runs.members())?;

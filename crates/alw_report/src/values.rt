@@ -1,4 +1,4 @@
-use alw_image::Params;
+use alw_image::{Params, Sizes};
 use alw_model::{Counts, Ended};
 use alw_msg::{Prints, Stretches, Words};
 use alw_num::{LineNo, Meta, NodeSet, Sequence, State};
@@ -8,14 +8,7 @@ use std::marker::Model;
 /// counted, and its lists.
 #[derive(Drop)]
 pub struct Report {
-    /// Columns of the mesh, 1 to 16.
-    pub width: u8,
-    /// Rows of the mesh, 1 to 16.
-    pub height: u8,
-    /// Contexts of each node, 1 to 4.
-    pub contexts: u8,
-    /// Lines of shared data that each node is the home of, 1 to 4096.
-    pub per_node: u16,
+    pub sizes: Sizes,
     pub params: Params,
     pub ended: Ended,
     pub counts: Counts,

@@ -13,7 +13,7 @@ use Rattle.alw_msg.specs.Events.{node_of}
 use Rattle.alw_msg.specs.Lists.{front}
 use Rattle.alw_msg.specs.Stretches.{stretches}
 use Rattle.alw_image.specs.declared.parts.Parts.{Parts}
-use Rattle.alw_image.specs.Images.{node_count, line_count}
+use Rattle.alw_image.specs.Images.{node_count, line_count, sizes_of}
 use Rattle.alw_image.specs.Parameters.{Parameters}
 use Rattle.alw_model.specs.declared.ends.Ended.{Ended}
 use Rattle.alw_model.specs.declared.ends.Ended.TheVariants as ended
@@ -179,10 +179,7 @@ module _ (parts : Parts) (p : Parameters) where
   told_same : (journal : List Entry) (e : Ended) →
       told_of parts (calm p) journal e ≡ record (told_of parts p journal e) { params = calm p }
   told_same journal e = λ i. record {
-    width = parts.width;
-    height = parts.height;
-    contexts = parts.contexts;
-    per_node = parts.per_node;
+    sizes = sizes_of parts;
     params = calm p;
     ended = e;
     counts = counts_of parts (moments_same journal i);

@@ -7,13 +7,15 @@ use Rattle.alw_num.specs.declared.addresses.LineNo.{LineNo}
 use Rattle.alw_num.specs.declared.addresses.NodeNo.{NodeNo}
 use Rattle.alw_text.specs.Numbers.{hex_digits, hex_word}
 use Rattle.alw_image.specs.declared.parts.Parts.{Parts}
+use Rattle.alw_image.specs.declared.parts.Sizes.{Sizes}
+use Rattle.alw_image.specs.Images.{sizes_of}
 use Rattle.sparc_text.specs.Statements.{statement_text}
 
 -- columns and rows of the mesh, and how many contexts and lines each node has
-unfoldable pub sizes_text : ℕ → ℕ → ℕ → ℕ → List ℕ
-sizes_text width height contexts per_node =
-    codes ".mesh " ++ (decimal width ++ (codes "," ++ (decimal height
-    ++ (codes "\n.contexts " ++ (decimal contexts ++ (codes "\n.lines " ++ (decimal per_node ++ codes "\n")))))))
+unfoldable pub sizes_text : Sizes → List ℕ
+sizes_text sizes =
+    codes ".mesh " ++ (decimal sizes.width ++ (codes "," ++ (decimal sizes.height
+    ++ (codes "\n.contexts " ++ (decimal sizes.contexts ++ (codes "\n.lines " ++ (decimal sizes.per_node ++ codes "\n")))))))
 
 -- a code word: its statement, and as a comment its address and the word in eight digits each
 unfoldable pub code_line : ℕ → ℕ → List ℕ
@@ -46,5 +48,5 @@ data_lines entry = place_line entry.0.0 ++ body_line entry.1
 -- the source of an image
 unfoldable pub source_of : Parts → List ℕ
 source_of p =
-    sizes_text p.width p.height p.contexts p.per_node
+    sizes_text (sizes_of p)
     ++ (code_from 0 p.code ++ (flat_map start_line p.starts ++ (flat_map always_line p.always ++ flat_map data_lines p.bodies)))

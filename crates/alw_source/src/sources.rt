@@ -3,7 +3,7 @@ ghost use Rattle.std.specs.List.{flat_map};
 ghost use Rattle.alw_text.specs.Numbers.{hex_word};
 ghost use Rattle.alw_source.specs.Sources.{sizes_text, code_line, code_from, start_line, always_line, place_line, body_line, data_lines, source_of};
 
-use alw_image::Image;
+use alw_image::{Image, Sizes};
 use alw_num::{Line, LineNo, NoMemory, NodeNo};
 use alw_text::{Spell, Text, put_number};
 use sparc_text::put_statement;
@@ -17,13 +17,7 @@ pub fn source_of(alloc: Global, image: &Image) -> Result<Text, NoMemory>
 {
     let parts = image.parts();
     let mut text = Text::empty(alloc);
-    put_sizes(
-        &mut text,
-        parts.width,
-        parts.height,
-        parts.contexts,
-        parts.per_node,
-    )?;
+    put_sizes(&mut text, image.sizes())?;
     put_code(&mut text, parts.code.members())?;
     put_starts(&mut text, parts.starts.members())?;
     put_always(&mut text, parts.always.members())?;
@@ -32,19 +26,13 @@ pub fn source_of(alloc: Global, image: &Image) -> Result<Text, NoMemory>
 }
 
 // Columns and rows of the mesh, and how many contexts and lines each node has.
-fn put_sizes(
-    text: &mut Text,
-    width: u8,
-    height: u8,
-    contexts: u8,
-    per_node: u16,
-) -> Result<(), NoMemory>
-    ensures { OnOk result (text.new ≡ text.old ++ sizes_text width height contexts per_node) }
+fn put_sizes(text: &mut Text, sizes: Sizes) -> Result<(), NoMemory>
+    ensures { OnOk result (text.new ≡ text.old ++ sizes_text sizes) }
 {
-    put_number(text, b".mesh ", u64::from(width))?;
-    put_number(text, b",", u64::from(height))?;
-    put_number(text, b"\n.contexts ", u64::from(contexts))?;
-    put_number(text, b"\n.lines ", u64::from(per_node))?;
+    put_number(text, b".mesh ", u64::from(sizes.width))?;
+    put_number(text, b",", u64::from(sizes.height))?;
+    put_number(text, b"\n.contexts ", u64::from(sizes.contexts))?;
+    put_number(text, b"\n.lines ", u64::from(sizes.per_node))?;
     text.put(b"\n")?;
     Ok(())
 }

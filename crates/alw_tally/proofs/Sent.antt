@@ -10,7 +10,7 @@ use Rattle.alw_msg.specs.declared.messages.Kind.TheVariants as kinds
 use Rattle.alw_msg.specs.declared.messages.Msg.{Msg}
 use Rattle.alw_msg.specs.Kinds.{kind_number}
 use Rattle.alw_image.specs.declared.parts.Parts.{Parts}
-use Rattle.alw_model.specs.Counts.{hops_between}
+use Rattle.alw_image.specs.Images.{hops_between}
 use Rattle.alw_model.specs.declared.steps.Counts.{Counts}
 use Rattle.alw_tally.specs.Counted.{Sent, by_kinds, of_kind, sent_of, with_sent, with_hops, with_kind, AreFew}
 

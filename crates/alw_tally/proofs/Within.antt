@@ -10,11 +10,12 @@ use Rattle.alw_msg.specs.declared.messages.Kind.{Kind}
 use Rattle.alw_msg.specs.declared.messages.Kind.TheVariants as kinds
 use Rattle.alw_msg.specs.declared.messages.Msg.{Msg}
 use Rattle.alw_image.specs.declared.parts.Parts.{Parts}
+use Rattle.alw_image.specs.Images.{hops_between}
 use Rattle.alw_model.specs.declared.steps.Did.{Did}
 use Rattle.alw_model.specs.declared.steps.Did.TheVariants.{Turn, Missed, Took, Packet, Handled, Evicted}
 use Rattle.alw_model.specs.Flat.{print_of}
 use Rattle.alw_model.specs.Runs.{Moment, number_of, turn_in}
-use Rattle.alw_model.specs.Counts.{is_turn, is_miss, is_eviction, is_handling, is_spill, uses_hold, hops_between, counts_of}
+use Rattle.alw_model.specs.Counts.{is_turn, is_miss, is_eviction, is_handling, is_spill, uses_hold, counts_of}
 use Rattle.alw_tally.specs.Counted.{brings_line, is_of_kind, CountsAreAtMost}
 use Rattle.alw_tally.specs.Told.{turn_at, words_printed, told_of}
 use Rattle.alw_tally.specs.Tallies.{EventIsWithin}

@@ -11,11 +11,12 @@ use Rattle.alw_msg.specs.Kinds.{kind_number}
 use Rattle.alw_msg.specs.Contents.{content}
 use Rattle.alw_msg.specs.Events.{node_of}
 use Rattle.alw_image.specs.declared.parts.Parts.{Parts}
+use Rattle.alw_image.specs.Images.{hops_between}
 use Rattle.alw_model.specs.declared.ends.TrapAt.{TrapAt}
 use Rattle.alw_model.specs.declared.steps.Counts.{Counts}
 use Rattle.alw_model.specs.declared.steps.Did.{Did}
 use Rattle.alw_model.specs.declared.steps.Did.TheVariants.{Turn, Missed, Took, Packet, Handled, Evicted}
-use Rattle.alw_model.specs.Counts.{is_turn, is_miss, is_eviction, is_handling, is_spill, is_data, hops_between}
+use Rattle.alw_model.specs.Counts.{is_turn, is_miss, is_eviction, is_handling, is_spill, is_data}
 use Rattle.alw_tally.specs.declared.moments.Moment.{Moment}
 
 -- the trapping turn that an event of a node was, if it was one, given the event's place in the journal and the PC of the slot that ran

@@ -1,7 +1,6 @@
 ghost use Rattle.std.specs.Prelude.{◌≡◌, ◌≤◌, ◌<◌, ◌-◌, ◌+◌, ◌^◌, false, length};
 ghost use Rattle.alw_num.specs.Weights.{digit};
-ghost use Rattle.alw_model.specs.declared.steps.Did.TheVariants.{Handled};
-ghost use Rattle.alw_model.specs.Counts.{hops_between, is_spill};
+ghost use Rattle.alw_image.specs.Images.{hops_between};
 ghost use Rattle.alw_tally.specs.Counted.{brings_line, sent_of, with_sent, with_send, with_did, with_event, with_kind, counts_of_event, AreFew, CountsAreAtMost};
 ghost use Rattle.alw_tally.specs.Told.{sum_of};
 
@@ -9,7 +8,7 @@ use crate::moments::Moment;
 use alw_image::Image;
 use alw_model::{Counts, Did};
 use alw_msg::{Kind, Msg, Sends};
-use alw_num::{MOST_NODES, NodeNo, State};
+use alw_num::{MOST_NODES, NodeNo};
 
 /// One event more is counted. Of each number it is at most 2^25.
 #[inline(always)]
@@ -61,9 +60,9 @@ fn count_did(counts: &mut Counts, did: Did)
         Did::Turn { .. } => counts.turns += 1,
         Did::Missed { .. } => counts.misses += 1,
         Did::Evicted => counts.evicts += 1,
-        Did::Handled { kind, state } => {
+        Did::Handled { .. } => {
             counts.handlers += 1;
-            counts.spills += one_if(is_spill(kind, state));
+            counts.spills += one_if(did.is_spill());
         }
         Did::Took | Did::Packet => {}
     }
@@ -103,7 +102,7 @@ fn count_send(counts: &mut Counts, image: &Image, from: NodeNo, to: NodeNo, kind
     ensures counts { counts.new ≡ with_send image.now from.0 to.0 kind counts.old }
     ensures few { hops_between image.now from.0 to.0 < 2 ^ 17 }
 {
-    counts.hops += hops_between(image, from, to);
+    counts.hops += image.hops(from, to);
     add_kind(counts, kind);
 }
 
@@ -123,29 +122,6 @@ fn add_kind(counts: &mut Counts, kind: Kind)
         Kind::INV => counts.inv += 1,
         Kind::BUSY => counts.busy += 1,
     }
-}
-
-// The columns and rows between two nodes.
-fn hops_between(image: &Image, from: NodeNo, to: NodeNo) -> u64
-    ensures hops { result ≡ hops_between image.now from.0 to.0 }
-    ensures few { result < 2 ^ 17 }
-{
-    let width = u16::from(image.parts().width);
-    distance(from.0 % width, to.0 % width) + distance(from.0 / width, to.0 / width)
-}
-
-fn distance(a: u16, b: u16) -> u64
-    ensures hops { result ≡ (a - b) + (b - a) }
-    ensures few { result < 2 ^ 16 }
-{
-    u64::from(if a < b { b - a } else { a - b })
-}
-
-// The handler acts on an RREQ for a line in Read-Only.
-fn is_spill(kind: Kind, state: State) -> bool
-    ensures { result ≡ is_spill (Handled kind state) }
-{
-    matches!((kind, state), (Kind::RREQ, State::RO))
 }
 
 // A message, if there is one, brings a line to a cache.

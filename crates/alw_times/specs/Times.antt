@@ -13,11 +13,10 @@ use Rattle.alw_msg.specs.Events.{node_of}
 use Rattle.alw_msg.specs.Kinds.{to_memory, has_body}
 use Rattle.alw_msg.specs.Lists.{behind}
 use Rattle.alw_image.specs.declared.parts.Parts.{Parts}
-use Rattle.alw_image.specs.Images.{node_count, context_count}
+use Rattle.alw_image.specs.Images.{node_count, context_count, hops_between}
 use Rattle.alw_image.specs.Parameters.{Parameters}
 use Rattle.alw_model.specs.declared.steps.Did.{Did}
 use Rattle.alw_model.specs.declared.steps.Did.TheVariants.{Packet}
-use Rattle.alw_model.specs.Counts.{hops_between}
 use Rattle.alw_model.specs.Machine.{link_place}
 use Rattle.alw_model.specs.Runs.{Moment, moments}
 use Rattle.alw_times.specs.declared.costs.Costs.{Costs}

@@ -1,7 +1,7 @@
-ghost use Rattle.std.specs.Prelude.{◌≡◌, ◌<◌, ◌≤◌, ◌+◌, ◌-◌, ◌*◌, ◌^◌, cond, length, ℕ};
+ghost use Rattle.std.specs.Prelude.{◌≡◌, ◌<◌, ◌≤◌, ◌+◌, ◌-◌, ◌*◌, ◌^◌, cond, length};
 ghost use Rattle.alw_num.specs.Maps.{passes};
 ghost use Rattle.alw_msg.specs.Kinds.{to_memory};
-ghost use Rattle.alw_model.specs.Counts.{hops_between};
+ghost use Rattle.alw_image.specs.Images.{hops_between};
 ghost use Rattle.alw_times.specs.Times.{turn_cost, cost_of, length_of, work_before, is_busy};
 
 use crate::costs::Costs;
@@ -89,21 +89,5 @@ pub fn way(image: &Image, costs: &Costs, from: NodeNo, to: NodeNo) -> u64
     ensures way { result ≡ costs.now.hop * hops_between image.now from.0 to.0 }
     ensures few { result ≤ 2 ^ 32 + 2 ^ 24 }
 {
-    u64::from(costs.hop) * hops_between(image, from, to)
-}
-
-// The columns and rows between two nodes.
-fn hops_between(image: &Image, from: NodeNo, to: NodeNo) -> u64
-    ensures hops { result ≡ hops_between image.now from.0 to.0 }
-    ensures few { result < 2 ^ 16 + 2 ^ 8 }
-{
-    let width = u16::from(image.parts().width);
-    distance(from.0 % width, to.0 % width) + distance(from.0 / width, to.0 / width)
-}
-
-fn distance(a: u16, b: u16) -> u64
-    ensures hops { result ≡ (a - b) + (b - a) }
-    ensures few { (most : ℕ) → a ≤ most → b ≤ most → result ≤ most }
-{
-    u64::from(if a < b { b - a } else { a - b })
+    u64::from(costs.hop) * image.hops(from, to)
 }

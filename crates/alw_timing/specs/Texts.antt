@@ -6,7 +6,7 @@ use Rattle.alw_num.specs.declared.states.Mode.TheVariants.{Read, Write}
 use Rattle.alw_msg.specs.declared.events.Event.{Event}
 use Rattle.alw_msg.specs.declared.events.Entry.{Entry}
 use Rattle.alw_image.specs.declared.parts.Parts.{Parts}
-use Rattle.alw_image.specs.Images.{node_count}
+use Rattle.alw_image.specs.Images.{node_count, sizes_of}
 use Rattle.alw_image.specs.Parameters.{Parameters}
 use Rattle.alw_model.specs.declared.ends.Ended.{Ended}
 use Rattle.alw_report.specs.Reports.{sizes_line, params_line, ended_line, heading}
@@ -44,7 +44,7 @@ costs_line costs = turn_costs costs ++ (message_costs costs ++ (home_costs costs
 
 -- sizes, parameters and costs, behind a title
 unfoldable pub head_text : Parts → Parameters → Costs → List ℕ
-head_text parts parameters costs = sizes_line parts.width parts.height parts.contexts parts.per_node ++ (params_line parameters ++ costs_line costs)
+head_text parts parameters costs = sizes_line (sizes_of parts) ++ (params_line parameters ++ costs_line costs)
 
 -- ---- the cycles of a run
 

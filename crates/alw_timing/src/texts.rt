@@ -84,13 +84,7 @@ fn put_moments_title(text: &mut Text) -> Result<(), NoMemory>
 fn put_head(text: &mut Text, image: &Image, params: &Params, costs: &Costs) -> Result<(), NoMemory>
     ensures { OnOk result (text.new ≡ text.old ++ head_text image.now params.now costs.now) }
 {
-    put_sizes(
-        text,
-        image.width(),
-        image.height(),
-        image.contexts(),
-        image.per_node(),
-    )?;
+    put_sizes(text, image.sizes())?;
     put_params(text, params)?;
     put_costs(text, costs)?;
     Ok(())

@@ -34,10 +34,7 @@ pub fn tell_head(alloc: Global, machine: &Machine, ended: Ended) -> Report
 {
     let image = machine.image();
     Report {
-        width: image.width(),
-        height: image.height(),
-        contexts: image.contexts(),
-        per_node: image.per_node(),
+        sizes: image.sizes(),
         params: *machine.params(),
         ended,
         counts: machine.counts(),

@@ -13,9 +13,8 @@ use Rattle.alw_msg.specs.declared.events.Entry.{Entry}
 use Rattle.alw_msg.specs.Events.{node_of}
 use Rattle.alw_msg.specs.Kinds.{to_memory}
 use Rattle.alw_image.specs.declared.parts.Parts.{Parts}
-use Rattle.alw_image.specs.Images.{IsImage, node_count}
+use Rattle.alw_image.specs.Images.{IsImage, node_count, hops_between}
 use Rattle.alw_image.specs.Parameters.{Parameters}
-use Rattle.alw_model.specs.Counts.{hops_between}
 use Rattle.alw_model.specs.NodeStates.{stamp_of}
 use Rattle.alw_model.specs.Machine.{MachineState, machine_start, node_at, taken_by, is_enabled, step, AreLegal, IsLegal}
 use Rattle.alw_model.specs.Runs.{moment_of, moments_from, moments}

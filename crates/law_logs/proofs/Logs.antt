@@ -2,11 +2,12 @@
 use Rattle.std.proofs.Common.{◌≡◌, ℕ, ◌/◌, ◌%◌, Option, Some, None, List, [], ◌∷◌, ◌++◌, length, codes, refl, sym, ap, ◌∙◌, arith, append_assoc}
 use Rattle.std.specs.List.{flat_map, range_with_len}
 use Rattle.std.proofs.lemmas.List.{append_cancel_left}
+use Rattle.alw_image.specs.declared.parts.Sizes.{Sizes}
 use Rattle.alw_msg.specs.declared.contexts.Status.{Status}
 use Rattle.alw_msg.specs.declared.contexts.Status.TheVariants.{Ready, Waiting, Halted, Trapped}
 use Rattle.alw_msg.specs.declared.events.Entry.{Entry}
 use Rattle.alw_image.specs.declared.parts.Parts.{Parts}
-use Rattle.alw_image.specs.Images.{context_count, IsImage}
+use Rattle.alw_image.specs.Images.{context_count, IsImage, sizes_of}
 use Rattle.alw_image.specs.Parameters.{Parameters, AreParameters}
 use Rattle.alw_model.specs.declared.ends.Ended.{Ended}
 use Rattle.alw_model.specs.declared.ends.Ended.TheVariants as ends
@@ -31,11 +32,11 @@ title_is : IsLine title
 unfolding title
 title_is = begun (codes "ALEWIFE LOG 1") refl feed
 
-sizes_are : (width height contexts per_node : ℕ) → IsLine (sizes_line width height contexts per_node)
+sizes_are : (sizes : Sizes) → IsLine (sizes_line sizes)
 unfolding sizes_line
-sizes_are width height contexts per_node =
-    begun (codes "mesh ") refl (before (number width) (begun (codes " ") refl (before (number height)
-    (begun (codes " contexts ") refl (before (number contexts) (begun (codes " lines ") refl (before (number per_node) feed)))))))
+sizes_are sizes =
+    begun (codes "mesh ") refl (before (number sizes.width) (begun (codes " ") refl (before (number sizes.height)
+    (begun (codes " contexts ") refl (before (number sizes.contexts) (begun (codes " lines ") refl (before (number sizes.per_node) feed)))))))
 
 params_are : (p : Parameters) → IsLine (params_line p)
 unfolding params_line params_word
@@ -88,13 +89,13 @@ same_lines f g one other (k ∷ ks) u v e =
 -- ---- the first lines
 
 -- columns and rows of the mesh, contexts and lines of a node
-abbrev Sizes : Parts → Parts → Type 0
-Sizes image other =
+abbrev SameSizes : Parts → Parts → Type 0
+SameSizes image other =
     (image.width ≡ other.width) × ((image.height ≡ other.height) × ((image.contexts ≡ other.contexts) × (image.per_node ≡ other.per_node)))
 
 same_size : (image other : Parts) → IsImage image → IsImage other
-    → sizes_line image.width image.height image.contexts image.per_node ≡ sizes_line other.width other.height other.contexts other.per_node
-    → Sizes image other
+    → sizes_line (sizes_of image) ≡ sizes_line (sizes_of other)
+    → SameSizes image other
 unfolding sizes_line
 same_size image other is also e =
     let wide = is.width in let high = is.height in let slots = is.contexts in let lines = is.per_node in
@@ -145,18 +146,18 @@ abbrev rest_of : Parts → Parameters → List Entry → Ended → List ℕ
 rest_of image parameters journal ended = lines_from image parameters (machine_start image) journal ++ last_of image (state image parameters journal) ended
 
 log_is : (image : Parts) (parameters : Parameters) (journal : List Entry) (ended : Ended) → log_of image parameters journal ended ≡ title ++
-    (sizes_line image.width image.height image.contexts image.per_node ++ (params_line parameters ++
+    (sizes_line (sizes_of image) ++ (params_line parameters ++
     (heading (codes "events") (length journal) ++ rest_of image parameters journal ended)))
 unfolding log_of head_text
 log_is image parameters journal ended =
-    four_lines title (sizes_line image.width image.height image.contexts image.per_node) (params_line parameters)
+    four_lines title (sizes_line (sizes_of image)) (params_line parameters)
     (heading (codes "events") (length journal)) (rest_of image parameters journal ended)
 
 module _ (image other_image : Parts) (is : IsImage image) (also : IsImage other_image) (parameters other_parameters : Parameters)
     (are : AreParameters parameters) (too : AreParameters other_parameters) (one other : List Entry) (ended other_ended : Ended) where
   -- what two logs that are one text tell in their first lines, and what stands behind these
   record IsTold : Type 0 where
-    sizes : Sizes image other_image
+    sizes : SameSizes image other_image
     settings : Settings parameters other_parameters
     rest : rest_of image parameters one ended ≡ rest_of other_image other_parameters other other_ended
 
@@ -167,8 +168,8 @@ module _ (image other_image : Parts) (is : IsImage image) (also : IsImage other_
   head_told e =
       let whole = sym (log_is image parameters one ended) ∙ e ∙ log_is other_image other_parameters other other_ended in
       let first = one_line title_is title_is whole in
-      let second = one_line (sizes_are image.width image.height image.contexts image.per_node)
-      (sizes_are other_image.width other_image.height other_image.contexts other_image.per_node) first.1 in
+      let second = one_line (sizes_are (sizes_of image))
+      (sizes_are (sizes_of other_image)) first.1 in
       let third = one_line (params_are parameters) (params_are other_parameters) second.1 in
       let fourth = one_line (events_are (length one)) (events_are (length other)) third.1 in
       record {
@@ -185,7 +186,7 @@ module _ (image other_image : Parts) (is : IsImage image) (also : IsImage other_
       legal lawful (head_told e).rest
 
   -- the contexts, of which there are as many, and the line behind them
-  end_told : Sizes image other_image → last_of image (state image parameters one) ended ≡ last_of other_image (state other_image other_parameters other) other_ended
+  end_told : SameSizes image other_image → last_of image (state image parameters one) ended ≡ last_of other_image (state other_image other_parameters other) other_ended
       → ended_line ended ≡ ended_line other_ended
   end_told sizes e =
       let count = context_count image in

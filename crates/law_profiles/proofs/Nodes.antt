@@ -9,11 +9,11 @@ use Rattle.alw_msg.specs.declared.messages.Msg.{Msg}
 use Rattle.alw_msg.specs.declared.events.Entry.{Entry}
 use Rattle.alw_msg.specs.Kinds.{kind_number}
 use Rattle.alw_image.specs.declared.parts.Parts.{Parts}
-use Rattle.alw_image.specs.Images.{node_count}
+use Rattle.alw_image.specs.Images.{node_count, hops_between}
 use Rattle.alw_image.specs.Parameters.{Parameters}
 use Rattle.alw_model.specs.Machine.{MachineState, machine_start, step, AreLegal}
 use Rattle.alw_model.specs.Runs.{Moment, number_of, moments_from, moments}
-use Rattle.alw_model.specs.Counts.{is_turn, is_miss, is_handling, hops_between, count_sent, counts_of}
+use Rattle.alw_model.specs.Counts.{is_turn, is_miss, is_handling, count_sent, counts_of}
 use Rattle.alw_profile.specs.declared.rows.NodeRow.{NodeRow}
 use Rattle.alw_profile.specs.declared.tables.Mark.{Mark}
 use Rattle.alw_profile.specs.Events.{did_marks, send_marks, nodes_marked, packets_told}

@@ -32,13 +32,13 @@ told_as {text} {other} {lines} e told = subst (λ (t : List ℕ). Told t lines) 
 
 -- ---- sizes
 
-sizes_split : (w h c l : ℕ) (rest : List ℕ) → sizes_text w h c l ++ rest
+sizes_split : (w h c l : ℕ) (rest : List ℕ) → sizes_text (record { width = w; height = h; contexts = c; per_node = l }) ++ rest
     ≡ (codes ".mesh " ++ (decimal w ++ (codes "," ++ decimal h))) ++ (10 ∷ ((codes ".contexts " ++ decimal c) ++ (10 ∷ ((codes ".lines " ++ decimal l) ++ (10 ∷ rest)))))
 unfolding sizes_text
 sizes_split w h c l rest = simp append_assoc
 
 sizes_told : {rest : List ℕ} {lines : List Line} (w h c l : ℕ) → w < 2 ^ 32 → h < 2 ^ 32 → c < 2 ^ 32 → l < 2 ^ 32 → Told rest lines
-    → Told (sizes_text w h c l ++ rest) (line_of (statement.Mesh (number w) (number h)) ∷ line_of (statement.Contexts (number c)) ∷ line_of (statement.Lines (number l)) ∷ lines)
+    → Told (sizes_text (record { width = w; height = h; contexts = c; per_node = l }) ++ rest) (line_of (statement.Mesh (number w) (number h)) ∷ line_of (statement.Contexts (number c)) ∷ line_of (statement.Lines (number l)) ∷ lines)
 sizes_told {rest} {lines} w h c l first second third fourth told =
     told_as (sizes_split w h c l rest) (line_told (bare _ _ (mesh_said w h first second)) (line_told (bare _ _ (contexts_said c third)) (line_told (bare _ _ (lines_said l fourth)) told)))
 

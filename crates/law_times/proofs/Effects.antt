@@ -9,10 +9,9 @@ use Rattle.alw_msg.specs.declared.events.Event.TheVariants.{Instr, Handle, Deliv
 use Rattle.alw_msg.specs.Events.{node_of}
 use Rattle.alw_msg.specs.Lists.{behind}
 use Rattle.alw_image.specs.declared.parts.Parts.{Parts}
-use Rattle.alw_image.specs.Images.{node_count}
+use Rattle.alw_image.specs.Images.{node_count, hops_between}
 use Rattle.alw_model.specs.declared.steps.Did.{Did}
 use Rattle.alw_model.specs.declared.steps.Did.TheVariants.{Turn, Missed, Took, Packet, Handled, Evicted}
-use Rattle.alw_model.specs.Counts.{hops_between}
 use Rattle.alw_model.specs.Machine.{link_place}
 use Rattle.law_lines.specs.Links.{GoBelow}
 use Rattle.alw_times.specs.declared.costs.Costs.{Costs}

@@ -14,12 +14,11 @@ use Rattle.alw_msg.specs.Events.{node_of}
 use Rattle.alw_msg.specs.Kinds.{to_memory, has_body}
 use Rattle.alw_msg.specs.Lists.{front, behind}
 use Rattle.alw_image.specs.declared.parts.Parts.{Parts}
-use Rattle.alw_image.specs.Images.{node_count, context_count}
+use Rattle.alw_image.specs.Images.{node_count, context_count, hops_between}
 use Rattle.alw_image.specs.Parameters.{Parameters}
 use Rattle.alw_model.specs.declared.steps.Did.{Did}
 use Rattle.alw_model.specs.declared.steps.Did.TheVariants.{Turn, Missed, Took, Packet, Handled, Evicted}
 use Rattle.alw_model.specs.Contexts.{running}
-use Rattle.alw_model.specs.Counts.{hops_between}
 use Rattle.alw_model.specs.NodeStates.{stamp_of}
 use Rattle.alw_model.specs.Machine.{MachineState, machine_start, node_at, link_place, link_at, taken_by, is_enabled, stamp_at, links_taken, step, after, state, AreLegal, IsLegal}
 use Rattle.alw_model.specs.Runs.{Moment, moment_of, moments_from, moments}

@@ -2,7 +2,7 @@
 use Rattle.std.proofs.Common.{◌≡◌, ℕ, ◌+◌, ◌*◌, ◌≤◌, ◌==◌, max, Bool, true, false, cond, List, [], ◌∷◌, ◌++◌, slice_index_or, slice_set, subst, sym, arith}
 use Rattle.alw_msg.specs.declared.messages.Msg.{Msg}
 use Rattle.alw_image.specs.declared.parts.Parts.{Parts}
-use Rattle.alw_model.specs.Counts.{hops_between}
+use Rattle.alw_image.specs.Images.{hops_between}
 use Rattle.alw_model.specs.Machine.{link_place, links_sent}
 use Rattle.law_order.proofs.Sends.{BearStamp}
 use Rattle.alw_times.specs.declared.costs.Costs.{Costs}

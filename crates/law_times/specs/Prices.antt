@@ -7,7 +7,7 @@ use Rattle.alw_msg.specs.declared.messages.Msg.{Msg}
 use Rattle.alw_msg.specs.declared.events.Entry.{Entry}
 use Rattle.alw_image.specs.declared.parts.Parts.{Parts}
 use Rattle.alw_image.specs.Parameters.{Parameters}
-use Rattle.alw_model.specs.Counts.{hops_between}
+use Rattle.alw_image.specs.Images.{hops_between}
 use Rattle.alw_model.specs.Runs.{Moment, number_of, moments}
 use Rattle.alw_times.specs.declared.costs.Costs.{Costs}
 use Rattle.alw_times.specs.Happening.{happened_of}

@@ -11,8 +11,7 @@ use Rattle.alw_msg.specs.declared.events.Event.TheVariants.{Instr, Handle, Deliv
 use Rattle.alw_msg.specs.Events.{node_of}
 use Rattle.alw_msg.specs.Lists.{behind}
 use Rattle.alw_image.specs.declared.parts.Parts.{Parts}
-use Rattle.alw_image.specs.Images.{node_count}
-use Rattle.alw_model.specs.Counts.{hops_between}
+use Rattle.alw_image.specs.Images.{node_count, hops_between}
 use Rattle.alw_model.specs.Machine.{link_place}
 use Rattle.law_lines.specs.Links.{GoBelow}
 use Rattle.law_order.proofs.Places.{changed, changed_there}

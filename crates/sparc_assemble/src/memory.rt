@@ -1,6 +1,5 @@
 ghost use Rattle.std.specs.Prelude.{◌≡◌, ◌<◌, ◌≤◌, ◌+◌, ◌*◌, ◌^◌, ℕ, [], length, slice_index, OnOk};
 ghost use Rattle.std.specs.List.{flat_map};
-ghost use Rattle.alw_num.specs.Lanes.{bytes_in};
 ghost use Rattle.sparc_assemble.specs.Assembly.{spelled_as, written_over};
 
 use alw_num::{LINE_BYTES, NoMemory, Sequence, Width};
@@ -19,18 +18,6 @@ impl Model for Memory {
     ghost Value = { List ℕ };
 
     ghost view = { λ m. m.bytes.items };
-}
-
-// How many bytes a value takes.
-fn bytes_in(width: Width) -> usize
-    ensures size { result ≡ bytes_in width }
-    ensures range { result ≤ 4 }
-{
-    match width {
-        Width::Byte => 1,
-        Width::Half => 2,
-        Width::Word => 4,
-    }
 }
 
 impl Memory {
@@ -112,7 +99,7 @@ impl Memory {
         requires { from < 2 ^ 32 }
         ensures { OnOk result ((place : ℕ) → slice_index self.new place ≡ written_over from (flat_map (spelled_as width) values.now) (slice_index self.old) place) }
     {
-        let size = bytes_in(width);
+        let size = width.bytes() as usize;
         let mut at = from;
         for i in 0..values.len() {
             self.write_value(at, width, values.at(i))?;

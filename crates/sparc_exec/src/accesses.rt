@@ -1,5 +1,5 @@
 ghost use Rattle.std.specs.Prelude.{◌≡◌, ◌<◌, IfOk};
-ghost use Rattle.alw_num.specs.Lanes.{bytes_in, IsAligned};
+ghost use Rattle.alw_num.specs.Lanes.{IsAligned};
 ghost use Rattle.sparc_table.specs.Operands.{sign_extended};
 ghost use Rattle.sparc_table.specs.Access.{width_of, is_load, mode_of, needed, loaded, stored};
 ghost use Rattle.sparc_exec.specs.Runs.{need_with};
@@ -17,17 +17,6 @@ pub fn width(op3: u8) -> Width
     }
 }
 
-// How many bytes an access takes.
-fn bytes(width: Width) -> u32
-    ensures { result ≡ bytes_in width }
-{
-    match width {
-        Width::Byte => 1,
-        Width::Half => 2,
-        Width::Word => 4,
-    }
-}
-
 /// Is an op3 of a load, which writes nothing?
 pub fn is_load(op3: u8) -> bool
     ensures { result ≡ is_load op3 }
@@ -40,7 +29,7 @@ pub fn line_at(op3: u8, address: u32, lines: u32) -> Result<LineNo, u8>
     ensures need { needed address (width_of op3) (mode_of op3) lines ≡ need_with (mode_of op3) result }
     ensures aligned { IfOk result (λ line. IsAligned (width_of op3) address) }
 {
-    if address % bytes(width(op3)) != 0 {
+    if address % width(op3).bytes() != 0 {
         return Err(0x07);
     }
     match line_of(address) {

@@ -23,7 +23,7 @@ returns-clause-are c =
     are_outcomes c.args.image.now (found_in c.stuck_run.new.found) c.in_ok-endings.endings _
     (c.in_ok-halts.ensures.told ∙ ap (λ (ends : List ℕ). map (halt_at (found_in c.stuck_run.new.found)) ends) c.deref.ensures.value)
     (c.in_ok-traps.ensures.told ∙ ap (λ (turns : List Trapped). map trap_of turns) c.deref-2.ensures.value) c.in_ok-endings.ensures.different
-    (record { width = c.width.ensures; height = c.height.ensures; contexts = c.contexts.ensures; per_node = c.per_node.ensures })
+    c.sizes.ensures
     (keeps_places c.args.image.now (found_in c.in_ok-found.found) _ c.in_ok-found.ensures.real c.in_ok-found.ensures.different (places_length c.in_ok-found.found ∙ sym c.in_ok-found.found.memories.ok.0 ∙ sym c.len-places.ensures))
     c.in_ok-halts.ensures.each c.in_ok-traps.ensures.each
     (subst (λ (f : Found). IsTrue c.in_ok-found.found.is_complete → HasEvery c.args.image.now (endings_in f)) (sym c.in_ok-stuck.ensures.same) c.in_ok-found.ensures.complete)
