@@ -1,5 +1,5 @@
 -- What a coherent run claims is a claim: of contexts that there are, and of words of shared data that aren't 0, by address.
-use Rattle.std.proofs.Common.{◌≡◌, ℕ, zero, suc, ◌+◌, ◌*◌, ◌<◌, ◌≤◌, ◌≢◌, ◌==◌, ◌&&◌, Bool, true, false, not, cond, List, [], ◌∷◌, ◌++◌, length, map, filter, flat_map, slice_index, slice_index_or, slice_set, refl, sym, ap, subst, ◌∙◌, arith}
+use Rattle.std.proofs.Common.{◌≡◌, ℕ, zero, suc, ◌+◌, ◌<◌, ◌≤◌, ◌≢◌, ◌==◌, Bool, true, false, not, cond, List, [], ◌∷◌, ◌++◌, length, map, filter, slice_index, slice_index_or, refl, sym, subst, ◌∙◌, arith}
 use Rattle.std.proofs.lemmas.Bool.{true≢false, eqb-false}
 use Rattle.std.proofs.lemmas.List.{length-set}
 use Rattle.std.proofs.lemmas.List.FromFn.{length-map-range_with_len}
@@ -21,13 +21,14 @@ use Rattle.alw_image.specs.Images.{IsImage, context_count, line_count}
 use Rattle.alw_image.specs.Parameters.{Parameters}
 use Rattle.alw_model.specs.declared.ends.Ended.{Ended}
 use Rattle.alw_model.specs.Counts.{listed_words}
-use Rattle.alw_model.specs.Flat.{Context, Flat, context_at, context_start, line_at, flat_start, flat_turn, flat_turn_by, print_of, turns_ready, turns_print, flat_after, flat_prints, are_ready, AreReady}
+use Rattle.alw_model.specs.Flat.{Context, Flat, context_at, context_start, line_at, flat_start, flat_turn, flat_turn_by, print_of, turns_ready, turns_print, flat_after, flat_prints, are_ready}
 use Rattle.alw_model.specs.Headline.{IsCoherentRun}
-use Rattle.alw_model.specs.Runs.{turns_of, prints_of}
+use Rattle.alw_model.specs.Runs.{turns_of}
 use Rattle.alw_trace.specs.Readings.{IsClaim, IsSharedAddress, most_turns}
 use Rattle.alw_audit.specs.Claims.{claim_of}
 use Rattle.alw_audit.specs.Verdicts.{WordsAreFrom}
-use Rattle.alw_audit.proofs.RunClaims.{is_nonzero, kept_from, four, all_words, kept_is, all_from}
+use Rattle.alw_audit.proofs.RunClaims.{is_nonzero, kept_from, all_words, kept_is, all_from}
+use Rattle.alw_model.proofs.Journals.{and_parts}
 
 -- ---- turns and prints
 
@@ -43,14 +44,10 @@ as_many parts flat context (needs.Copy line mode) = length-set flat.contexts con
 as_many parts flat context needs.Nothing = length-set flat.contexts context _
 as_many parts flat context (needs.Trap tt) = length-set flat.contexts context _
 
-both_true : (a b : Bool) → (a && b) ≡ true → (a ≡ true) × (b ≡ true)
-both_true true b e = (refl, e)
-both_true false b e = absurd (true≢false (sym e))
-
 contexts_exist : (parts : Parts) (flat : Flat) (count : ℕ) (turns : List ℕ) → length flat.contexts ≡ count → turns_ready parts flat turns ≡ true → AllByRecursion (λ context. context < count) turns
 contexts_exist parts flat count [] long ready = tt
 contexts_exist parts flat count (context ∷ rest) long ready =
-    let now = both_true (is_ready (context_at flat context).status) (turns_ready parts (flat_turn parts flat context).0 rest) ready in (
+    let now = and_parts (is_ready (context_at flat context).status) (turns_ready parts (flat_turn parts flat context).0 rest) ready in (
       omega (arith, ready_exists flat.contexts context now.0, long),
       contexts_exist parts (flat_turn parts flat context).0 count rest (as_many parts flat context (need_of parts.code (context_at flat context).regs (line_count parts)) ∙ long) now.1,
     )

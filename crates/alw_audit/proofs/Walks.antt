@@ -1,5 +1,5 @@
 -- A walk over a list of words by address.
-use Rattle.std.proofs.Common.{◌≡◌, ℕ, suc, ◌+◌, ◌-◌, ◌*◌, ◌%◌, ◌<◌, ◌≤◌, ◌≢◌, ◌==◌, Bool, false, if◌then◌else◌, List, [], ◌∷◌, map, slice_index, refl, sym, ap, subst, ◌∙◌, arith}
+use Rattle.std.proofs.Common.{◌≡◌, ℕ, ◌+◌, ◌-◌, ◌%◌, ◌<◌, ◌≤◌, ◌≢◌, ◌==◌, Bool, false, if◌then◌else◌, List, [], ◌∷◌, map, refl, sym, ap, subst, ◌∙◌, arith}
 use Rattle.std.specs.Prelude.{⊤}
 use Rattle.std.proofs.lemmas.Bool.Decides.{nat_tests}
 use Rattle.std.specs.List.{AllByRecursion}
@@ -8,6 +8,7 @@ use Rattle.alw_num.specs.Limits.{shared_base}
 use Rattle.alw_image.specs.declared.parts.Parts.{Parts}
 use Rattle.alw_flat.specs.Machines.{IsSharedWord}
 use Rattle.alw_audit.specs.Verdicts.{WordsAreFrom, claimed_word}
+use Rattle.alw_image.proofs.Orders.{tail_ascends}
 
 -- nothing is listed below the first address
 pub none_below : (low addr : ℕ) (words : List (ℕ × ℕ)) → addr < low → WordsAreFrom low words → claimed_word words addr ≡ 0
@@ -23,11 +24,6 @@ lower low next (word ∷ rest) l from = (omega (arith, from.0), from.1, from.2)
 -- where the first word has another address, all are listed behind it
 pub all_behind : (addr : ℕ) (word : ℕ × ℕ) (rest : List (ℕ × ℕ)) → addr % 4 ≡ 0 → word.0 ≢ addr → WordsAreFrom addr (word ∷ rest) → WordsAreFrom (addr + 4) (word ∷ rest)
 all_behind addr word rest aligned other from = (omega (arith, from.0, from.1, other), from.1, from.2)
-
-tail_ascends : (a : ℕ) (rest : List ℕ) → IsStrictlyIncreasing (a ∷ rest) → IsStrictlyIncreasing rest
-tail_ascends a rest ascends = λ k within.
-    let e : suc k + 1 ≡ suc (k + 1) = omega arith in
-    subst (λ (m : ℕ). slice_index rest k < slice_index (a ∷ rest) m) e (ascends (suc k) (omega arith))
 
 abbrev Begins : ℕ → List (ℕ × ℕ) → Type 0
 Begins low [] = ⊤

@@ -1,5 +1,5 @@
 -- The words of an image that bytes spell are below 2^32.
-use Rattle.std.proofs.Common.{◌≡◌, ℕ, zero, suc, ◌+◌, ◌-◌, ◌<◌, ◌^◌, List, [], ◌∷◌, take, drop, slice_index, arith}
+use Rattle.std.proofs.Common.{ℕ, zero, suc, ◌+◌, ◌-◌, ◌<◌, ◌^◌, List, [], ◌∷◌, take, drop, slice_index, arith}
 use Rattle.std.specs.List.{AllByRecursion}
 use Rattle.alw_num.specs.Lanes.{word_at}
 use Rattle.alw_image.specs.Faults.{header_of, bodies_at, starts_at, piece, table_of, word_of, body_of_bytes, image_in}

@@ -1,11 +1,10 @@
 -- The event that a number picks: its row of events, that it may happen, and that a cell without one is spent.
-use Rattle.std.proofs.Common.{◌≡◌, ℕ, zero, suc, ◌+◌, ◌≤◌, ◌<◌, ◌==◌, ◌&&◌, ◌||◌, ◌%◌, ◌^◌, ◌-◌, nat_lt, nat_le, Bool, true, false, cond, not, Option, Some, None, Result, Ok, Err, List, [], ◌∷◌, length, filter, slice_get, get_or, IsTrue, refl, sym, subst, ap, ◌∙◌, inl, inr, arith}
+use Rattle.std.proofs.Common.{◌≡◌, ℕ, zero, suc, ◌+◌, ◌≤◌, ◌<◌, ◌==◌, ◌&&◌, ◌||◌, ◌%◌, ◌^◌, ◌-◌, nat_lt, nat_le, Bool, true, false, cond, not, Option, Some, None, List, [], ◌∷◌, length, filter, slice_get, get_or, IsTrue, refl, sym, subst, ap, ◌∙◌, inl, inr, arith}
 use Rattle.std.specs.Option.{option_map}
 use Rattle.std.specs.List.{list_any, range_with_len}
 use Rattle.std.proofs.lemmas.Bool.{true≢false, eq-eqb, lt-ltb, ltb-true, false_from_ne_true, le-leb}
 use Rattle.std.proofs.lemmas.Nat.{mod_below}
 use Rattle.std.proofs.lemmas.Option.{same_Some, slice_get-get_or, slice_get-map}
-use Rattle.alw_num.specs.declared.memory.NoMemory.{NoMemory}
 use Rattle.alw_num.specs.Maps.{passes}
 use Rattle.alw_num.specs.declared.node_sets.NodeSet.{NodeSet}
 use Rattle.alw_num.specs.NodeSets.{Nodes, no_nodes, has_node, nodes_of, count_nodes}
@@ -14,7 +13,6 @@ use Rattle.alw_num.proofs.Sets.{has-none, count-none}
 use Rattle.alw_num.proofs.Weigh.{cases_lt_then}
 use Rattle.alw_msg.specs.declared.messages.Msg.{Msg}
 use Rattle.alw_msg.specs.declared.events.Event.{Event}
-use Rattle.alw_msg.specs.declared.events.Entry.{Entry}
 use Rattle.alw_msg.specs.Events.{node_of, is_evict}
 use Rattle.alw_msg.specs.Lists.{is_nonempty, front}
 use Rattle.alw_msg.specs.Statuses.{is_ready, has_trapped}
@@ -28,10 +26,8 @@ use Rattle.alw_ready.specs.Rows.{instr_at, handle_at, delivery, row_events, row_
 use Rattle.alw_ready.proofs.MainEvents.{row_is}
 use Rattle.alw_ready.proofs.Renewing.{AreFound}
 use Rattle.alw_ready.proofs.RowEvents.{row_length}
-use Rattle.alw_cells.specs.declared.cells.Stepped.{Stepped}
-use Rattle.alw_cells.specs.declared.cells.Stepped.TheVariants.{Did, Idle}
 use Rattle.alw_cells.specs.Cells.{Cell, IsCell, IsSpent, in_from}
-use Rattle.alw_cells.specs.Choice.{taken_by, may_happen, main_events_of, next_events, asked_eviction, is_evicted, picked_event, entry_by, stepped_by, after_event, Happens, StepsCell}
+use Rattle.alw_cells.specs.Choice.{taken_by, may_happen, main_events_of, next_events, asked_eviction, is_evicted, picked_event}
 use Rattle.alw_cells.specs.Keeping.{AreSenders}
 use Rattle.alw_cells.proofs.Runs.{may_be, clock_most}
 
@@ -264,10 +260,3 @@ none_spent cell is exists limit current none = cases_lt_then cell.node.parameter
     (λ late. inl (let most : cell.node.state.clock ≤ cell.node.parameters.limit = subst (λ (state : NodeState). state.clock ≤ cell.node.parameters.limit) (sym is.state) (clock_most cell.node.parts cell.node.parameters cell.node.number cell.log is.run) in omega arith))
 
 -- ---- a step
-
-pub steps_by : (before after : Cell) (number : ℕ) (event : Event) (result : Result Stepped NoMemory) → picked_event before number ≡ Some event → Happens before event after result → StepsCell before number after result
-steps_by before after number event (Ok (Did entry did)) picked is =
-    let same : entry.event ≡ event = ap (λ (e : Entry). e.event) is.0 in
-    (picked ∙ ap Some (sym same), is.0 ∙ ap (entry_by before) (sym same), is.1 ∙ ap (λ (e : Event). (stepped_by before e).did) (sym same), is.2 ∙ ap (after_event before) (sym same))
-steps_by before after number event (Ok Idle) picked is = absurd is
-steps_by before after number event (Err refused) picked is = is

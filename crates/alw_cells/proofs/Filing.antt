@@ -15,8 +15,9 @@ use Rattle.alw_node.specs.Nodes.{Whole, Steps}
 use Rattle.alw_cells.specs.Cells.{Cell, IsCell}
 use Rattle.alw_cells.specs.Choice.{taken_by, may_happen}
 use Rattle.alw_cells.specs.Records.{BodyIsPlain, SendsAreOfEvent, IsRecord, AreBelow}
-use Rattle.alw_cells.proofs.Runs.{enabled, may_be, takes, stamp_above, stamps_within}
+use Rattle.alw_cells.proofs.Runs.{enabled, may_be, takes, stamps_within}
 use Rattle.alw_cells.proofs.Sends.{step_so}
+use Rattle.law_order.proofs.Clocks.{stamp_above}
 
 -- its stamp is above those of the log
 pub rises : (cell : Cell) (event : Event) (taken : Option Msg) (sent sent' : Sending) (after : Whole) (did : Did) (stamp : ℕ) (log : List Logged)

@@ -1,5 +1,5 @@
 -- A local run with one event more, what it leaves of a cell, and runs by a node's share of an image.
-use Rattle.std.proofs.Common.{◌≡◌, ℕ, suc, ◌-◌, ◌^◌, ◌≤◌, ◌<◌, ◌==◌, nat_lt, Bool, true, false, Option, Some, None, List, [], ◌∷◌, ◌++◌, length, IsTrue, refl, sym, subst, ap, ◌∙◌, append_assoc, append-nil, arith}
+use Rattle.std.proofs.Common.{◌≡◌, ℕ, suc, ◌-◌, ◌^◌, ◌≤◌, ◌==◌, nat_lt, Bool, true, false, Option, Some, None, List, [], ◌∷◌, ◌++◌, length, IsTrue, refl, sym, subst, ap, ◌∙◌, append_assoc, append-nil, arith}
 use Rattle.std.specs.Prelude.{is_some}
 use Rattle.std.proofs.lemmas.Bool.{true≢false, leb-true}
 use Rattle.std.specs.List.{AllByRecursion}
@@ -14,7 +14,7 @@ use Rattle.alw_image.specs.declared.parts.Parts.{Parts}
 use Rattle.alw_image.specs.Images.{node_count}
 use Rattle.alw_image.specs.Parameters.{Parameters}
 use Rattle.alw_model.specs.declared.steps.Did.{Did}
-use Rattle.alw_model.specs.NodeStates.{NodeState, stamp_of, node_start, is_enabled_at, may, may_deliver}
+use Rattle.alw_model.specs.NodeStates.{NodeState, node_start, is_enabled_at, may, may_deliver}
 use Rattle.alw_model.specs.NodeSteps.{node_step}
 use Rattle.alw_model.specs.Threads.{Logged, IsNextLogged, IsRunFrom, IsLocalRun, node_after, sent_to, takes_rightly}
 use Rattle.alw_model.proofs.Journals.{and_parts}
@@ -24,11 +24,7 @@ use Rattle.alw_node.proofs.KeptMembers.{start_same, enabled_same, step_same}
 use Rattle.alw_cells.specs.Cells.{Cell, IsReplayed, IsBackPart, picked, in_from, dids_from, dids_of}
 use Rattle.alw_cells.specs.Choice.{taken_by, may_happen, logged_by}
 use Rattle.alw_cells.proofs.Receivers.{picked-append}
-
--- an event's stamp is above its node's clock
-pub stamp_above : (clock : ℕ) (taken : Option Msg) → clock < stamp_of clock taken
-stamp_above clock None = omega arith
-stamp_above clock (Some msg) = omega arith
+use Rattle.law_order.proofs.Clocks.{stamp_above}
 
 module _ (parts : Parts) (parameters : Parameters) (number : ℕ) where
   -- one event more

@@ -2,9 +2,7 @@
 use Rattle.std.proofs.Common.{◌≡◌, ℕ, Bool, true, false, List, Option, Some, None, Ok, refl, sym, subst, inl, inr}
 use Rattle.std.specs.Prelude.{Result, Err}
 use Rattle.std.specs.Io.KnownBytes.{Keeps}
-use Rattle.alw_io.specs.Outside.{Took}
 use Rattle.alw_msg.specs.declared.events.Entry.{Entry}
-use Rattle.alw_answers.specs.Limits.{most_input}
 use Rattle.alw_answers.specs.declared.answers.Cause.{Cause}
 use Rattle.alw_answers.specs.declared.answers.Cause.TheVariants as cause
 use Rattle.alw_answers.specs.declared.answers.InputErr.TheVariants as reason
@@ -14,37 +12,22 @@ use Rattle.alw_answers.specs.declared.outputs.Output.{Output}
 use Rattle.alw_answers.specs.declared.outputs.Refusal.{Refusal}
 use Rattle.alw_answers.specs.declared.outputs.Refusal.TheVariants as refusal
 use Rattle.alw_answers.specs.Outputs.{Gives, cause_of}
-use Rattle.alw_cli.specs.Streams.{Stream, stream_of, IsRead, IsTaken, Stays, Gained}
+use Rattle.alw_cli.specs.Streams.{Stream, IsRead, IsTaken, Gained}
 use Rattle.alw_config.specs.declared.commands.Asked.{Asked}
 use Rattle.alw_config.specs.Places.{AskFor}
 use Rattle.alw_cli.specs.Answers.{task_for, Answers}
-use Rattle.alw_answers.specs.Tasks.{Task, IsNothing}
-use Rattle.alw_cli.specs.Answered.{Outputs, Answered, Hands, Writes, Puts}
+use Rattle.alw_answers.specs.Tasks.{Task}
+use Rattle.alw_cli.specs.Answered.{Outputs, Answered, Writes, Puts}
 
 -- a stream that nothing is done to
 pub keeps : (known : Option (List ℕ)) → Keeps known known
 keeps None = tt
 keeps (Some bytes) = refl
 
--- what was read is the whole rest of the source
-pub reads_all : (before after : Option (List ℕ)) (faults faults' : ℕ) (bytes : List ℕ) → Took most_input before after (Ok bytes) →
-    IsRead true (stream_of before faults) (stream_of after faults') bytes
-reads_all before after faults faults' bytes took =
-    subst (λ (bs : List ℕ). IsRead true (stream_of before faults) (stream_of after faults') bs) (sym took.told.0)
-    (took.from_front, took.told.1, took.told.2)
-
 -- what was handed out was taken
 taken : (reads : Bool) (input input' : Stream) (bytes : List ℕ) → IsRead reads input input' bytes → IsTaken reads input input'
 taken true input input' bytes read = record { taken = bytes; read = read.0; few = read.2 }
 taken false input input' bytes read = read.0
-
--- there are no bytes
-pub not_handed : (task : Task) (input input' out out' : Stream) (c : Cause) (journal : List Entry) (merged : ℕ) → Hands task.reads input input' (Err c) → Stays out out' →
-    IsNothing journal merged → Answered task input input' out out' c journal merged
-not_handed task input input' out out' (cause.Input reason.TooLong) journal merged hands stays nothing = (nothing, stays, inr (hands.0, refl, hands.1))
-not_handed task input input' out out' cause.ReadFault journal merged hands stays nothing = (nothing, stays, hands.0, hands.1, hands.2)
-not_handed task input input' out out' cause.NoMemory journal merged hands stays nothing = (nothing, stays, hands)
-not_handed task input input' out out' _ journal merged hands stays nothing = absurd hands
 
 -- by the end of what was made
 by_end : (task : Task) (input input' out out' : Stream) (journal : List Entry) (merged : ℕ) (end : Ending) →

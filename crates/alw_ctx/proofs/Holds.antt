@@ -1,12 +1,12 @@
 -- The number of slots with a hold, and what a change does to it.
-use Rattle.std.proofs.Common.{◌≡◌, ℕ, zero, suc, ◌+◌, ◌-◌, ◌<◌, ◌≤◌, Bool, true, false, cond, is_some, Option, Some, None, List, [], ◌∷◌, length, map, slice_set, slice_index_or, Fits, w8, refl, ap, arith}
+use Rattle.std.proofs.Common.{◌≡◌, ℕ, zero, suc, ◌+◌, ◌-◌, ◌<◌, ◌≤◌, Bool, true, false, cond, is_some, Option, None, List, [], ◌∷◌, length, map, slice_set, slice_index_or, Fits, w8, refl, ap, arith}
 use Rattle.std.proofs.lemmas.List.{length-set}
-use Rattle.alw_num.specs.Weights.{digit, weigh}
+use Rattle.alw_num.specs.Weights.{digit}
 use Rattle.alw_num.proofs.Weigh.{digit_le}
 use Rattle.alw_image.specs.declared.parts.Parts.{Parts}
 use Rattle.alw_msg.specs.declared.contexts.Status.TheVariants.{Ready}
 use Rattle.alw_msg.specs.Statuses.{waits_on}
-use Rattle.alw_model.specs.Contexts.{Slot, no_slot, slot_at, slot_start, slots_start, wake}
+use Rattle.alw_model.specs.Contexts.{Slot, slot_at, slot_start, slots_start, wake}
 use Rattle.std.specs.List.{range_with_len}
 use Rattle.alw_ctx.specs.declared.residents.Resident.{Resident}
 use Rattle.alw_ctx.specs.Residents.{slot_of, slots_of, holds_of}

@@ -1,17 +1,15 @@
 -- A checkpoint is refused for want of memory alone, and what `save` writes is one.
 use Rattle.std.proofs.Common.{◌≡◌, ℕ, suc, ◌≤◌, Err, List, ◌++◌, slice_get, refl, sym, ap, subst, ◌∙◌, arith}
 use Rattle.alw_msg.specs.declared.events.Entry.{Entry}
-use Rattle.alw_image.specs.declared.parts.Parts.{Parts}
 use Rattle.alw_image.specs.Parameters.{Parameters}
 use Rattle.alw_model.specs.Machine.{MachineState, IsLegal, state}
 use Rattle.alw_model.proofs.Journals.{legal_take}
 use Rattle.law_order.specs.Orders.{kept_by}
 use Rattle.law_order.proofs.Reached.{cut_front}
-use Rattle.alw_mesh.specs.Histories.{History, IsRun, state_of}
+use Rattle.alw_mesh.specs.Histories.{History, state_of}
 use Rattle.alw_mesh.proofs.Journals.{journal_fits}
 use Rattle.alw_report.specs.Reports.{params_line}
 use Rattle.alw_trace.specs.declared.values.Trace.{Trace}
-use Rattle.alw_trace.specs.declared.faults.TextErr.{TextErr}
 use Rattle.alw_trace.specs.Readings.{IsTrace, HasTraceTypes}
 use Rattle.alw_trace.specs.Fronts.{front_text, IsFrontOf}
 use Rattle.alw_save.proofs.FrontBack.{one_front, front_back}
@@ -19,10 +17,10 @@ use Rattle.alw_save.specs.declared.faults.RestoreErr.{RestoreErr}
 use Rattle.alw_save.specs.declared.faults.RestoreErr.TheVariants.{Text, DoesNotFit, NotLegal, StateDiffers, NoMemory}
 use Rattle.alw_save.specs.Cuts.{TraceIsSound}
 use Rattle.alw_save.specs.Checkpoints.{save_title, state_part, checkpoint_text}
-use Rattle.alw_save.specs.Differences.{DiffersAt, ended_lines}
+use Rattle.alw_save.specs.Differences.{ended_lines}
 use Rattle.alw_save.specs.Restoring.{with_evict, IsCheckpoint, TextIsReadAs, Restores}
 use Rattle.alw_cuts.specs.Resuming.{IsSomeCheckpoint}
-use Rattle.alw_runs.proofs.NoEvict.{calm, state_same, legal_same, legal_back, stamped}
+use Rattle.alw_runs.proofs.NoEvict.{calm, state_same, legal_back, stamped}
 
 -- parameters by their members
 same_params : (p : Parameters) (evict : ℕ) → p.evict ≡ evict → p ≡ record { pointers = p.pointers; sets = p.sets; limit = p.limit; evict = evict }

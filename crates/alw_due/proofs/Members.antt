@@ -6,13 +6,11 @@ use Rattle.alw_model.specs.Machine.{main_events}
 use Rattle.alw_mesh.specs.Histories.{History, may_be_next}
 use Rattle.alw_mesh.specs.Ends.{next_events}
 use Rattle.alw_sched.proofs.Seeded.{main_at}
+use Rattle.std.proofs.lemmas.Option.{same_Some}
 
 pub record IsIn (xs : List Event) (x : Event) : Type 0 where
   pub place : ℕ
   pub stands : slice_get xs place ≡ Some x
-
-some_is : (a b : Event) → Some a ≡ Some b → a ≡ b
-some_is a b same = cc
 
 none_in : (x : Event) → IsIn [] x → ⊥
 none_in x within = absurd (cc)
@@ -27,7 +25,7 @@ pub in_cases : (y : Event) (xs : List Event) (x : Event) → IsIn (y ∷ xs) x �
 in_cases y xs x within = by_place within.place within.stands
   where
     by_place : (k : ℕ) → slice_get (y ∷ xs) k ≡ Some x → (x ≡ y) ⊎ IsIn xs x
-    by_place zero got = inl (sym (some_is y x got))
+    by_place zero got = inl (sym (same_Some y x got))
     by_place (suc k) got = inr (record { place = k; stands = got })
 
 module _ (test : Event → Bool) where

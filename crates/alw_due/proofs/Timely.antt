@@ -30,9 +30,6 @@ use Rattle.alw_due.proofs.Members.{IsIn, of_kept, next_may, next_main}
 
 -- ---- the event that comes next
 
-some_is : (a b : Event) → Some a ≡ Some b → a ≡ b
-some_is a b same = cc
-
 pub in_next_of : (h : History) (costs : Costs) (times : Times) (event : Event) → IsFirstDue h costs times event → IsIn (next_events h) event
 in_next_of h costs times event first = (of_kept (is_due_for h costs times) (next_events h) event (record { place = first.place; stands = first.stands })).0
 

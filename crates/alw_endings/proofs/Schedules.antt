@@ -1,14 +1,14 @@
 -- What every legal journal comes to is told where the search is complete.
-use Rattle.std.proofs.Common.{◌≡◌, ℕ, zero, suc, ◌+◌, ◌≤◌, ◌<◌, ◌&&◌, Bool, true, false, List, [], ◌∷◌, ◌++◌, Some, length, map, refl, sym, ap, ◌∙◌, subst, arith}
+use Rattle.std.proofs.Common.{◌≡◌, ℕ, zero, suc, ◌+◌, ◌≤◌, ◌<◌, ◌&&◌, Bool, true, false, List, [], ◌∷◌, ◌++◌, Some, length, map, refl, sym, ap, ◌∙◌, arith}
 use Rattle.std.specs.Prelude.{slice_get, slice_index_or}
-use Rattle.std.specs.List.{flat_map, range_with_len, list_all, AllByRecursion, Contains}
+use Rattle.std.specs.List.{flat_map, range_with_len, list_all, AllByRecursion}
 use Rattle.std.proofs.lemmas.List.FromFn.{get_or-map-range_with_len}
 use Rattle.alw_num.specs.declared.addresses.Line.{Line}
 use Rattle.alw_msg.specs.declared.events.Entry.{Entry}
 use Rattle.alw_msg.specs.declared.contexts.Status.{Status}
 use Rattle.alw_msg.specs.declared.contexts.Status.TheVariants as status
 use Rattle.alw_msg.specs.Statuses.{has_trapped, is_halted}
-use Rattle.alw_msg.specs.Stretches.{stretches, turns_in}
+use Rattle.alw_msg.specs.Stretches.{turns_in}
 use Rattle.alw_msg.proofs.StretchLaws.{same_turns}
 use Rattle.alw_image.specs.declared.parts.Parts.{Parts}
 use Rattle.alw_image.specs.Images.{line_count, context_count, zero_line}
@@ -17,17 +17,18 @@ use Rattle.alw_model.specs.Counts.{words_of, listed_words, memory_words}
 use Rattle.alw_model.specs.Lines.{current_value}
 use Rattle.alw_model.specs.Contexts.{Slot, all_halted}
 use Rattle.alw_model.specs.NodeStates.{NodeState}
-use Rattle.alw_model.specs.Machine.{IsLegal, MachineState, state, has_halted}
+use Rattle.alw_model.specs.Machine.{IsLegal, state, has_halted}
 use Rattle.alw_model.specs.Flat.{Context, context_at}
 use Rattle.alw_model.specs.Runs.{prints_of, flat_view, flat_context, flat_status}
 use Rattle.alw_outcomes.specs.Outcomes as outcomes
-use Rattle.alw_outcomes.specs.Outcomes.{Ending, Halts, Traps, HasEvery}
+use Rattle.alw_outcomes.specs.Outcomes.{Ending, Halts, Traps}
 use Rattle.law_schedules.proofs.Journals.{journal_halts, journal_traps}
 use Rattle.alw_endings.specs.declared.values.Outcomes.{Outcomes}
 use Rattle.alw_endings.specs.declared.values.HaltEnd.{HaltEnd}
 use Rattle.alw_endings.specs.declared.values.TrapEnd.{TrapEnd}
-use Rattle.alw_endings.specs.Ends.{prints_by, prints_at, memory_at, place_by, halt_told, trap_told, endings_told, IsHaltEnd, IsTrapEnd, AreOutcomes}
+use Rattle.alw_endings.specs.Ends.{prints_by, place_by, halt_told, trap_told, IsHaltEnd, AreOutcomes}
 use Rattle.alw_endings.specs.Schedules.{TellsHalt, TellsTrap, TellsEveryRun}
+use Rattle.alw_model.proofs.Journals.{and_parts}
 
 -- ---- what lists are made by
 
@@ -45,10 +46,6 @@ halted_alike (status.Waiting line) = refl
 halted_alike status.Halted = refl
 halted_alike (status.Trapped pc tt') = refl
 
-both : (a b : Bool) → (a && b) ≡ true → (a ≡ true) × (b ≡ true)
-both true b e = (refl, e)
-both false b e = absurd cc
-
 and_true : (a b : Bool) → a ≡ true → b ≡ true → (a && b) ≡ true
 and_true true b e f = f
 and_true false b e f = absurd cc
@@ -57,14 +54,14 @@ halted_slots : (slots : List Slot) (more : List Context) → all_halted slots �
     list_all (λ (context : Context). is_halted context.status) (map flat_context slots ++ more) ≡ true
 halted_slots [] more all rest = rest
 halted_slots (slot ∷ slots) more all rest =
-    let b = both (is_halted slot.status) (all_halted slots) all in
+    let b = and_parts (is_halted slot.status) (all_halted slots) all in
     and_true _ _ (halted_alike slot.status ∙ b.0) (halted_slots slots more b.1 rest)
 
 halted_nodes : (nodes : List NodeState) → list_all (λ (node : NodeState). all_halted node.slots) nodes ≡ true →
     list_all (λ (context : Context). is_halted context.status) (flat_map (λ (node : NodeState). map flat_context node.slots) nodes) ≡ true
 halted_nodes [] all = refl
 halted_nodes (node ∷ nodes) all =
-    let b = both (all_halted node.slots) (list_all (λ (n : NodeState). all_halted n.slots) nodes) all in
+    let b = and_parts (all_halted node.slots) (list_all (λ (n : NodeState). all_halted n.slots) nodes) all in
     halted_slots node.slots _ b.0 (halted_nodes nodes b.1)
 
 -- ---- members by what they tell

@@ -21,7 +21,7 @@ use Rattle.alw_image.specs.Images.{line_count, zero_line}
 use Rattle.alw_msg.specs.Statuses.{is_ready}
 use Rattle.alw_model.specs.ProcessorSteps.{status_after}
 use Rattle.alw_model.specs.Flat as model
-use Rattle.alw_model.specs.Flat.{Flat, flat_turn, flat_turn_by, context_at, stored_in}
+use Rattle.alw_model.specs.Flat.{Flat, flat_turn, flat_turn_by, context_at}
 use Rattle.alw_flat.specs.declared.machines.Context.{Context}
 use Rattle.alw_flat.specs.Machines.{copy_in}
 use Rattle.alw_flat.specs.Contexts.{context_of, contexts_of, machine_of}

@@ -1,20 +1,17 @@
 -- The instructions of a workload are within the table, and their number.
-use Rattle.std.proofs.Common.{◌≡◌, ℕ, zero, suc, ◌+◌, ◌-◌, ◌*◌, ◌/◌, ◌%◌, ◌^◌, ◌<◌, ◌≤◌, ◌==◌, Bool, true, false, IsTrue, if◌then◌else◌, nat_le, List, [], ◌∷◌, ◌++◌, length, map, refl, sym, ap, ◌∙◌, arith, append_assoc, length-append}
+use Rattle.std.proofs.Common.{◌≡◌, ℕ, zero, suc, ◌+◌, ◌-◌, ◌*◌, ◌/◌, ◌%◌, ◌^◌, ◌<◌, ◌≤◌, ◌==◌, Bool, true, false, if◌then◌else◌, List, [], ◌∷◌, ◌++◌, length, map, refl, sym, ap, ◌∙◌, arith, append_assoc, length-append}
 use Rattle.std.proofs.lemmas.List.{append-nil, length-map, map-append}
 use Rattle.std.specs.List.{AllByRecursion}
 use Rattle.alw_num.specs.Draws.{drawn, drawn_number, drawn_times}
 use Rattle.sparc_table.specs.declared.instructions.Operand.TheVariants.{Reg, Imm}
 use Rattle.sparc_table.specs.declared.instructions.Instr.{Instr}
-use Rattle.sparc_table.specs.declared.instructions.Instr.TheVariants.{Sethi, Arith, TrapOn, Memory}
+use Rattle.sparc_table.specs.declared.instructions.Instr.TheVariants.{Sethi, Arith, Memory}
 use Rattle.sparc_table.specs.Table.{Fits}
 use Rattle.sparc_asm.specs.Words.{instr_word}
 use Rattle.sparc_asm.proofs.InstrWords.{spelled}
 use Rattle.alw_image.specs.Numbers.{IsWord}
 use Rattle.alw_gen.specs.Workloads.{address_drawn, set_g1, access, operation, operations, ending, block, block_length, blocks}
-
-all_append : {A : Type 0} (P : A → Type 0) (xs ys : List A) → AllByRecursion P xs → AllByRecursion P ys → AllByRecursion P (xs ++ ys)
-all_append P [] ys h k = k
-all_append P (x ∷ xs) ys h k = (h.0, all_append P xs ys h.1 k)
+use Rattle.alw_num.proofs.Alls.{all_append}
 
 -- ---- within the table
 

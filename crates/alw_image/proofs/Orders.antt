@@ -43,7 +43,7 @@ ascends-from fits key size at before (x ∷ rest) none =
         let e : suc k + 1 ≡ suc (k + 1) = omega arith in
         subst (λ (m : ℕ). slice_index (b ∷ rest) k < slice_index (a ∷ b ∷ rest) m) (sym e) (others k (omega arith))
 
-tail_ascends : (a : ℕ) (rest : List ℕ) → IsStrictlyIncreasing (a ∷ rest) → IsStrictlyIncreasing rest
+pub tail_ascends : (a : ℕ) (rest : List ℕ) → IsStrictlyIncreasing (a ∷ rest) → IsStrictlyIncreasing rest
 tail_ascends a rest ascends = λ k within.
     let e : suc k + 1 ≡ suc (k + 1) = omega arith in
     subst (λ (m : ℕ). slice_index rest k < slice_index (a ∷ rest) m) e (ascends (suc k) (omega arith))

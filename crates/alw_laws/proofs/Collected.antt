@@ -1,13 +1,12 @@
 -- Lists that are gathered node by node, and which links have messages about a line.
-use Rattle.std.proofs.Common.{◌≡◌, ◌≢◌, ℕ, zero, suc, ◌+◌, ◌<◌, ◌≤◌, ◌==◌, nat_lt, nat_le, ◌^◌, ◌-◌, Bool, true, false, cond, ◌&&◌, Option, Some, None, List, [], ◌∷◌, ◌++◌, length, map, filter, take, get_or, slice_get, option_to_list, IsTrue}
-use Rattle.std.proofs.Common.{refl, sym, ap, subst, ◌∙◌, append_assoc, arith}
+use Rattle.std.proofs.Common.{◌≡◌, ◌≢◌, ℕ, zero, suc, ◌+◌, ◌<◌, ◌≤◌, ◌==◌, nat_lt, ◌^◌, ◌-◌, Bool, true, false, cond, Option, Some, None, List, [], ◌∷◌, ◌++◌, length, map, filter, take, slice_get, option_to_list, IsTrue}
+use Rattle.std.proofs.Common.{refl, sym, ap, ◌∙◌, append_assoc, arith}
 use Rattle.std.specs.List.{flat_map, range_with_len, list_all}
 use Rattle.std.specs.Option.{option_map}
-use Rattle.std.proofs.lemmas.Bool.{false≢true, eqb-true, ne_eqb}
+use Rattle.std.proofs.lemmas.Bool.{eqb-true, ne_eqb}
 use Rattle.std.proofs.lemmas.List.{append-nil, length-append, take_more}
 use Rattle.std.proofs.lemmas.List.Elements.{filter-append}
 use Rattle.std.proofs.lemmas.Option.{same_Some, slice_get_within, get_or_from_slice_get}
-use Rattle.alw_num.specs.declared.addresses.NodeNo.{NodeNo}
 use Rattle.alw_num.specs.declared.states.Mode.{Mode}
 use Rattle.alw_num.proofs.Weigh.{is_node}
 use Rattle.alw_msg.specs.declared.messages.Msg.{Msg}
@@ -18,12 +17,12 @@ use Rattle.alw_image.specs.Images.{node_count, line_count}
 use Rattle.alw_image.specs.Parameters.{Parameters}
 use Rattle.alw_model.specs.Caches.{Transaction}
 use Rattle.alw_model.specs.Messages.{home_node, is_at_home, is_fit}
-use Rattle.alw_model.specs.Machine.{MachineState, node_at, link_at}
+use Rattle.alw_model.specs.Machine.{MachineState, link_at}
 use Rattle.alw_model.specs.MachineInvariant.{MachineInvariant, links_rightly}
 use Rattle.alw_model.proofs.Journals.{and_parts}
 use Rattle.law_machine.proofs.MachineFacts.{always_invariant}
 use Rattle.alw_mesh.specs.Histories.{History, IsRun, state_of}
-use Rattle.alw_laws.specs.Views.{Sent, Opened}
+use Rattle.alw_laws.specs.Views.{Opened}
 use Rattle.alw_laws.specs.Shown.{of_line, by_node, link_of, message_shown, transaction_shown}
 
 -- ---- node by node

@@ -1,12 +1,9 @@
 -- A table whose keys lie in a range has at most as many entries as the range has numbers.
-use Rattle.std.proofs.Common.{◌≡◌, ℕ, ◌+◌, ◌<◌, ◌≤◌, T, Some, None, List, [], ◌∷◌, length, refl, sym, ap, ◌∙◌, ◌⊎◌, inl, inr, arith}
+use Rattle.std.proofs.Common.{◌≡◌, ℕ, ◌+◌, ◌<◌, ◌≤◌, T, Some, None, List, [], ◌∷◌, length, sym, ap, ◌∙◌, ◌⊎◌, inl, inr, arith}
 use Rattle.std.proofs.lemmas.Bool.{cases_order, ne_eqb}
 use Rattle.std.proofs.lemmas.Bool.Decides.{nat_tests}
 use Rattle.alw_num.specs.Maps.{Map, ascends_from, found, value_at}
-
-not_below : {X : Type 0} (at low : ℕ) (entries : List (ℕ × X)) → at < low → T (ascends_from low entries) → found at entries ≡ None
-not_below at low [] l a = refl
-not_below at low (entry ∷ rest) l a = grind (arith, nat_tests, not_below at (entry.0 + 1) rest)
+use Rattle.alw_num.proofs.MapLaws.{not_below}
 
 -- each key lies in a range
 abbrev Within : {X : Type 0} → ℕ → ℕ → List (ℕ × X) → Type 0

@@ -3,7 +3,7 @@ use Rattle.std.proofs.Common.{◌≡◌, ℕ, zero, suc, ◌+◌, ◌*◌, ◌-�
 use Rattle.std.proofs.lemmas.List.{length-map, take_more, ext_get_or}
 use Rattle.std.proofs.lemmas.Option.{get_or_from_slice_get}
 use Rattle.alw_num.specs.Weights.{digit, weigh}
-use Rattle.alw_num.proofs.Weigh.{weigh_push}
+use Rattle.alw_num.proofs.Weigh.{weigh_push, weigh-map}
 use Rattle.alw_msg.specs.declared.messages.Msg.{Msg}
 use Rattle.alw_msg.specs.declared.events.Entry.{Entry}
 use Rattle.alw_image.specs.declared.parts.Parts.{Parts}
@@ -23,7 +23,6 @@ use Rattle.law_order.proofs.Reached.{state_aimed}
 use Rattle.law_order.proofs.Merging.{merged_legal, merged_nodes}
 use Rattle.law_order.proofs.MergedLogs.{log_again}
 use Rattle.alw_tally.specs.Told.{Told, told_of}
-use Rattle.alw_tally.proofs.Sums.{weigh-map}
 use Rattle.alw_node.specs.Nodes.{Whole}
 use Rattle.alw_mesh.specs.Keeping.{machine_of, no_whole, whole_in, NodeIsOf, AreNodes}
 use Rattle.alw_mesh.proofs.OneNode.{state_at}

@@ -13,6 +13,7 @@ use Rattle.alw_msg.specs.Lists.{front}
 use Rattle.alw_model.specs.Threads.{Logged, Logs, is_before, placed, in_order, merged}
 use Rattle.alw_node.proofs.KeptMembers.{few_kept}
 use Rattle.alw_merge.specs.Spans.{place_of, end_of, IsAtMost, is_behind, log_from, logs_from}
+use Rattle.law_order.proofs.Keys.{stamps_ge}
 
 -- ---- stamps that don't fall
 
@@ -27,9 +28,6 @@ AreFrom stamp entries = AllByRecursion (λ (entry : Entry). stamp ≤ entry.stam
 
 before_stamp : (one other : Entry) → is_before one other ≡ true → one.stamp ≤ other.stamp
 before_stamp one other is = grind (arith, nat_tests)
-
-other_stamp : (one other : Entry) → is_before one other ≡ false → other.stamp ≤ one.stamp
-other_stamp one other is = grind (arith, nat_tests)
 
 lower : (low high : ℕ) (entries : List Entry) → low ≤ high → AreFrom high entries → AreFrom low entries
 lower low high [] under all = tt
@@ -50,7 +48,7 @@ placed_rises one (first ∷ rest) rises = go (is_before first one) refl (placed_
     go : (b : Bool) → is_before first one ≡ b → Rises (placed one rest) → Rises (cond b (first ∷ placed one rest) (one ∷ first ∷ rest))
     go true is deep = (from_placed first.stamp one rest (before_stamp first one is) rises.0, deep)
     go false is deep =
-        let under = other_stamp first one is in
+        let under = stamps_ge first one is in
         ((under, lower one.stamp first.stamp rest under rises.0), rises)
 
 ordered_rises : (entries : List Entry) → Rises (in_order entries)

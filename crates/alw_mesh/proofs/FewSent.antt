@@ -5,7 +5,6 @@ use Rattle.std.proofs.Math.Nat.{mod-le, div-le_self}
 use Rattle.std.proofs.lemmas.List.{length-map}
 use Rattle.alw_num.specs.declared.addresses.Line.{Line}
 use Rattle.alw_num.specs.declared.states.Mode.{Mode}
-use Rattle.alw_num.specs.declared.states.Mode.TheVariants.{Read, Write}
 use Rattle.alw_num.specs.declared.states.State.{State}
 use Rattle.alw_num.specs.declared.states.State.TheVariants.{RO, RW, RT, WT}
 use Rattle.alw_num.specs.Maps.{value_at}
@@ -25,7 +24,7 @@ use Rattle.alw_image.specs.Images.{IsImage, node_count, line_count, zero_line, h
 use Rattle.alw_image.specs.Parameters.{Parameters}
 use Rattle.alw_model.specs.FullMap.{Home, Sends, others, sole, write_shared, recall, recall_from, give_back, give_back_from, end_read, end_write, acknowledge, row}
 use Rattle.alw_model.specs.LimitLess.{directory_start, full_map_of, hardware_of, is_trapped}
-use Rattle.alw_model.specs.Caches.{Copy, Requests, Transaction, granted_copy, give_up, evicted, evict, replaced, copy_at, invalidate, react}
+use Rattle.alw_model.specs.Caches.{Copy, Requests, Transaction, granted_copy, evict, replaced, copy_at, invalidate, react}
 use Rattle.alw_model.specs.Contexts.{slot_at, running}
 use Rattle.alw_model.specs.Messages.{message, to_homes, to_caches}
 use Rattle.alw_model.specs.NodeStates.{NodeState, home_at, place_of, stamp_of}
@@ -44,6 +43,7 @@ use Rattle.alw_tally.specs.Told.{told_of}
 use Rattle.alw_tally.specs.Tallies.{EventIsWithin}
 use Rattle.alw_tally.proofs.Within.{SendsFew, within}
 use Rattle.alw_mesh.proofs.OneNode.{few_nodes}
+use Rattle.law_machine.proofs.Wear.{evicted_few}
 
 -- ---- a home
 
@@ -111,14 +111,6 @@ row_few h i below WT (UPDATE body) = end_write_few h body (sole h.pointers)
 row_few h i below WT ACKC = acknowledge_few h _ h.acks (end_write_few h h.body (sole h.pointers))
 
 -- ---- a cache
-
-evicted_few : (o : Option Copy) → length (evicted o) ≤ 1
-evicted_few None = omega arith
-evicted_few (Some copy) = go copy.mode
-  where
-    go : (mode : Mode) → length (give_up copy.line mode copy.body) ≤ 1
-    go Write = omega arith
-    go Read = omega arith
 
 module _ (parts : Parts) (parameters : Parameters) (few : node_count parts ≤ 256) (n stamp : ℕ) (node : NodeState) (aims : NodeAims parts node) where
   asked_few : (requests : Requests) → length requests ≤ 1 → length (to_homes parts n stamp requests) ≤ 256

@@ -1,5 +1,5 @@
 -- A machine joined from a journal, its nodes, its links and what it tells; and the next entry of a legal journal.
-use Rattle.std.proofs.Common.{◌≡◌, ℕ, ◌+◌, ◌<◌, ◌≤◌, IsTrue, Option, Some, List, [], ◌∷◌, ◌++◌, take, get_or, slice_get, length, sym, ap, subst, ◌∙◌, arith}
+use Rattle.std.proofs.Common.{◌≡◌, ℕ, ◌+◌, ◌<◌, IsTrue, Option, Some, List, [], ◌∷◌, ◌++◌, take, get_or, slice_get, length, sym, ap, subst, ◌∙◌, arith}
 use Rattle.std.proofs.lemmas.List.{take_more, drop_all}
 use Rattle.std.proofs.lemmas.Option.{get_or_from_slice_get, slice_get-get_or}
 use Rattle.alw_msg.specs.declared.events.Entry.{Entry}
@@ -26,7 +26,7 @@ use Rattle.alw_ready.specs.declared.rows.Row.{Row}
 use Rattle.alw_ready.specs.Fits.{RowsFit}
 use Rattle.alw_node.specs.Nodes.{Whole}
 use Rattle.alw_mesh.specs.Grids.{Grid}
-use Rattle.alw_mesh.specs.Histories.{History, IsRun, state_of, entry_of, grown, stamps_of, may_be_next, sent_last, last_sends, joined_of}
+use Rattle.alw_mesh.specs.Histories.{History, IsRun, state_of, entry_of, grown, may_be_next, sent_last, last_sends, joined_of}
 use Rattle.alw_mesh.specs.Keeping.{machine_of, AreNodes, IsGrid, IsMachine}
 use Rattle.alw_mesh.specs.Joins.{IsGridOf, PartsAreJoined, states_of}
 use Rattle.alw_mesh.proofs.FewSent.{told_within}

@@ -25,7 +25,7 @@ use Rattle.alw_num.specs.declared.addresses.NodeNo.{NodeNo}
 use Rattle.alw_model.specs.declared.steps.Did.{Did}
 use Rattle.alw_model.specs.LimitLess.{Directory}
 use Rattle.alw_model.specs.NodeStates.{home_at}
-use Rattle.alw_model.specs.Machine.{MachineState, node_at, is_enabled, state, is_legal}
+use Rattle.alw_model.specs.Machine.{node_at, is_enabled, state, is_legal}
 use Rattle.alw_model.specs.Flat.{Context, Flat, flat_after, flat_prints, are_ready}
 use Rattle.alw_model.specs.Runs.{Moment, number_of, moments, turns_of, prints_of, flat_view}
 pub mod OneNode

@@ -6,5 +6,6 @@ pub mod MapLaws
 pub mod Ranks
 pub mod MapLengths
 pub mod Lists
+pub mod Alls
 mod Sums
 mod Quotients

@@ -1,5 +1,5 @@
 -- Lists of what each number has, or each member of a list: one number or one member more, and two that are the same.
-use Rattle.std.proofs.Common.{◌≡◌, ℕ, zero, suc, ◌+◌, ◌<◌, Option, Some, None, List, [], ◌∷◌, ◌++◌, take, slice_get, refl, sym, ap, ◌∙◌, append_assoc, arith}
+use Rattle.std.proofs.Common.{◌≡◌, ℕ, zero, suc, ◌+◌, ◌<◌, Bool, true, false, cond, find, Option, Some, None, List, [], ◌∷◌, ◌++◌, take, slice_get, refl, sym, ap, ◌∙◌, append_assoc, arith}
 use Rattle.std.specs.List.{flat_map, range_with_len}
 use Rattle.std.proofs.lemmas.List.{append-nil}
 use Rattle.std.proofs.lemmas.List.Concat.{flat_map-append}
@@ -57,3 +57,14 @@ module _ {X A : Type 0} (own : X → List A) where
       pushed ∙ (λ i. is i ++ this i) ∙ append_assoc before (flat_map own (take n xs)) (own_at (slice_get xs n))
       ∙ ap (λ (xs : List A). before ++ xs) (sym (member_more n xs))
       ∙ ap (λ (k : ℕ). before ++ flat_map own (take k xs)) next
+
+-- ---- a member that passes a test
+
+-- the first that passes a test passes it
+pub found_passes : {X : Type 0} (p : X → Bool) (xs : List X) (x : X) → find p xs ≡ Some x → p x ≡ true
+found_passes p [] x e = absurd (cc)
+found_passes p (y ∷ ys) x e = go (p y) refl e (found_passes p ys x)
+  where
+    go : (b : Bool) → p y ≡ b → cond b (Some y) (find p ys) ≡ Some x → (find p ys ≡ Some x → p x ≡ true) → p x ≡ true
+    go true here f next = let same : y ≡ x = cc in rw (← same) here
+    go false here f next = next f

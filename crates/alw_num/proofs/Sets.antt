@@ -54,7 +54,7 @@ abbrev pub AscendsFrom : ℕ → List ℕ → Type 0
 AscendsFrom n [] = Unit {0}
 AscendsFrom n (x ∷ xs) = (n ≤ x) × AscendsFrom (x + 1) xs
 
-ascends_lower : (m n : ℕ) (xs : List ℕ) → m ≤ n → AscendsFrom n xs → AscendsFrom m xs
+pub ascends_lower : (m n : ℕ) (xs : List ℕ) → m ≤ n → AscendsFrom n xs → AscendsFrom m xs
 ascends_lower m n [] l a = tt
 ascends_lower m n (x ∷ xs) l (h, a) = (omega arith, a)
 

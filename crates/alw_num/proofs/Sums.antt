@@ -1,5 +1,5 @@
 -- Sums of counts by parts of so many places: what a change of one count does to them, and how number k is found by them.
-use Rattle.std.proofs.Common.{◌≡◌, ◌≢◌, ℕ, zero, suc, add-one, mul-add, ◌+◌, ◌-◌, ◌*◌, ◌/◌, ◌^◌, ◌<◌, ◌≤◌, List, [], ◌∷◌, length, replicate, take, set, slice_index, refl, sym, ap, ◌∙◌, ◌⊎◌, inl, inr, ⊎_elim, arith}
+use Rattle.std.proofs.Common.{◌≡◌, ◌≢◌, ℕ, zero, suc, add-one, mul-add, ◌+◌, ◌-◌, ◌*◌, ◌/◌, ◌^◌, ◌<◌, ◌≤◌, List, [], ◌∷◌, length, replicate, take, set, slice_index, refl, sym, ap, ◌∙◌, arith}
 use Rattle.std.proofs.lemmas.List.{get_or-set_same, get_or-set_other, get_or_past, length-set, length-replicate, get_or-replicate}
 use Rattle.alw_num.proofs.Weigh.{is_node, sum_same, sum_le, sum_none, sum_scale, sum_ones, sum_at, cases_lt_then}
 use Rattle.alw_num.proofs.Ranks.{sum_cat}

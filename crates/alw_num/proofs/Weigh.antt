@@ -1,5 +1,6 @@
 -- Laws of the weight of a list and of sums over the nodes below a number.
-use Rattle.std.proofs.Common.{◌≡◌, ℕ, zero, suc, ◌+◌, ◌*◌, ◌<◌, ◌≤◌, ◌≢◌, ◌==◌, Bool, true, false, cond, List, [], ◌∷◌, ◌++◌, length, refl, sym, subst, ap, ⊎_elim, arith}
+use Rattle.std.proofs.Common.{◌≡◌, ℕ, zero, suc, ◌+◌, ◌*◌, ◌<◌, ◌≤◌, ◌≢◌, ◌==◌, Bool, true, false, cond, List, [], ◌∷◌, ◌++◌, map, length, refl, sym, subst, ap, ⊎_elim, arith}
+use Rattle.std.specs.List.{flat_map}
 use Rattle.std.proofs.lemmas.Bool.{eqb-true, eqb-false, eq-eqb, ne_eqb, cases_lt}
 use Rattle.std.proofs.Math.Nat.{mul-add}
 use Rattle.alw_num.specs.Weights.{digit, weigh, times, sum_below}
@@ -128,3 +129,13 @@ sum_times n (j ∷ js) beyond =
     cases_lt_then n j
     (λ l. omega (arith, rest, sum_both n (λ k. digit (k == j)) (λ k. times k js), sum_one n j l))
     (λ l. absurd (omega (arith, beyond j l, digit_same j j refl)))
+
+-- ---- the weight of what a list is made into
+
+pub weigh-map : {A B : Type 0} (f : B → ℕ) (g : A → B) (xs : List A) → weigh f (map g xs) ≡ weigh (λ x. f (g x)) xs
+weigh-map f g [] = refl
+weigh-map f g (x ∷ rest) = ap (λ n. f (g x) + n) (weigh-map f g rest)
+
+pub weigh_flat : {A B : Type 0} (f : B → ℕ) (g : A → List B) (xs : List A) → weigh f (flat_map g xs) ≡ weigh (λ x. weigh f (g x)) xs
+weigh_flat f g [] = refl
+weigh_flat f g (x ∷ rest) = omega (arith, weigh-append f (g x) (flat_map g rest), weigh_flat f g rest)

@@ -4,7 +4,6 @@ use Rattle.std.specs.Prelude.{Err}
 use Rattle.alw_image.specs.Images.{node_count}
 use Rattle.alw_image.specs.Parameters.{Parameters, parameters_for}
 use Rattle.alw_model.specs.declared.ends.Ended.{Ended}
-use Rattle.alw_model.specs.Ends.{IsEnd}
 use Rattle.alw_mesh.specs.Limits.{most_steps}
 use Rattle.alw_mesh.specs.Histories.{History, begun}
 use Rattle.alw_trace.specs.declared.values.Claim.{Claim}

@@ -1,5 +1,5 @@
 -- An instruction of the slot that runs, as the function meets it: a turn, or a miss.
-use Rattle.std.proofs.Common.{◌≡◌, ◌≢◌, ◌↔◌, ℕ, ◌*◌, ◌/◌, ◌<◌, ◌≤◌, List, [], Option, Some, None, length, refl, sym, ap, ◌∙◌, subst, arith}
+use Rattle.std.proofs.Common.{◌≡◌, ◌≢◌, ◌↔◌, ℕ, ◌*◌, ◌/◌, ◌<◌, ◌≤◌, List, [], Some, None, length, refl, sym, ap, ◌∙◌, subst, arith}
 use Rattle.std.proofs.lemmas.List.{length-set}
 use Rattle.std.proofs.lemmas.Nat.{mul-le}
 use Rattle.std.proofs.Math.Nat.{mul-le-mul_right}
@@ -17,14 +17,14 @@ use Rattle.alw_cache.specs.Places.{Copies, seen_in, ArePlaced}
 use Rattle.alw_ctx.specs.Residents.{NodeContexts, left_by}
 use Rattle.alw_model.specs.declared.steps.Did.TheVariants.{Turn, Missed}
 use Rattle.alw_model.specs.Caches.{Transactions}
-use Rattle.alw_model.specs.Contexts.{Slot, slot_at, running, ran}
+use Rattle.alw_model.specs.Contexts.{slot_at, running, ran}
 use Rattle.alw_model.specs.Messages.{homeward}
 use Rattle.alw_model.specs.Sides.{Processor, lines_of}
-use Rattle.alw_model.specs.ProcessorSteps.{ProcessorStep, Steps, processor_after, instr, instr_by, miss, opened, take_turn, status_after}
+use Rattle.alw_model.specs.ProcessorSteps.{Steps, instr, miss, opened, take_turn, status_after}
 use Rattle.alw_proc.specs.Homeward.{with_requests}
 use Rattle.alw_proc.specs.Turns.{Runs}
 use Rattle.alw_proc.specs.declared.shared.Shared.{Shared}
-use Rattle.alw_proc.specs.Processors.{IsProcessor, IsSide, SendsAreBegun, processor_from}
+use Rattle.alw_proc.specs.Processors.{IsProcessor, IsSide, processor_from}
 use Rattle.alw_proc.proofs.Leaving.{home_fits}
 use Rattle.alw_proc.proofs.Standing.{stands, ran_stands, missed_stands}
 use Rattle.alw_proc.proofs.Turning.{copies_of, regs_of, IsTurn, turn_is, IsMiss, miss_is}

@@ -1,5 +1,5 @@
 -- What an event leaves of a processor side is one again.
-use Rattle.std.proofs.Common.{◌≡◌, ℕ, ◌<◌, ◌≤◌, Bool, true, false, cond, ◌==◌, Option, Some, None, IsTrue, find, List, [], ◌∷◌, length, refl, sym, ap, ◌∙◌, subst, ◌⊎◌, inl, inr, arith}
+use Rattle.std.proofs.Common.{◌≡◌, ℕ, ◌<◌, ◌≤◌, Bool, true, false, cond, ◌==◌, Option, Some, None, IsTrue, List, length, refl, sym, ap, ◌∙◌, subst, ◌⊎◌, inl, inr, arith}
 use Rattle.std.proofs.lemmas.Bool.{true≢false, eqb-true, eqb-false, cases_lt}
 use Rattle.std.proofs.lemmas.Bool.Decides.{nat_tests}
 use Rattle.std.proofs.lemmas.List.{length-set, length-map, get_or-map, get_or-set_same, get_or-set_other}
@@ -16,16 +16,9 @@ use Rattle.alw_model.specs.Contexts.{Slot, no_slot, slot_at, running, turn_order
 use Rattle.alw_model.specs.ProcessorSteps.{opened, slots_after}
 use Rattle.alw_proc.specs.Openings.{OpeningIsNotOf}
 use Rattle.alw_proc.specs.Processors.{HoldsLine}
+use Rattle.alw_num.proofs.Lists.{found_passes}
 
 -- ---- the slot that runs
-
-found_passes : (p : ℕ → Bool) (xs : List ℕ) (x : ℕ) → find p xs ≡ Some x → p x ≡ true
-found_passes p [] x e = absurd (cc)
-found_passes p (y ∷ ys) x e = go (p y) refl e (found_passes p ys x)
-  where
-    go : (b : Bool) → p y ≡ b → cond b (Some y) (find p ys) ≡ Some x → (find p ys ≡ Some x → p x ≡ true) → p x ≡ true
-    go true here f next = let same : y ≡ x = cc in rw (← same) here
-    go false here f next = next f
 
 pub runs_ready : (slots : List Slot) (current slot : ℕ) → running slots current ≡ Some slot → is_ready (slot_at slots slot).status ≡ true
 runs_ready slots current slot runs = found_passes (λ k. is_ready (slot_at slots k).status) (turn_order current (length slots)) slot runs

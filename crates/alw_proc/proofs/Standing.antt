@@ -1,5 +1,5 @@
 -- What holds of a processor side is kept by what its events change.
-use Rattle.std.proofs.Common.{◌≡◌, ℕ, ◌*◌, ◌<◌, Option, Some, None, List, length, refl, arith}
+use Rattle.std.proofs.Common.{◌≡◌, ℕ, ◌*◌, Option, Some, None, List, length, refl, arith}
 use Rattle.std.proofs.lemmas.Bool.{eq-eqb}
 use Rattle.alw_num.specs.declared.states.Mode.{Mode}
 use Rattle.alw_num.specs.Maps.{value_at}

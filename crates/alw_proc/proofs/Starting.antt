@@ -1,5 +1,5 @@
 -- A processor side stands at the start.
-use Rattle.std.proofs.Common.{ℕ, ◌<◌, ◌≤◌, refl, sym, subst, arith}
+use Rattle.std.proofs.Common.{ℕ, ◌<◌, refl, sym, subst, arith}
 use Rattle.std.proofs.lemmas.List.FromFn.{length-map-range_with_len}
 use Rattle.alw_num.proofs.MapLaws.{value-empty}
 use Rattle.alw_image.specs.declared.parts.Parts.{Parts}

@@ -21,7 +21,7 @@ use Rattle.alw_cache.proofs.Seen.{same_caches, seen_written, placed_written}
 use Rattle.alw_model.specs.Caches.{Copy, Cache, set_of, copy_at, grants, granted_copy}
 use Rattle.alw_model.specs.Contexts.{slot_at}
 use Rattle.alw_model.specs.Sides.{Processor, lines_of}
-use Rattle.alw_model.specs.ProcessorSteps.{ProcessorStep, access, instr_by, miss, take_turn}
+use Rattle.alw_model.specs.ProcessorSteps.{access, instr_by, miss, take_turn}
 use Rattle.alw_proc.proofs.Keeping.{holds_with}
 use Rattle.alw_proc.proofs.Standing.{Held}
 

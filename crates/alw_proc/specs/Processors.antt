@@ -1,18 +1,17 @@
 -- What holds of a node's processor side, how it is kept, and what its readers tell.
-use Rattle.std.specs.Prelude.{◌≡◌, ℕ, ◌*◌, ◌<◌, ◌≤◌, Bool, true, nat_lt, IsTrue, Option, Some, [], length}
+use Rattle.std.specs.Prelude.{◌≡◌, ℕ, ◌*◌, ◌<◌, ◌≤◌, Bool, true, nat_lt, IsTrue, Option, [], length}
 use Rattle.alw_num.specs.declared.addresses.Line.{Line}
 use Rattle.alw_num.specs.declared.addresses.LineNo.{LineNo}
 use Rattle.alw_num.specs.declared.states.Mode.{Mode}
-use Rattle.alw_num.specs.declared.states.Mode.TheVariants.{Write}
-use Rattle.alw_num.specs.Maps.{value_at, with_value, passes_if_some}
+use Rattle.alw_num.specs.Maps.{value_at, passes_if_some}
 use Rattle.alw_msg.specs.Contents.{Content, ForMemory, ForCache}
 use Rattle.alw_msg.specs.Sending.{Sending}
 use Rattle.alw_msg.specs.Statuses.{waits_on}
-use Rattle.alw_model.specs.Caches.{Copy, Cache, Transaction, Transactions, set_of}
+use Rattle.alw_model.specs.Caches.{Copy, Transaction, Transactions}
 use Rattle.alw_model.specs.Contexts.{slot_at}
 use Rattle.alw_model.specs.Sides.{Processor, lines_of}
 use Rattle.alw_model.specs.NodeStates.{may_reach_cache}
-use Rattle.alw_cache.specs.Places.{Copies, copy_of}
+use Rattle.alw_cache.specs.Places.{Copies}
 use Rattle.alw_ctx.specs.Residents.{NodeContexts}
 
 -- a copy that is held, if there is one, is of a line that exists

@@ -10,16 +10,15 @@ use Rattle.alw_num.proofs.Weigh.{is_node}
 use Rattle.alw_msg.specs.declared.messages.Msg.{Msg}
 use Rattle.alw_msg.specs.declared.events.Event.{Event}
 use Rattle.alw_msg.specs.declared.events.Event.TheVariants.{Instr, Handle, Deliver, Evict}
-use Rattle.alw_msg.specs.Contents.{Content, content}
+use Rattle.alw_msg.specs.Contents.{content}
 use Rattle.alw_msg.specs.Events.{node_of}
 use Rattle.alw_msg.specs.Lists.{is_nonempty, front, behind}
 use Rattle.alw_image.specs.declared.parts.Parts.{Parts}
 use Rattle.alw_image.specs.Images.{node_count}
 use Rattle.alw_image.specs.Parameters.{Parameters}
 use Rattle.alw_model.specs.Messages.{is_fit}
-use Rattle.alw_model.specs.NodeStates.{NodeState, stamp_of, may_reach, may_deliver}
-use Rattle.alw_model.specs.NodeSteps.{Stepped, event_at}
-use Rattle.alw_model.specs.Machine.{MachineState, node_at, no_node, link_at, taken_by, is_enabled, is_within_limit, has_halted, stepped_by, step}
+use Rattle.alw_model.specs.NodeStates.{NodeState, stamp_of, may_deliver}
+use Rattle.alw_model.specs.Machine.{MachineState, node_at, no_node, link_at, taken_by, is_enabled, has_halted, stepped_by, step}
 use Rattle.alw_model.proofs.Journals.{and_parts, and_is}
 use Rattle.law_lines.specs.Links.{msgs_to}
 use Rattle.law_lines.proofs.Steps.{enabled_is}
@@ -29,11 +28,11 @@ use Rattle.law_order.proofs.LinksAfter.{link_is}
 use Rattle.law_order.specs.Aims.{IsAimed}
 use Rattle.alw_ready.specs.declared.rows.Row.{Row}
 use Rattle.alw_ready.specs.Rows.{instr_at, handle_at, delivery, no_row, row_at}
-use Rattle.alw_ready.specs.Fits.{may_happen, is_in_time, SaysBut, RowFitsBut, RowsFit}
+use Rattle.alw_ready.specs.Fits.{may_happen, is_in_time, RowFitsBut, RowsFit}
 use Rattle.alw_ready.specs.declared.changes.Happened.{Happened}
 use Rattle.alw_ready.specs.Changes.{is_wide_event, is_fed, is_fed_for, RowIsRenewed, RowsFitBut, EventIsTold}
-use Rattle.alw_ready.proofs.MainEvents.{stamp_above}
 use Rattle.alw_ready.proofs.Reach.{KeepsReach, event_keeps, reach_kept}
+use Rattle.law_order.proofs.Clocks.{stamp_above}
 
 -- ---- a delivery at a node in time
 

@@ -1,35 +1,30 @@
 -- Rows that fit a machine say its main events that may happen, in the schedule's order.
-use Rattle.std.proofs.Common.{◌≡◌, ℕ, zero, suc, ◌+◌, ◌-◌, ◌^◌, ◌<◌, ◌≤◌, ◌==◌, nat_lt, nat_le, Bool, true, false, cond, ◌&&◌, ◌||◌, Option, Some, None, List, [], ◌∷◌, ◌++◌, length, map, flat_map, filter, IsTrue, refl, sym, ap, subst, ◌∙◌, arith}
+use Rattle.std.proofs.Common.{◌≡◌, ℕ, zero, suc, ◌+◌, ◌-◌, ◌^◌, ◌<◌, ◌≤◌, ◌==◌, nat_lt, nat_le, Bool, true, false, cond, ◌||◌, List, [], ◌∷◌, ◌++◌, length, map, flat_map, filter, IsTrue, refl, sym, ap, subst, ◌∙◌, arith}
 use Rattle.std.specs.List.{list_any, range_with_len}
-use Rattle.std.proofs.lemmas.Bool.{true≢false, false≢true, ltb-true, leb-true, lt-ltb, or_cases, eqb-true, false_from_ne_true}
+use Rattle.std.proofs.lemmas.Bool.{true≢false, ltb-true, leb-true, lt-ltb, false_from_ne_true}
 use Rattle.std.proofs.lemmas.List.Elements.{filter-append}
 use Rattle.alw_num.specs.NodeSets.{Nodes, has_node, members, nodes_of}
 use Rattle.alw_num.specs.Weights.{digit, times}
-use Rattle.alw_num.proofs.Sets.{AscendsFrom, times_before, members_are}
+use Rattle.alw_num.proofs.Sets.{AscendsFrom, times_before, members_are, ascends_lower}
 use Rattle.alw_num.proofs.Weigh.{is_node, digit_same, digit_other}
-use Rattle.alw_msg.specs.declared.messages.Msg.{Msg}
 use Rattle.alw_msg.specs.declared.events.Event.{Event}
 use Rattle.alw_msg.specs.declared.events.Event.TheVariants.{Instr, Handle, Deliver, Evict}
 use Rattle.alw_msg.specs.Events.{node_of}
-use Rattle.alw_msg.specs.Lists.{is_nonempty, front}
+use Rattle.alw_msg.specs.Lists.{is_nonempty}
 use Rattle.alw_image.specs.declared.parts.Parts.{Parts}
 use Rattle.alw_image.specs.Images.{node_count}
 use Rattle.alw_image.specs.Parameters.{Parameters}
-use Rattle.alw_num.specs.Maps.{passes}
-use Rattle.alw_model.specs.NodeStates.{stamp_of, may, may_deliver}
-use Rattle.alw_model.specs.Machine.{MachineState, node_at, link_at, taken_by, is_enabled, is_within_limit, stamp_at, has_halted, main_events, goes_on}
+use Rattle.alw_model.specs.NodeStates.{may}
+use Rattle.alw_model.specs.Machine.{MachineState, node_at, taken_by, is_enabled, is_within_limit, has_halted, main_events, goes_on}
 use Rattle.alw_model.proofs.Journals.{and_parts, and_is}
 use Rattle.law_lines.proofs.Steps.{enabled_is}
 use Rattle.alw_ready.specs.declared.rows.Row.{Row}
 use Rattle.alw_ready.specs.Rows.{instr_at, handle_at, delivery, event_if, row_events, events_from, events_of, row_at}
-use Rattle.alw_ready.specs.Fits.{may_happen, is_in_time, SaysBut, RowFits, RowsFit, nobody}
+use Rattle.alw_ready.specs.Fits.{may_happen, is_in_time, SaysBut, RowsFit, nobody}
 use Rattle.alw_ready.specs.Changes.{ComesFromBelow}
+use Rattle.law_order.proofs.Clocks.{stamp_above}
 
 -- ---- numbers that pass a test
-
-ascends_lower : (m n : ℕ) (xs : List ℕ) → m ≤ n → AscendsFrom n xs → AscendsFrom m xs
-ascends_lower m n [] l a = tt
-ascends_lower m n (x ∷ xs) l (h, a) = (omega arith, a)
 
 module _ (keep : ℕ → Bool) where
   kept_ascends : (first n : ℕ) → AscendsFrom first (filter keep (range_with_len first n))
@@ -111,10 +106,6 @@ module _ (test : Event → Bool) (n : ℕ) where
       (λ x. here x ++ rest x) ∙ sym (filter-append test (node_events first) (flat_map node_events (range_with_len (first + 1) m)))
 
 -- ---- the machine
-
-pub stamp_above : (clock : ℕ) (taken : Option Msg) → clock < stamp_of clock taken
-stamp_above clock None = omega arith
-stamp_above clock (Some msg) = omega arith
 
 module _ (parts : Parts) (parameters : Parameters) (s : MachineState) where
   -- an event that may happen is of a node in time

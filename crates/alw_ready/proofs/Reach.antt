@@ -20,7 +20,6 @@ use Rattle.alw_msg.specs.declared.contexts.Status.TheVariants.{Ready, Waiting}
 use Rattle.alw_msg.specs.declared.messages.Msg.{Msg}
 use Rattle.alw_msg.specs.declared.events.Event.{Event}
 use Rattle.alw_msg.specs.declared.events.Event.TheVariants.{Instr, Handle, Deliver, Evict}
-use Rattle.alw_msg.specs.Events.{node_of}
 use Rattle.alw_msg.specs.Statuses.{waits_on}
 use Rattle.alw_msg.specs.Contents.{ToMemory, ToCache, RDATA, WDATA, INV, BUSY, Content, ForMemory, ForCache, content, brings_line}
 use Rattle.alw_image.specs.declared.parts.Parts.{Parts}
@@ -31,7 +30,7 @@ use Rattle.alw_model.specs.Caches.{Copy, Cache, Transaction, set_of, copy_at, gr
 use Rattle.alw_model.specs.Contexts.{Slot, slot_at, no_slot, running, ran, woken, wake, is_held}
 use Rattle.alw_model.specs.NodeStates.{NodeState, home_at, with_home, place_of, may, may_deliver, may_reach, may_reach_cache}
 use Rattle.alw_model.specs.ProcessorSteps.{status_after, written, slots_after}
-use Rattle.alw_model.specs.NodeSteps.{Stepped, take_turn, miss, access, instr_by, instr, at_home, at_cache, deliver_by, deliver, handle_by, handle_front, evict_from, event_at}
+use Rattle.alw_model.specs.NodeSteps.{take_turn, miss, access, instr_by, instr, at_home, at_cache, deliver_by, deliver, handle_by, handle_front, evict_from, event_at}
 use Rattle.alw_model.proofs.Journals.{and_parts}
 use Rattle.law_lines.proofs.Instructions.{kept_is}
 use Rattle.law_lines.proofs.Steps.{not_is}

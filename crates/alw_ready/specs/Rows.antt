@@ -1,6 +1,5 @@
 -- What is kept of each node, and the main events that it says are enabled within the limit.
 use Rattle.std.specs.Prelude.{◌≡◌, ℕ, ◌+◌, ◌≤◌, Bool, false, cond, Some, List, [], ◌∷◌, ◌++◌, map, length, replicate, slice_get, slice_index_or}
-use Rattle.alw_num.specs.declared.addresses.NodeNo.{NodeNo}
 use Rattle.alw_num.specs.NodeSets.{members, count_nodes, nodes_of}
 use Rattle.alw_num.specs.Weights.{digit}
 use Rattle.alw_msg.specs.declared.events.Event.{Event}

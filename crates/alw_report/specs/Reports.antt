@@ -1,6 +1,6 @@
 -- The report's text, line by line, from what it tells; and what is told of a run. Lines end in LF, decimal numbers have no leading zeros, and
 -- words have eight hexadecimal digits.
-use Rattle.std.specs.Prelude.{ℕ, List, [], ◌∷◌, ◌++◌, length, codes}
+use Rattle.std.specs.Prelude.{ℕ, List, ◌++◌, length, codes}
 use Rattle.std.specs.Fmt.{decimal}
 use Rattle.std.specs.List.{flat_map}
 use Rattle.alw_num.specs.declared.states.State.{State}

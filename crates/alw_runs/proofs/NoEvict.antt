@@ -20,7 +20,7 @@ use Rattle.alw_model.specs.declared.ends.Ended.TheVariants as ended
 use Rattle.alw_model.specs.Messages.{is_fit}
 use Rattle.alw_model.specs.NodeStates.{NodeState, stamp_of, may_reach, may_deliver, may}
 use Rattle.alw_model.specs.NodeSteps.{deliver_by, deliver, event_at, clocked, Stepped}
-use Rattle.alw_model.specs.Machine.{MachineState, End, machine_start, node_at, link_at, taken_by, stamp_at, is_enabled, is_within_limit, stepped_by, after_step, step, after, state, IsNext, AreLegal, IsLegal, main_events, any_trapped, has_halted, is_settled, goes_on, end_of}
+use Rattle.alw_model.specs.Machine.{MachineState, machine_start, node_at, link_at, taken_by, stamp_at, is_enabled, is_within_limit, stepped_by, after_step, step, after, state, IsNext, AreLegal, IsLegal, main_events, any_trapped, has_halted, is_settled, goes_on, end_of}
 use Rattle.alw_model.specs.Machine as machine
 use Rattle.alw_model.specs.Runs.{Moment, moment_of, number_of, moments_from, moments, turn_in, turns_of, prints_of}
 use Rattle.alw_model.specs.Flat.{print_of}

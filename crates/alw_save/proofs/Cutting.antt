@@ -1,22 +1,19 @@
 -- What a cut of a legal journal is, and what is refused.
 use Rattle.std.proofs.Common.{◌≡◌, ℕ, ◌<◌, ◌≤◌, nat_le, Bool, true, false, Result, Ok, Err, List, [], ◌∷◌, length, refl, sym, ap, subst, ◌∙◌, arith}
 use Rattle.alw_msg.specs.declared.events.Entry.{Entry}
-use Rattle.alw_image.specs.declared.parts.Parts.{Parts}
-use Rattle.alw_image.specs.Parameters.{Parameters}
-use Rattle.alw_model.specs.Machine.{IsLegal, state}
+use Rattle.alw_model.specs.Machine.{IsLegal}
 use Rattle.law_order.specs.Orders.{kept_by, later_than}
 use Rattle.law_order.proofs.Reached.{cut_whole, cut_state, cut_front}
-use Rattle.alw_mesh.specs.Histories.{History, IsRun, Fits}
+use Rattle.alw_mesh.specs.Histories.{History, Fits}
 use Rattle.alw_mesh.specs.declared.errors.FitErr.{FitErr}
 use Rattle.alw_mesh.specs.declared.errors.FitErr.TheVariants as fits
 use Rattle.alw_mesh.proofs.Journals.{journal_fits}
-use Rattle.alw_replay.specs.declared.replays.Replayed.{Replayed}
 use Rattle.alw_replay.specs.Replays.{Replays, IsReplayed}
 use Rattle.alw_replay.proofs.Kept.{first_illegal, all_legal, all_taken, legal_taken}
 use Rattle.alw_trace.specs.declared.values.Trace.{Trace}
 use Rattle.alw_save.specs.declared.faults.CutErr.{CutErr}
 use Rattle.alw_save.specs.declared.faults.CutErr.TheVariants.{DoesNotFit, NotLegal, NoMemory}
-use Rattle.alw_save.specs.Cuts.{TraceIsSound, JournalIsCut, IsNoCut, LeavesAll, LeavesCut, cut_machine, no_cut_of}
+use Rattle.alw_save.specs.Cuts.{TraceIsSound, JournalIsCut, IsNoCut, LeavesAll, LeavesCut, no_cut_of}
 
 -- a cut that keeps as many entries as there are keeps them all
 few_kept : (at : ℕ) (entries : List Entry) → length (kept_by at entries) ≤ length entries

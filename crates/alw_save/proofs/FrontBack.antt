@@ -1,5 +1,5 @@
 -- A text has one front of a trace under a title, and where it has one, it is refused for want of memory alone.
-use Rattle.std.proofs.Common.{◌≡◌, ℕ, Some, None, List, ◌++◌, refl, sym, ap, subst, ◌∙◌, append_assoc}
+use Rattle.std.proofs.Common.{◌≡◌, ℕ, List, ◌++◌, refl, sym, ap, subst, ◌∙◌, append_assoc}
 use Rattle.alw_msg.specs.declared.events.Entry.{Entry}
 use Rattle.alw_image.specs.declared.parts.Parts.{Parts}
 use Rattle.alw_image.specs.Parameters.{Parameters}
@@ -10,24 +10,16 @@ use Rattle.alw_report.specs.Reports.{params_line}
 use Rattle.alw_trace.specs.declared.values.Trace.{Trace}
 use Rattle.alw_trace.specs.declared.faults.TextErr.{TextErr}
 use Rattle.alw_trace.specs.declared.faults.TextErr.TheVariants.{Syntax, Image, Range, NoMemory}
-use Rattle.alw_trace.specs.Texts.{image_text, entries_text, trace_text}
-use Rattle.alw_trace.specs.Lines.{TraceLines, AreBytes, IsFrontFault, SaysFront, trace_lines}
+use Rattle.alw_trace.specs.Texts.{image_text, entries_text}
+use Rattle.alw_trace.specs.Lines.{TraceLines, AreBytes, IsFrontFault, SaysFront}
 use Rattle.alw_trace.specs.Readings.{trace_tests}
 use Rattle.alw_trace.specs.Fronts.{front_text, IsFrontOf, IsNoFront}
 use Rattle.alw_trace.proofs.OneFront.{image_cut, params_cut, journal_cut, no_front_fault}
-use Rattle.alw_trace.proofs.OneTrace.{lines_in, trace_form, read_back}
-
-same_lines : (i j : List ℕ) (p q : Parameters) (x y : List Entry) → i ≡ j → p ≡ q → x ≡ y
-    → ◌≡◌ {A = TraceLines} (record { image = i; params = p; journal = x }) (record { image = j; params = q; journal = y })
-same_lines i j p q x y e f g = cc
+use Rattle.alw_trace.proofs.OneTrace.{lines_in, trace_form, read_back, same_lines, text-is}
 
 same_traces : (i j : Parts) (p q : Parameters) (x y : List Entry) → i ≡ j → p ≡ q → x ≡ y
     → ◌≡◌ {A = Trace} (record { image = i; params = p; journal = x }) (record { image = j; params = q; journal = y })
 same_traces i j p q x y e f g = cc
-
-said : (t : Trace) → trace_text t ≡ trace_lines (lines_in t)
-unfolding trace_text trace_lines
-said t = refl
 
 module _ (title text : List ℕ) where
   -- the lines that a front says
@@ -70,7 +62,7 @@ module _ (title text : List ℕ) where
         lines_in t,
         record {
           form = trace_form t is.is is.types;
-          text_is = said t;
+          text_is = text-is t;
           image = ap (λ (lines : TraceLines). image_fault lines.image) same.0 ∙ wrong.wrong;
         },
       )
@@ -80,7 +72,7 @@ module _ (title text : List ℕ) where
         lines_in t,
         record {
           form = trace_form t is.is is.types;
-          text_is = said t;
+          text_is = text-is t;
           image = has_no_fault t.image is.is.image is.types.0;
         },
         ap (λ (lines : TraceLines). first_unfit (trace_tests (node_count (image_in lines.image)) lines)) same.0 ∙ wrong.wrong.1,

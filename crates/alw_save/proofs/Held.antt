@@ -1,5 +1,5 @@
 -- What a machine's maps hold: copies in sets that there are, and transactions on lines that slots wait on.
-use Rattle.std.proofs.Common.{◌≡◌, ℕ, ◌+◌, ◌*◌, ◌/◌, ◌%◌, ◌<◌, ◌≤◌, true, nat_lt, nat_le, IsTrue, Option, None, Some, List, length, refl, sym, ap, subst, ◌∙◌, arith}
+use Rattle.std.proofs.Common.{◌≡◌, ℕ, ◌+◌, ◌*◌, ◌<◌, ◌≤◌, true, nat_lt, nat_le, IsTrue, Option, None, Some, List, refl, sym, ap, subst, ◌∙◌, arith}
 use Rattle.std.specs.List.{list_all}
 use Rattle.std.proofs.lemmas.Bool.Decides.{nat_tests}
 use Rattle.std.proofs.lemmas.Bool.{eqb-true, false≢true}
@@ -10,14 +10,13 @@ use Rattle.std.specs.Option.{option_map}
 use Rattle.std.specs.Prelude.{is_some, IfSome}
 use Rattle.alw_num.specs.declared.addresses.LineNo.{LineNo}
 use Rattle.alw_ctx.specs.Residents.{number_of}
-use Rattle.alw_num.specs.Maps.{Map, found, value_at}
+use Rattle.alw_num.specs.Maps.{value_at}
 use Rattle.alw_msg.specs.declared.contexts.Status.{Status}
 use Rattle.alw_msg.specs.declared.contexts.Status.TheVariants.{Ready, Waiting, Halted, Trapped}
 use Rattle.alw_msg.specs.Statuses.{waits_on, waited}
 use Rattle.alw_image.specs.Images.{node_count, line_count}
 use Rattle.alw_model.specs.Caches.{Copy, Transaction, set_of}
 use Rattle.alw_model.specs.Contexts.{Slot, slot_at}
-use Rattle.alw_model.specs.Machine.{state, node_at}
 use Rattle.alw_model.specs.MachineInvariant.{transaction_stands, caches_rightly}
 use Rattle.alw_model.proofs.Journals.{and_parts}
 use Rattle.law_machine.proofs.Bound.{sets_range}
@@ -25,13 +24,13 @@ use Rattle.law_machine.proofs.MachineRuns.{always_kept}
 use Rattle.law_machine.proofs.MachineFacts.{always_invariant}
 use Rattle.std.proofs.lemmas.Nat.{mul-le}
 use Rattle.alw_mesh.proofs.OneNode.{few_nodes}
-use Rattle.alw_mesh.specs.Histories.{History, IsRun, state_of}
+use Rattle.alw_mesh.specs.Histories.{History, IsRun}
 use Rattle.alw_mesh.specs.Readings.{node_in, slot_of}
 use Rattle.alw_proc.specs.Openings.{opener_of}
 use Rattle.alw_proc.specs.Processors.{mode_of, cached_of}
 use Rattle.alw_save.specs.Waiting.{lowest_of, waited_at, transaction_of, copy_of}
 use Rattle.alw_save.proofs.Keys.{all_found}
-use Rattle.alw_save.proofs.Waits.{is_at_most, lowest_first, lowest_is, IsOne}
+use Rattle.alw_save.proofs.Waits.{is_at_most, lowest_first, lowest_is}
 
 -- a slot that waits on a line waits on it alone
 waited_is : (line : ℕ) (status : Status) → waits_on line status ≡ true → waited status ≡ Some line

@@ -1,23 +1,21 @@
 -- What bytes are restored to, or why they aren't.
-use Rattle.std.proofs.Common.{◌≡◌, ℕ, ◌+◌, ◌≤◌, true, Result, Ok, Err, Option, None, Some, List, ◌++◌, codes, refl, sym, ap, subst, ◌∙◌}
-use Rattle.alw_msg.specs.declared.events.Entry.{Entry}
-use Rattle.alw_image.specs.declared.parts.Parts.{Parts}
+use Rattle.std.proofs.Common.{◌≡◌, ℕ, ◌+◌, ◌≤◌, true, Ok, Err, Some, List, ◌++◌, codes, refl, sym, ap, subst, ◌∙◌}
 use Rattle.alw_image.specs.Images.{node_count}
 use Rattle.alw_image.specs.Numbers.{HasWords}
 use Rattle.alw_image.specs.Parameters.{may_point}
 use Rattle.alw_model.specs.Machine.{state}
-use Rattle.alw_mesh.specs.Histories.{History, IsRun, state_of, stamps_of}
+use Rattle.alw_mesh.specs.Histories.{History, state_of, stamps_of}
 use Rattle.alw_mesh.specs.Limits.{most_steps}
 use Rattle.alw_report.specs.Reports.{params_line}
 use Rattle.alw_trace.specs.declared.values.Trace.{Trace}
 use Rattle.alw_trace.specs.declared.fronts.Front.{Front}
 use Rattle.alw_trace.specs.declared.faults.TextErr.{TextErr}
 use Rattle.alw_trace.specs.declared.faults.TextErr.TheVariants as text
-use Rattle.alw_trace.specs.Fronts.{front_text, first_behind, IsFrontOf, IsFrontRead, IsNoFront}
+use Rattle.alw_trace.specs.Fronts.{front_text, IsFrontOf, IsFrontRead, IsNoFront}
 use Rattle.alw_save.specs.declared.faults.CutErr.{CutErr}
 use Rattle.alw_save.specs.declared.faults.CutErr.TheVariants as cuts
 use Rattle.alw_save.specs.declared.faults.RestoreErr.TheVariants.{StateDiffers}
-use Rattle.alw_save.specs.Cuts.{LeavesAll, whole_of}
+use Rattle.alw_save.specs.Cuts.{LeavesAll}
 use Rattle.alw_save.specs.Checkpoints.{save_title, state_part, checkpoint_text}
 use Rattle.alw_save.specs.Differences.{Differs, DiffersAt, ended_lines}
 use Rattle.alw_save.specs.Restoring.{with_evict, Restores, fault_of_text, fault_of_cut}

@@ -1,8 +1,6 @@
 -- A trace cut at a stamp (consistent cuts by Lamport's clocks, 1978).
 use Rattle.std.specs.Prelude.{◌≡◌, ℕ, ◌<◌, ◌≤◌, Result, Ok, Err, List, ◌++◌}
 use Rattle.alw_msg.specs.declared.events.Entry.{Entry}
-use Rattle.alw_image.specs.declared.parts.Parts.{Parts}
-use Rattle.alw_image.specs.Parameters.{Parameters}
 use Rattle.alw_model.specs.Machine.{IsLegal, state}
 use Rattle.law_order.specs.Orders.{kept_by, later_than}
 use Rattle.alw_mesh.specs.Histories.{History, IsRun, stamps_of}

@@ -1,5 +1,5 @@
 -- The lines of a state's text, one definition a kind. Lines end in LF, decimal numbers have no leading zeros, and words have eight hexadecimal digits.
-use Rattle.std.specs.Prelude.{ℕ, Bool, cond, Option, None, Some, List, [], ◌∷◌, ◌++◌, drop, codes}
+use Rattle.std.specs.Prelude.{ℕ, Bool, cond, Option, List, [], ◌∷◌, ◌++◌, drop, codes}
 use Rattle.std.specs.Fmt.{decimal}
 use Rattle.std.specs.List.{flat_map}
 use Rattle.alw_num.specs.declared.addresses.Line.{Line}

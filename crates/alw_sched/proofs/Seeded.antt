@@ -19,6 +19,7 @@ use Rattle.alw_model.specs.Contexts.{all_halted}
 use Rattle.std.proofs.lemmas.Bool.Decides.{nat_tests}
 use Rattle.alw_num.specs.Draws.{drawn, drawn_number}
 use Rattle.alw_sched.specs.Schedules.{end_in, picked, is_evicted, asked_node, asked_eviction, EventIsDrawn, EventsAreDrawn, MachineIsSeeded, IsSeededRun}
+use Rattle.std.proofs.lemmas.Option.{same_Some}
 
 -- ---- one event more
 
@@ -29,9 +30,6 @@ drawn_more h x (first ∷ rest) mid y event are next = (are.0, drawn_more (grown
 
 -- ---- one run for a seed
 
-some_is : (a b : Event) → Some a ≡ Some b → a ≡ b
-some_is a b same = cc
-
 -- two runs from one place, each up to an end, are one
 alike : (h : History) (x : ℕ) (events others : List Event) (a b : History) (y z : ℕ) → EventsAreDrawn h x events a y → EventsAreDrawn h x others b z →
     (end_in a ≡ None → ⊥) → (end_in b ≡ None → ⊥) → a ≡ b
@@ -39,7 +37,7 @@ alike h x [] [] a b y z here there ended also = sym here.0 ∙ there.0
 alike h x [] (other ∷ more) a b y z here there ended also = absurd (ended (ap end_in (sym here.0) ∙ there.0.going))
 alike h x (event ∷ rest) [] a b y z here there ended also = absurd (also (ap end_in (sym there.0) ∙ here.0.going))
 alike h x (event ∷ rest) (other ∷ more) a b y z here there ended also =
-    let same = some_is event other (sym here.0.pick ∙ there.0.pick) in
+    let same = same_Some event other (sym here.0.pick ∙ there.0.pick) in
     alike (grown h other) (drawn x) rest more a b y z (subst (λ (e : Event). EventsAreDrawn (grown h e) (drawn x) rest a y) same here.1) there.1 ended also
 
 pub one_seeded : (before : History) (seed : ℕ) (a b : History) → MachineIsSeeded before seed a → MachineIsSeeded before seed b →
@@ -82,7 +80,7 @@ all_kept test (x ∷ xs) all = all_if (test x) x (filter test xs) all.0 (all_kep
 
 at_place : (xs : List Event) (k : ℕ) (event : Event) → AllByRecursion IsMain xs → slice_get xs k ≡ Some event → IsMain event
 at_place [] k event all got = absurd (cc)
-at_place (x ∷ xs) zero event all got = subst IsMain (some_is x event got) all.0
+at_place (x ∷ xs) zero event all got = subst IsMain (same_Some x event got) all.0
 at_place (x ∷ xs) (suc k) event all got = at_place xs k event all.1 got
 
 -- a main event that may be next is no eviction

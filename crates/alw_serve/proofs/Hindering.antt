@@ -1,25 +1,22 @@
 -- What stands against a context's instruction: what the machine says of it, and what the flat memory does.
-use Rattle.std.proofs.Common.{◌≡◌, ◌≢◌, ℕ, zero, suc, ◌*◌, ◌/◌, ◌%◌, ◌<◌, ◌≤◌, ◌==◌, not, Bool, true, false, Option, Some, None, is_some, inl, inr, List, [], ◌∷◌, length, map, refl, sym, subst, ap, ◌∙◌, arith}
-use Rattle.std.proofs.Common.{length-append}
+use Rattle.std.proofs.Common.{◌≡◌, ◌≢◌, ℕ, ◌*◌, ◌/◌, ◌%◌, ◌<◌, ◌≤◌, ◌==◌, not, Bool, true, false, Option, Some, None, is_some, inl, inr, List, length, refl, sym, subst, ap, ◌∙◌, arith}
 use Rattle.std.specs.Option.{option_eq}
 use Rattle.std.proofs.lemmas.Bool.{false≢true, eq-eqb, eqb-true}
 use Rattle.std.proofs.lemmas.List.{get_or_past}
 use Rattle.std.proofs.lemmas.Nat.{row_below_turned}
-use Rattle.std.proofs.Math.Nat.{suc-mul}
 use Rattle.sparc_table.specs.Registers.{start_of}
 use Rattle.alw_image.specs.Images.{node_count, context_count}
 use Rattle.alw_msg.specs.declared.contexts.Status.{Status}
 use Rattle.alw_msg.specs.declared.contexts.Status.TheVariants as statuses
 use Rattle.alw_msg.specs.Statuses.{is_ready, has_trapped, waits_on}
 use Rattle.alw_model.specs.Contexts.{running}
-use Rattle.alw_model.specs.NodeStates.{NodeState}
 use Rattle.alw_model.specs.Machine.{any_trapped, is_settled}
 use Rattle.alw_model.specs.Flat.{Flat, Context, context_at}
-use Rattle.alw_model.specs.Runs.{flat_status, flat_context, flat_view}
+use Rattle.alw_model.specs.Runs.{flat_status, flat_view}
 use Rattle.law_machine.specs.FlatRuns.{contexts_of}
 use Rattle.law_machine.proofs.FlatSlots.{runs_ready, ready_is}
-use Rattle.law_machine.proofs.FlatStarts.{flat_view_is}
-use Rattle.law_machine.proofs.FlatViews.{HaveSlots, own_length, slots_behind}
+use Rattle.law_machine.proofs.FlatStarts.{flat_view_is, contexts_length}
+use Rattle.law_machine.proofs.FlatViews.{HaveSlots}
 use Rattle.law_machine.proofs.MachineRuns.{IsKept, always_kept}
 use Rattle.law_machine.proofs.MainEvents.{ready_runs}
 use Rattle.law_turns.proofs.Ends.{nodes_trapped, trapped_among, trapped_one}
@@ -29,10 +26,6 @@ use Rattle.alw_mesh.specs.Readings.{turns_in, flat_in, node_in, slot_of}
 use Rattle.alw_serve.specs.Serving.{IsNotReady}
 
 -- ---- numbers
-
-some_contexts : (nodes count context : ℕ) → context < nodes * count → 1 ≤ count
-some_contexts nodes zero context here = absurd (omega arith)
-some_contexts nodes (suc count) context here = omega arith
 
 -- a context's node exists
 pub node_here : (nodes count context : ℕ) → context < nodes * count → context / count < nodes
@@ -59,11 +52,6 @@ pub option_not : (o : Option ℕ) (x : ℕ) (b : Bool) → b ≡ not (option_eq 
 option_not o x b e holds is = not_false b holds (e ∙ (ap (λ (u : Option ℕ). not (option_eq (λ (a b : ℕ). a == b) u (Some x))) is ∙ ap not (eq-eqb x x refl)))
 
 -- ---- on the flat memory
-
-contexts_length : (count : ℕ) (nodes : List NodeState) → HaveSlots count nodes → length (contexts_of nodes) ≡ length nodes * count
-contexts_length count [] have = omega arith
-contexts_length count (node ∷ rest) have =
-    omega (arith, length-append (map flat_context node.slots) (contexts_of rest), own_length count node rest have, contexts_length count rest (slots_behind count node rest have), suc-mul (length rest) count)
 
 -- a status that isn't Ready isn't on the flat memory either, but for one that waits
 not_ready : (status : Status) → is_ready status ≡ false → ((line : ℕ) → waits_on line status ≡ true → ⊥) → is_ready (flat_status status) ≡ false

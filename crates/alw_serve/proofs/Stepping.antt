@@ -34,7 +34,6 @@ use Rattle.law_turns.specs.Turns.{IsAtRest, greatest_clock, turn_events, turns_f
 use Rattle.law_turns.specs.Limits.{IsKeptBack}
 use Rattle.law_turns.proofs.Draining.{quiet_own}
 use Rattle.law_turns.specs.Orders.{is_quiet, AllQuiet, entry_for, HasQuiet}
-use Rattle.law_turns.proofs.Fronts.{all_append}
 use Rattle.law_turns.proofs.Scheduled.{legal_before, legal_behind}
 use Rattle.law_turns.proofs.Serving.{can_run}
 use Rattle.law_turns.proofs.Turns.{state_more, turns_of_more}
@@ -45,6 +44,7 @@ use Rattle.alw_serve.specs.declared.errors.Hindrance.{Hindrance}
 use Rattle.alw_serve.specs.declared.errors.Hindrance.TheVariants.{NotReady, NotCurrent, AboveLimit}
 use Rattle.alw_serve.specs.Serving.{with_more, GoesOnBy, TurnIsTaken, TurnIsLate, TurnIsHindered, IsHindered, IsNotReady, MayGo, IsLate, Hinders, HasSettled}
 use Rattle.alw_serve.proofs.Turning.{IsBegun, quiet_turns, quiet_serve, no_turn, kept_back, moves_so, turn_so, begun_so, above_so, none_quiet}
+use Rattle.alw_num.proofs.Alls.{all_append}
 
 -- the node of a context
 abbrev pub node_for : History → ℕ → ℕ

@@ -20,7 +20,6 @@ use Rattle.law_machine.proofs.FlatStarts.{turns_are_ready}
 use Rattle.law_turns.specs.Turns.{IsAtRest, greatest_clock, turn_events, NoneTrapsEarly, turns_from, serves, AllServe, ServesTurns, IsServedRun}
 use Rattle.law_turns.specs.Limits.{IsKeptBack, StopsAtLimit}
 use Rattle.law_turns.proofs.Ends.{start_clock, start_rests}
-use Rattle.law_turns.proofs.Fronts.{all_append, all_map}
 use Rattle.law_turns.proofs.Runs.{ends_so}
 use Rattle.law_turns.proofs.Scheduled.{serves_keeps, legal_before, scheduled_so}
 use Rattle.law_turns.proofs.Turns.{state_more}
@@ -36,6 +35,7 @@ use Rattle.alw_serve.specs.declared.errors.ServeErr.TheVariants as errors
 use Rattle.alw_serve.specs.Serving.{Serves, TakesTurns, IsOver, HasTaken, IsNotReady, IsUnfinished, StandsAgainst, TurnIsTaken, TurnIsHindered, TurnIsLate, GoesOnBy}
 use Rattle.alw_serve.proofs.Listing.{serves_push, served_clock, early_push, ready_push}
 use Rattle.alw_serve.proofs.Stepping.{alone_is}
+use Rattle.alw_num.proofs.Alls.{all_append, all_weaker}
 
 -- the machine of a journal that was made event by event
 abbrev pub made_of : Parts → Parameters → List Entry → History
@@ -74,7 +74,7 @@ module _ (image : Parts) (parameters : Parameters) where
     one_more far t = record {
       taken = sym (ap turns_in t.goes.after_is) ∙ (t.goes.turns ∙ ap (λ (ts : List ℕ). ts ++ c ∷ []) has.taken);
       evicts = all_append (λ (entry : Entry). is_evict entry.event ≡ false) journal t.more has.evicts
-          (all_map (λ (entry : Entry). serves (c / image.contexts) entry.event ≡ true) (λ (entry : Entry). is_evict entry.event ≡ false) (λ entry. serves_keeps (c / image.contexts) entry.event) t.more t.goes.own);
+          (all_weaker (λ (entry : Entry). serves (c / image.contexts) entry.event ≡ true) (λ (entry : Entry). is_evict entry.event ≡ false) (λ entry. serves_keeps (c / image.contexts) entry.event) t.more t.goes.own);
       early = early_push image done c has.early (λ other. ap (λ (ts : List ℕ). has_trapped (context_at (flat_after image ts) other).status) (sym has.taken) ∙ t.calm other);
       served = λ one.
           let s = has.served one in

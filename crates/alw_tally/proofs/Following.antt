@@ -1,12 +1,12 @@
 -- What remains after an event, by what the event did.
-use Rattle.std.proofs.Common.{◌≡◌, ℕ, ◌+◌, ◌-◌, ◌<◌, ◌≤◌, ◌^◌, Bool, true, false, ◌==◌, ◌&&◌, cond, not, nat_lt, Option, Some, None, IsTrue, find, List, [], ◌∷◌, length, refl, sym, ap, ◌∙◌, ◌⊎◌, inl, inr, arith}
+use Rattle.std.proofs.Common.{◌≡◌, ℕ, ◌+◌, ◌-◌, ◌<◌, ◌≤◌, ◌^◌, Bool, true, false, ◌==◌, ◌&&◌, cond, not, nat_lt, Option, Some, None, IsTrue, List, [], ◌∷◌, length, refl, sym, ap, ◌∙◌, ◌⊎◌, inl, inr, arith}
 use Rattle.std.proofs.lemmas.Bool.{true≢false, ltb-true, cases_lt}
 use Rattle.std.proofs.lemmas.List.{length-append}
 use Rattle.std.proofs.Math.ListN.{get_or-eq_default}
 use Rattle.alw_num.specs.declared.addresses.LineNo.{LineNo}
 use Rattle.alw_num.specs.declared.states.Mode.{Mode}
 use Rattle.alw_num.specs.Weights.{digit, weigh}
-use Rattle.alw_num.proofs.Weigh.{weigh-same}
+use Rattle.alw_num.proofs.Weigh.{weigh-same, weigh-map}
 use Rattle.sparc_table.specs.declared.registers.Regs.{Regs}
 use Rattle.sparc_table.specs.declared.outcomes.Need.{Need}
 use Rattle.sparc_table.specs.declared.outcomes.Need.TheVariants as needs
@@ -37,18 +37,10 @@ use Rattle.alw_model.specs.Machine.{MachineState, no_node, node_at, taken_by, is
 use Rattle.alw_model.proofs.Journals.{and_parts}
 use Rattle.alw_tally.specs.declared.remains.Remains.{Remains}
 use Rattle.alw_tally.specs.Remaining.{live_in, trapped_in, packets_in, remains_of, left_by, remains_after, MayLeave, MayFollow, AreFew}
-use Rattle.alw_tally.proofs.Sums.{weigh-map, weigh_set, weigh_at, weigh_kept}
+use Rattle.alw_tally.proofs.Sums.{weigh_set, weigh_at, weigh_kept}
+use Rattle.alw_num.proofs.Lists.{found_passes}
 
 -- ---- slots that do something else
-
--- the first that passes a test passes it
-found_passes : (p : ℕ → Bool) (xs : List ℕ) (x : ℕ) → find p xs ≡ Some x → p x ≡ true
-found_passes p [] x e = absurd (cc)
-found_passes p (y ∷ ys) x e = go (p y) refl e (found_passes p ys x)
-  where
-    go : (b : Bool) → p y ≡ b → cond b (Some y) (find p ys) ≡ Some x → (find p ys ≡ Some x → p x ≡ true) → p x ≡ true
-    go true here f next = let same : y ≡ x = cc in rw (← same) here
-    go false here f next = next f
 
 ready_is : (status : Status) → is_ready status ≡ true → status ≡ Ready
 ready_is Ready is = refl

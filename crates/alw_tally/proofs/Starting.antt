@@ -7,7 +7,7 @@ use Rattle.std.proofs.lemmas.Bool.{eqb-true}
 use Rattle.std.proofs.lemmas.List.Kept.{AllPairs-from_increasing}
 use Rattle.alw_num.specs.declared.addresses.NodeNo.{NodeNo}
 use Rattle.alw_num.specs.Weights.{digit, weigh, times}
-use Rattle.alw_num.proofs.Weigh.{is_node, digit_same, digit_other, weigh-same, weigh-both, weigh-none}
+use Rattle.alw_num.proofs.Weigh.{is_node, digit_same, digit_other, weigh-same, weigh-both, weigh-none, weigh-map}
 use Rattle.alw_msg.specs.Statuses.{is_halted, has_trapped}
 use Rattle.alw_image.specs.declared.parts.Parts.{Parts}
 use Rattle.alw_image.specs.Images.{IsImage, IsStart, node_count, context_started, start_in}
@@ -15,7 +15,6 @@ use Rattle.alw_model.specs.Contexts.{slot_start, status_start}
 use Rattle.alw_model.specs.NodeStates.{node_start}
 use Rattle.alw_model.specs.Machine.{machine_start}
 use Rattle.alw_model.proofs.Journals.{and_parts}
-use Rattle.alw_tally.proofs.Sums.{weigh-map}
 use Rattle.alw_tally.specs.Remaining.{live_in, trapped_in, remains_of}
 
 -- a number stands once among those of a range that it is in

@@ -1,10 +1,6 @@
 -- Laws of the weight of a list: of a list of images, and of one member changed.
-use Rattle.std.proofs.Common.{◌≡◌, ℕ, zero, suc, ◌+◌, ◌<◌, ◌≤◌, Bool, true, false, cond, List, [], ◌∷◌, length, get_or, set, map, refl, ap, arith}
+use Rattle.std.proofs.Common.{◌≡◌, ℕ, zero, suc, ◌+◌, ◌<◌, ◌≤◌, Bool, true, false, cond, List, [], ◌∷◌, length, get_or, set, refl, ap, arith}
 use Rattle.alw_num.specs.Weights.{digit, weigh}
-
-pub weigh-map : {A B : Type 0} (f : B → ℕ) (g : A → B) (xs : List A) → weigh f (map g xs) ≡ weigh (λ x. f (g x)) xs
-weigh-map f g [] = refl
-weigh-map f g (x ∷ rest) = ap (λ n. f (g x) + n) (weigh-map f g rest)
 
 counted : (b : Bool) (n : ℕ) → digit b + n ≡ cond b (1 + n) n
 counted true n = refl

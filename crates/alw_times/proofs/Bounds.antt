@@ -15,6 +15,7 @@ use Rattle.alw_times.specs.declared.costs.Costs.{Costs}
 use Rattle.alw_times.specs.declared.happenings.TimedMoment.{TimedMoment}
 use Rattle.alw_times.specs.Times.{Times, times_start, time_at, queue_at, first_time, begin_by, arrival_of, woken_at, work_before, start_by, processors_after, controllers_after, arrivals_taken, packets_taken, packets_given, outgoing_at, sent, leaves_at, taken_after, left_by}
 use Rattle.alw_times.specs.Within.{AreWithin, QueuesAreWithin, TimesAreWithin}
+use Rattle.alw_num.proofs.Alls.{all_weaker}
 
 -- ---- lists whose members all have a property
 
@@ -42,10 +43,6 @@ module _ {X : Type 0} (P : X → Type 0) where
   all_behind : (xs : List X) → AllByRecursion P xs → AllByRecursion P (behind xs)
   all_behind [] all = tt
   all_behind (x ∷ xs) all = all.1
-
-all_weaker : {X : Type 0} (P Q : X → Type 0) → ((x : X) → P x → Q x) → (xs : List X) → AllByRecursion P xs → AllByRecursion Q xs
-all_weaker P Q f [] all = tt
-all_weaker P Q f (x ∷ xs) all = (f x all.0, all_weaker P Q f xs all.1)
 
 -- ---- times and queues
 

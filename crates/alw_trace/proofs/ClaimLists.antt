@@ -11,7 +11,7 @@ use Rattle.alw_image.specs.declared.parts.Parts.{Parts}
 use Rattle.alw_image.specs.Images.{line_count}
 use Rattle.alw_image.specs.Faults.{first_unfit, is_above}
 use Rattle.alw_trace.specs.Readings.{tested, fits_run, is_other, run_tests, fits_print, fits_word, is_shared, word_tests, most_turns, IsSharedAddress}
-use Rattle.alw_trace.proofs.RowReads.{all_append}
+use Rattle.alw_num.proofs.Alls.{all_append}
 
 -- ---- tests that are all passed
 

@@ -1,5 +1,5 @@
 -- What is read of the front of a trace.
-use Rattle.std.proofs.Common.{◌≡◌, ℕ, ◌+◌, ◌<◌, ◌^◌, Ok, Err, Result, IfOk, IfErr, List, ◌++◌, length, sym, ap, subst, ◌∙◌, append_assoc, arith}
+use Rattle.std.proofs.Common.{◌≡◌, ℕ, ◌+◌, ◌<◌, ◌^◌, List, ◌++◌, length, sym, ap, subst, ◌∙◌, append_assoc, arith}
 use Rattle.alw_msg.specs.declared.events.Entry.{Entry}
 use Rattle.alw_image.specs.Images.{spelling}
 use Rattle.alw_image.specs.Numbers.{HasWords}
@@ -10,7 +10,7 @@ use Rattle.alw_trace.specs.declared.faults.TextErr.{TextErr}
 use Rattle.alw_trace.specs.declared.faults.TextErr.TheVariants.{Syntax, Image, Range, NoMemory}
 use Rattle.alw_trace.specs.Texts.{image_text, entries_text}
 use Rattle.alw_trace.specs.Lines.{TraceLines, IsFrontFault, SaysFront, behind_image}
-use Rattle.alw_trace.specs.Fronts.{front_text, first_behind, IsFrontOf, IsNoFront, IsFrontRead}
+use Rattle.alw_trace.specs.Fronts.{front_text, IsNoFront, IsFrontRead}
 use Rattle.alw_trace.specs.Raw.{IsSyntaxFault, IsTraceOf, IsNoTrace}
 use Rattle.alw_trace.proofs.ReadWords.{words_in}
 

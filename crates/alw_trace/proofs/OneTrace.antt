@@ -1,11 +1,10 @@
 -- A text of a trace has no line at fault, says one thing, and is read as nothing else.
-use Rattle.std.proofs.Common.{◌≡◌, ℕ, ◌+◌, ◌<◌, ◌≤◌, true, nat_lt, Some, None, Err, List, [], ◌∷◌, ◌++◌, length, codes, refl, sym, ap, subst, ◌∙◌, arith, append_assoc}
+use Rattle.std.proofs.Common.{◌≡◌, ℕ, ◌+◌, ◌<◌, ◌≤◌, true, nat_lt, Some, None, Err, List, [], ◌∷◌, ◌++◌, length, codes, refl, sym, ap, subst, ◌∙◌, arith}
 use Rattle.std.specs.Int.{w16, w32, to_be_bytes}
 use Rattle.std.specs.List.{flat_map, AllByRecursion}
 use Rattle.std.proofs.lemmas.Bool.{and_from}
 use Rattle.std.proofs.lemmas.Bool.Decides.{nat_tests}
 use Rattle.std.proofs.lemmas.Option.{none-some}
-use Rattle.std.proofs.lemmas.List.{append_cancel_left}
 use Rattle.alw_num.specs.declared.addresses.Line.{Line}
 use Rattle.alw_num.specs.declared.addresses.LineNo.{LineNo}
 use Rattle.alw_num.specs.declared.addresses.NodeNo.{NodeNo}
@@ -21,17 +20,17 @@ use Rattle.alw_image.specs.Faults.{is_within, first_unfit, image_fault, image_in
 use Rattle.alw_image.proofs.Checked.{image_sizes}
 use Rattle.alw_image.proofs.HeaderFields.{product}
 use Rattle.alw_image.proofs.Spelled.{spelling-long, header-of_spelling, parts_back, has_no_fault, same_image}
-use Rattle.alw_report.specs.Reports.{heading, params_line}
+use Rattle.alw_report.specs.Reports.{params_line}
 use Rattle.alw_trace.specs.declared.values.Trace.{Trace}
 use Rattle.alw_trace.specs.declared.faults.TextErr.{TextErr}
 use Rattle.alw_trace.specs.declared.faults.TextErr.TheVariants.{Syntax, Image, Range, NoMemory}
-use Rattle.alw_trace.specs.Texts.{image_text, entry_line, entries_text, trace_title, trace_text}
-use Rattle.alw_trace.specs.Lines.{IsNumber, IsByte, AreBytes, HasThree, HasNumbers, IsEntry, TraceLines, AreTraceLines, trace_lines, behind_image, IsFaultInList, IsFaultAtEnd, IsFaultInImage, IsTraceFault, SaysFront, behind_entries, front_of_trace, end_of_trace}
+use Rattle.alw_trace.specs.Texts.{image_text, entries_text, trace_title, trace_text}
+use Rattle.alw_trace.specs.Lines.{IsNumber, IsByte, AreBytes, HasNumbers, IsEntry, TraceLines, AreTraceLines, trace_lines, IsFaultAtEnd, IsTraceFault, behind_entries, front_of_trace, end_of_trace}
 use Rattle.alw_trace.specs.Readings.{is_short, fits_event, fits_entry, tested, trace_tests, IsOfMachine, EntryIsStamped, IsTrace, HasTraceTypes, without_evict, ReadsTrace}
-use Rattle.alw_trace.proofs.RowReads.{all_append}
 use Rattle.alw_trace.proofs.ParamRanges.{fit, sets_within}
 use Rattle.alw_trace.proofs.OneLine.{no_fault_at_end}
 use Rattle.alw_trace.proofs.OneFront.{image_cut, params_cut, journal_cut, no_front_fault}
+use Rattle.alw_num.proofs.Alls.{all_append}
 
 -- ---- no line is at fault
 
@@ -54,7 +53,7 @@ no_trace_fault t fault are = no_fault t fault are
 
 -- ---- one text says one thing
 
-same_lines : (i j : List ℕ) (p q : Parameters) (x y : List Entry) → i ≡ j → p ≡ q → x ≡ y
+pub same_lines : (i j : List ℕ) (p q : Parameters) (x y : List Entry) → i ≡ j → p ≡ q → x ≡ y
     → ◌≡◌ {A = TraceLines} (record { image = i; params = p; journal = x }) (record { image = j; params = q; journal = y })
 same_lines i j p q x y e f g = cc
 
@@ -169,7 +168,7 @@ trace_form t is types =
       count = (let l = types.1 in omega arith);
     }
 
-text-is : (t : Trace) → trace_text t ≡ trace_lines (lines_in t)
+pub text-is : (t : Trace) → trace_text t ≡ trace_lines (lines_in t)
 unfolding trace_text trace_lines
 text-is t = refl
 

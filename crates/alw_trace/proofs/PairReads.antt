@@ -19,7 +19,7 @@ use Rattle.alw_trace.proofs.LineTexts.{heading-is, pair-is}
 
 -- ---- words
 
-length-word : (n : ℕ) → length (hex_word n) ≡ 10
+pub length-word : (n : ℕ) → length (hex_word n) ≡ 10
 length-word n = omega (arith, length-hex_digits n)
 
 pub no_short_word : (text : List ℕ) (stop : ℕ) → length text < 10 → (n : ℕ) → (rest : List ℕ) → IsWord n → text ≢ hex_word n ++ stop ∷ rest

@@ -1,5 +1,5 @@
 -- A claim's text is read as nothing else: its lines are in range.
-use Rattle.std.proofs.Common.{◌≡◌, ◌≢◌, ℕ, zero, suc, ◌+◌, ◌*◌, ◌%◌, ◌<◌, ◌≤◌, ◌==◌, ◌&&◌, Bool, true, not, nat_le, nat_lt, Option, Some, None, Err, List, [], ◌∷◌, ◌++◌, length, map, replicate, slice_index, codes, refl, sym, ap, subst, ◌∙◌, arith, append_assoc, length-append}
+use Rattle.std.proofs.Common.{◌≡◌, ◌≢◌, ℕ, zero, suc, ◌+◌, ◌*◌, ◌%◌, ◌<◌, ◌≤◌, ◌==◌, ◌&&◌, Bool, true, not, nat_le, nat_lt, Option, Some, None, Err, List, [], ◌∷◌, ◌++◌, length, map, replicate, codes, refl, sym, ap, subst, ◌∙◌, arith, append_assoc, length-append}
 use Rattle.std.specs.List.{AllByRecursion}
 use Rattle.std.specs.List.Sorted.{IsStrictlyIncreasing}
 use Rattle.std.proofs.lemmas.Bool.{and_from}
@@ -24,6 +24,7 @@ use Rattle.alw_trace.specs.Readings.{is_short, is_other, fits_run, run_tests, ru
 use Rattle.alw_trace.proofs.ClaimLists.{starts_other, other_than, length-same, tail_longest, first_passed}
 use Rattle.alw_trace.proofs.OneTrace.{few_nodes, spelling_bytes, short_spelling, image_back}
 use Rattle.alw_trace.proofs.OneClaim.{no_claim_fault, one_claim}
+use Rattle.alw_image.proofs.Orders.{tail_ascends}
 
 -- ---- turns in stretches
 
@@ -101,11 +102,6 @@ shared-is parts address is =
 abbrev above-is : Option ℕ → List (ℕ × ℕ) → Type 0
 above-is None words = Unit {0}
 above-is (Some before) words = IsStrictlyIncreasing (before ∷ map (λ word. word.0) words)
-
-tail_ascends : (a : ℕ) (rest : List ℕ) → IsStrictlyIncreasing (a ∷ rest) → IsStrictlyIncreasing rest
-tail_ascends a rest ascends = λ k within.
-    let e : suc k + 1 ≡ suc (k + 1) = omega arith in
-    subst (λ (m : ℕ). slice_index rest k < slice_index (a ∷ rest) m) e (ascends (suc k) (omega arith))
 
 is_above-is : (before : Option ℕ) (word : ℕ × ℕ) (rest : List (ℕ × ℕ)) → above-is before (word ∷ rest) → is_above before word.0 ≡ true
 is_above-is None word rest up = refl

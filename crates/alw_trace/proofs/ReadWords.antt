@@ -1,5 +1,5 @@
 -- Parts that are read off bytes have words of 32 bits.
-use Rattle.std.proofs.Common.{ℕ, zero, suc, ◌+◌, ◌<◌, ◌^◌, List, [], ◌∷◌, drop, slice_index, take, arith}
+use Rattle.std.proofs.Common.{ℕ, zero, suc, ◌+◌, ◌<◌, List, [], ◌∷◌, drop, slice_index, take, arith}
 use Rattle.std.specs.List.{AllByRecursion}
 use Rattle.alw_num.specs.Lanes.{word_at}
 use Rattle.alw_image.specs.Numbers.{IsWord, HasFourWords, HasWords}

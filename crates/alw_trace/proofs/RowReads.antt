@@ -10,10 +10,7 @@ use Rattle.alw_trace.specs.Texts.{byte_digits, hex_line, hex_lines, line_number,
 use Rattle.alw_trace.specs.Lines.{IsNumber, IsByte, IsRow, Lacks, IsFaultInRows, IsFaultInImage, image_row}
 use Rattle.alw_trace.specs.Raw.{IsSyntaxFault, IsRowRead, AreRowsRead, IsImageRead}
 use Rattle.alw_trace.proofs.LineTexts.{heading-is}
-
-pub all_append : {X : Type 0} (P : X → Type 0) (xs ys : List X) → AllByRecursion P xs → AllByRecursion P ys → AllByRecursion P (xs ++ ys)
-all_append P [] ys one other = other
-all_append P (x ∷ xs) ys one other = (one.0, all_append P xs ys one.1 other)
+use Rattle.alw_num.proofs.Alls.{all_append}
 
 -- ---- a line
 

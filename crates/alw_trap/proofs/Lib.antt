@@ -1,3 +1,2 @@
 pub mod Spills
 pub mod Settlements
-pub mod Rooms

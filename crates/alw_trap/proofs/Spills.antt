@@ -1,8 +1,8 @@
 -- Pointers that join a line's set in the table, one after the other.
-use Rattle.std.proofs.Common.{◌≡◌, ℕ, ◌<◌, Bool, true, false, cond, ◌==◌, Option, Some, None, ◌∷◌, length, refl, sym, ap, ◌∙◌, arith}
+use Rattle.std.proofs.Common.{◌≡◌, ℕ, ◌<◌, Bool, true, false, cond, ◌==◌, Option, Some, None, ◌∷◌, refl, sym, ap, ◌∙◌, arith}
 use Rattle.std.proofs.lemmas.Bool.{eq-eqb}
 use Rattle.std.proofs.lemmas.Bool.Decides.{nat_tests}
-use Rattle.alw_num.specs.NodeSets.{Nodes, no_nodes, has_node, add_node, drop_node, join_nodes, members, count_nodes}
+use Rattle.alw_num.specs.NodeSets.{Nodes, no_nodes, has_node, add_node, drop_node, join_nodes, members}
 use Rattle.alw_num.proofs.Sets.{same_nodes, has-add, has-drop, has-join, has_front, none-join, join-add}
 use Rattle.alw_num.specs.Maps.{Map, value_at, with_value}
 use Rattle.alw_num.proofs.MapLaws.{value-with, same_maps}
@@ -51,9 +51,6 @@ goes_on before now next line whole rest after m way least added dropped =
       table = added ∙ (λ k. record { lines = lines k; buckets = buckets k; sets = sets k });
       left = ap (λ (r : Nodes). join_nodes r (add_node way.nodes m)) dropped ∙ moved rest way.nodes m here ∙ way.left;
     }
-
-pub falls : (rest after : Nodes) (m : ℕ) → members rest ≡ m ∷ members (drop_node rest m) → after ≡ drop_node rest m → count_nodes after < count_nodes rest
-falls rest after m least dropped = let count = ap length least in rw dropped (omega arith)
 
 pub ends : (before now : Table) (line : ℕ) (whole rest : Nodes) → IsUnderWay before now line whole rest → rest ≡ no_nodes → now ≡ record before { sets = with_value before.sets line whole }
 ends before now line whole rest way none =

@@ -18,12 +18,9 @@ use Rattle.alw_cells.specs.Choice.{taken_by, come_taken, logged_by, after_event}
 use Rattle.alw_cells.proofs.Runs.{clock_most}
 use Rattle.alw_work.specs.Seats.{EachAt, IsCellOf, StandsAt, HasTrapped, TrapIsMarked, CellIsOfNode, TakesNothing, Works, Finishes, CellsAreFinished, CellsAreAlone}
 use Rattle.alw_work.proofs.Working.{works_none, works_trans, works_step}
+use Rattle.law_order.proofs.Clocks.{stamp_above}
 
 -- ---- one step
-
-above : (clock : ℕ) (taken : Option Msg) → clock < stamp_of clock taken
-above clock None = omega arith
-above clock (Some msg) = omega arith
 
 -- a step has a greater stamp, and no clock is past the limit
 pub sooner : (cell : Cell) (event : Event) → IsCell cell
@@ -33,7 +30,7 @@ sooner cell event stands =
     go node.parameters.limit node.state.clock (stamp_of node.state.clock (taken_by cell.come event))
     (subst (λ (state : NodeState). state.clock ≤ node.parameters.limit) (sym stands.state)
     (clock_most node.parts node.parameters node.number cell.log stands.run))
-    (above node.state.clock (taken_by cell.come event))
+    (stamp_above node.state.clock (taken_by cell.come event))
   where
     go : (limit clock stamp : ℕ) → clock ≤ limit → clock < stamp → limit + 1 - stamp < limit + 1 - clock
     go limit clock stamp within more = omega (arith, within, more)

@@ -20,9 +20,7 @@ use Rattle.alw_config.specs.declared.commands.Form.{Form}
 use Rattle.alw_answers.specs.declared.outputs.Output.{Output}
 use Rattle.alw_runs.proofs.NoEvict.{some_end}
 use Rattle.alw_cuts.specs.Resuming.{Resumes}
-
-some_is : (a b : Event) → Some a ≡ Some b → a ≡ b
-some_is a b same = cc
+use Rattle.std.proofs.lemmas.Option.{same_Some}
 
 module _ (image : Parts) (p : Parameters) where
   abbrev after : List Entry → ℕ → History
@@ -65,7 +63,7 @@ module _ (image : Parts) (p : Parameters) where
   go_on i j u v x (event ∷ rest) [] a b y z same here there ended also =
       absurd (also (ap end_in (sym there.0) ∙ ap (end_of image p) (sym same) ∙ here.0.going))
   go_on i j u v x (event ∷ rest) (other ∷ more) a b y z same here there ended also =
-      let one = some_is other event (sym there.0.pick ∙ ap (λ (s : MachineState). picked_in s (drawn_number (drawn x))) (sym same) ∙ here.0.pick) in
+      let one = same_Some other event (sym there.0.pick ∙ ap (λ (s : MachineState). picked_in s (drawn_number (drawn x))) (sym same) ∙ here.0.pick) in
       let next = subst (λ (e : Event). EventsAreDrawn (grown (after j v) e) (drawn x) more b z) one there.1 in
       let rest_is = go_on (i ++ entry_in (after_state i) event ∷ []) (j ++ entry_in (after_state j) event ∷ []) u v (drawn x) rest more a b y z
       (state_more i j event same) here.1 next ended also in

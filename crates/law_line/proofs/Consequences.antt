@@ -14,7 +14,7 @@ use Rattle.alw_model.specs.FullMap.{sole}
 use Rattle.alw_msg.specs.Lists.{count_of}
 use Rattle.alw_model.specs.Lines.{LineState, LineNode}
 use Rattle.alw_model.specs.LineInvariant as words
-use Rattle.alw_model.specs.LineInvariant.{LineInvariant, reads, writes, software_fits}
+use Rattle.alw_model.specs.LineInvariant.{LineInvariant, reads, writes}
 use Rattle.law_line.specs.Census.{is_read, is_write, transactions_of, off_copy, census, owes, carries}
 use Rattle.law_line.specs.Sound.{points, in_read_transaction, in_write_transaction, role, CounterFits, Sound}
 use Rattle.law_line.proofs.Bodies.{same_of_off}

@@ -28,7 +28,7 @@ use Rattle.alw_model.specs.Caches.{Copy, Transaction, granted_copy, replaced}
 use Rattle.alw_model.specs.Contexts.{slot_at, running}
 use Rattle.alw_model.specs.Messages.{is_fit}
 use Rattle.alw_model.specs.NodeStates.{NodeState, home_at, stamp_of, may_reach, may_deliver}
-use Rattle.alw_model.specs.NodeSteps.{Stepped, clocked, access, instr_by, instr, at_home, deliver_by, deliver, handle_by, handle_front}
+use Rattle.alw_model.specs.NodeSteps.{clocked, access, instr_by, instr, at_home, deliver_by, deliver, handle_by, handle_front}
 use Rattle.alw_model.specs.Machine.{MachineState, node_at, link_at, taken_by, is_enabled, stepped_by}
 use Rattle.alw_model.specs.Lines.{LineState, LineNode, line_of}
 use Rattle.alw_model.specs.Runs.{Moment, moment_of, acted_message, acted_by}

@@ -26,14 +26,14 @@ use Rattle.alw_model.specs.NodeSteps.{Stepped, take_turn, access, instr_by, inst
 use Rattle.alw_model.specs.Machine.{MachineState, node_at, link_at}
 use Rattle.alw_model.specs.Lines.{LineNode, downs, line_node, line_of}
 use Rattle.alw_num.proofs.MapLaws.{value-with}
-use Rattle.law_line.specs.Protocol.{LineEvent, Opens, Stores, is_granted}
+use Rattle.law_line.specs.Protocol.{Opens, Stores, is_granted}
 use Rattle.law_line.specs.Protocol as line
 use Rattle.law_lines.specs.Links.{GoBelow}
 use Rattle.law_lines.specs.LineEvents.{Follows, in_miss, in_turn, in_access, in_need, in_instr}
 use Rattle.law_lines.specs.Standing.{IsStanding}
 use Rattle.law_lines.proofs.Views.{seen_copy, seen_transaction, next_machine}
 use Rattle.law_lines.proofs.CacheSide as cache
-use Rattle.law_lines.proofs.CacheSide.{new_part, old_part}
+use Rattle.law_lines.proofs.CacheSide.{old_part}
 use Rattle.law_lines.proofs.CopyLaws.{copy_stored}
 use Rattle.law_lines.proofs.Following.{stays, takes_about, home_below, part_changes, part_stays}
 

@@ -11,7 +11,7 @@ use Rattle.alw_image.specs.Parameters.{Parameters, AreParameters}
 use Rattle.alw_msg.specs.Statuses.{is_halted, has_trapped}
 use Rattle.alw_model.specs.Contexts.{Slot, slot_at, no_slot, all_halted}
 use Rattle.alw_model.specs.NodeStates.{NodeState}
-use Rattle.alw_model.specs.Machine.{MachineState, no_node, node_at, has_halted, is_settled, any_trapped, goes_on, end_of, End}
+use Rattle.alw_model.specs.Machine.{MachineState, no_node, node_at, has_halted, is_settled, any_trapped, goes_on, end_of}
 use Rattle.alw_model.specs.Machine as machine
 use Rattle.law_machine.specs.Endings.{has_ended, may_go_on}
 use Rattle.law_machine.proofs.MachineRuns.{IsKept}

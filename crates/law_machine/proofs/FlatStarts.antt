@@ -23,7 +23,7 @@ use Rattle.law_machine.proofs.Lines.{value_of}
 use Rattle.law_machine.proofs.FlatViews.{HaveSlots, slots_behind, own_length, context_read, values_same}
 use Rattle.law_machine.proofs.FlatJournals.{runs_flat}
 
-contexts_length : (count : ℕ) (nodes : List NodeState) → HaveSlots count nodes → length (contexts_of nodes) ≡ length nodes * count
+pub contexts_length : (count : ℕ) (nodes : List NodeState) → HaveSlots count nodes → length (contexts_of nodes) ≡ length nodes * count
 contexts_length count [] have = omega arith
 contexts_length count (node ∷ rest) have =
     omega (arith, length-append (map flat_context node.slots) (contexts_of rest), own_length count node rest have, contexts_length count rest (slots_behind count node rest have), suc-mul (length rest) count)

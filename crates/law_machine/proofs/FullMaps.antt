@@ -1,12 +1,11 @@
 -- Each home is, at every moment, the full-map entry that acted on the same messages, each of which is listed; replies that are delivered meet transactions.
-use Rattle.std.proofs.Common.{◌≡◌, ℕ, ◌<◌, ◌≤◌, Option, Some, None, List, [], ◌∷◌, ◌++◌, flat_map, option_map, IsTrue, refl, sym, subst, ap, ◌∙◌}
+use Rattle.std.proofs.Common.{◌≡◌, ℕ, ◌<◌, ◌≤◌, Option, Some, None, List, [], ◌∷◌, flat_map, option_map, IsTrue, refl, sym, subst, ap, ◌∙◌}
 use Rattle.std.specs.Prelude.{IsSome}
 use Rattle.std.specs.List.{AllByRecursion}
 use Rattle.alw_num.specs.declared.addresses.Line.{Line}
 use Rattle.alw_num.specs.Maps.{value_at}
 use Rattle.alw_msg.specs.declared.events.Entry.{Entry}
-use Rattle.alw_msg.specs.declared.messages.Msg.{Msg}
-use Rattle.alw_msg.specs.Contents.{ToMemory, ToCache, ForCache, content, is_reply}
+use Rattle.alw_msg.specs.Contents.{ToMemory}
 use Rattle.alw_msg.specs.Events.{node_of}
 use Rattle.alw_image.specs.declared.parts.Parts.{Parts}
 use Rattle.alw_image.specs.Images.{node_count, line_count, body_of}
@@ -15,7 +14,7 @@ use Rattle.alw_model.specs.FullMap.{Home, home_start}
 use Rattle.alw_model.specs.LimitLess.{full_map_of}
 use Rattle.alw_model.specs.Caches.{Transaction}
 use Rattle.alw_model.specs.Machine.{MachineState, machine_start, node_at, is_enabled, step, after, AreLegal, IsLegal, state}
-use Rattle.alw_model.specs.Lines.{LineNode, LineState, line_node, line_of, entry_of}
+use Rattle.alw_model.specs.Lines.{LineNode, LineState, line_of, entry_of}
 use Rattle.alw_model.specs.Runs.{Moment, moment_of, moments_from, moments, acted_by, acted_messages, acted_on, full_map_after}
 use Rattle.law_line.specs.Protocol.{last_stored}
 use Rattle.law_line.specs.Combinations.{AreListed}

@@ -21,8 +21,9 @@ use Rattle.law_machine.proofs.Stores.{all_of, entry_points, caches_stand, sizes_
 use Rattle.law_machine.proofs.ContextRuns.{HasContexts, entry_contexts, start_contexts, after_keeps}
 use Rattle.law_machine.proofs.ContextTests.{slots_are, transactions_are, nodes_are}
 use Rattle.law_machine.proofs.Sends.{MsgStands}
-use Rattle.law_machine.proofs.Timing.{HasTimes, Stamped, each_more, step_times, start_times, within_clocks}
+use Rattle.law_machine.proofs.Timing.{HasTimes, Stamped, step_times, start_times, within_clocks}
 use Rattle.law_machine.proofs.Bound.{sets_range, left_fits, left_falls, clock_small}
+use Rattle.alw_num.proofs.Alls.{all_weaker}
 
 -- what each entry keeps of a machine
 pub record IsKept (parts : Parts) (parameters : Parameters) (s : MachineState) : Type 0 where
@@ -75,7 +76,7 @@ module _ (parts : Parts) (image : IsImage parts) (parameters : Parameters) (are 
 
     links_are : (from to : ℕ) → from < node_count parts → to < node_count parts → IsTrue (list_all (links_rightly parts s from to) (link_at parts s from to))
     links_are from to f t = all_of (links_rightly parts s from to) (link_at parts s from to)
-        (each_more (MsgStands parts from to (node_at s from).clock) (λ (msg : Msg). IsTrue (links_rightly parts s from to msg))
+        (all_weaker (MsgStands parts from to (node_at s from).clock) (λ (msg : Msg). IsTrue (links_rightly parts s from to msg))
         (λ msg m. and_is (is_fit parts from to msg) _ (fit_on from to msg m f) (le-leb msg.stamp (node_at s from).clock m.stamp)) (link_at parts s from to) (kept.times.links from to f t))
 
     packed : (n : ℕ) (node : NodeState) (packets : List Msg) → AllByRecursion (IsPacket parts n) packets → Stamped node.clock packets → IsTrue (list_all (packed_rightly parts n node) packets)

@@ -25,10 +25,7 @@ use Rattle.law_lines.specs.Standing.{IsCache, IsPacket, NodeStands}
 use Rattle.law_lines.proofs.Contents.{ups-append}
 use Rattle.law_lines.proofs.Taken.{ups_without, other_request}
 use Rattle.law_lines.proofs.Places.{entry_set}
-
-each_push : {X : Type 0} (P : X → Type 0) (xs : List X) (x : X) → AllByRecursion P xs → P x → AllByRecursion P (xs ++ x ∷ [])
-each_push P [] x all is = (is, tt)
-each_push P (y ∷ rest) x all is = (all.0, each_push P rest x all.1 is)
+use Rattle.alw_num.proofs.Alls.{all_push}
 
 module _ (parts : Parts) (parameters : Parameters) where
   -- ---- caches
@@ -100,7 +97,7 @@ module _ (parts : Parts) (parameters : Parameters) where
         let l = msg.line.0 in
         let d = home_at parts node l in
         entry_changes l (trapped d) v lines home homes (subst (λ (c : Cache). IsCache parts parameters c) (sym caches) stands.caches) (trapped_sound parameters.pointers d (stands.entries l lines home))
-        (subst (AllByRecursion (IsPacket parts n)) (sym packets) (each_push (IsPacket parts n) node.packets msg stands.packets (record { to_memory = ap is_to_memory is; source = source; line = lines; home = home })))
+        (subst (AllByRecursion (IsPacket parts n)) (sym packets) (all_push (IsPacket parts n) node.packets msg stands.packets (record { to_memory = ap is_to_memory is; source = source; line = lines; home = home })))
         (ap (λ (q : List Msg). length (ups l q)) packets ∙ (ap length (ups-append l node.packets (msg ∷ [])) ∙ (length-append (ups l node.packets) (ups l (msg ∷ []))
         ∙ (λ x. (stands.pending l lines home ∙ ap digit free) x + length (cond (eq-eqb l l refl x) (request_in (is x)) [] ++ [])))))
         (λ k other. ap (ups k) packets ∙ (ups-append k node.packets (msg ∷ []) ∙ (ap (λ (r : List ToMemory). ups k node.packets ++ (r ++ [])) (other_request k msg other) ∙ append-nil (ups k node.packets))))

@@ -1,5 +1,5 @@
 -- Messages on links stand there with stamps of at most their senders' clocks, packets have stamps of at most their node's clock, and clocks are within the limit until every context has halted.
-use Rattle.std.proofs.Common.{◌≡◌, ℕ, zero, suc, ◌+◌, ◌*◌, ◌<◌, ◌≤◌, ◌==◌, nat_le, ◌||◌, max, Bool, true, false, cond, Option, Some, None, List, [], ◌∷◌, ◌++◌, length, get_or, set, IsTrue, refl, sym, subst, ap, ◌∙◌, arith}
+use Rattle.std.proofs.Common.{◌≡◌, ℕ, zero, suc, ◌+◌, ◌*◌, ◌<◌, ◌≤◌, ◌==◌, nat_le, ◌||◌, max, Bool, true, false, cond, Option, Some, None, List, [], ◌∷◌, length, get_or, set, IsTrue, refl, sym, subst, ap, ◌∙◌, arith}
 use Rattle.std.specs.List.{AllByRecursion}
 use Rattle.std.proofs.lemmas.Bool.{eq-eqb, eqb-true, leb-true, false≢true}
 use Rattle.std.proofs.lemmas.List.{length-set}
@@ -32,16 +32,9 @@ use Rattle.law_machine.specs.Values.{MachineIsSoundWith}
 use Rattle.law_machine.proofs.Runs.{node_at_start, link_at_start}
 use Rattle.law_machine.proofs.Sends.{MsgStands, AllSent, all_go, all_to, event_sent}
 use Rattle.law_machine.proofs.Ended.{halted_stays}
+use Rattle.alw_num.proofs.Alls.{all_append, all_weaker}
 
 -- ---- lists
-
-pub each_more : {X : Type 0} (P Q : X → Type 0) → ((x : X) → P x → Q x) → (xs : List X) → AllByRecursion P xs → AllByRecursion Q xs
-each_more P Q more [] all = tt
-each_more P Q more (x ∷ rest) all = (more x all.0, each_more P Q more rest all.1)
-
-each_append : {X : Type 0} (P : X → Type 0) (xs ys : List X) → AllByRecursion P xs → AllByRecursion P ys → AllByRecursion P (xs ++ ys)
-each_append P [] ys all more = more
-each_append P (x ∷ rest) ys all more = (all.0, each_append P rest ys all.1 more)
 
 each_behind : {X : Type 0} (P : X → Type 0) (xs : List X) → AllByRecursion P xs → AllByRecursion P (behind xs)
 each_behind P [] all = tt
@@ -78,7 +71,7 @@ Stamped clock packets = AllByRecursion (λ (packet : Msg). packet.stamp ≤ cloc
 
 module _ (parts : Parts) (parameters : Parameters) (n stamp : ℕ) (node : NodeState) (old : Stamped stamp node.packets) where
   home_packets : (msg : Msg) (said : ToMemory) → msg.stamp ≤ stamp → (b : Bool) → Stamped stamp (clocked stamp (at_home parts parameters n stamp node msg said b)).node.packets
-  home_packets msg said below true = each_append (λ (packet : Msg). packet.stamp ≤ stamp) node.packets (msg ∷ []) old (below, tt)
+  home_packets msg said below true = all_append (λ (packet : Msg). packet.stamp ≤ stamp) node.packets (msg ∷ []) old (below, tt)
   home_packets msg said below false = old
 
   message_packets : (msg : Msg) → msg.stamp ≤ stamp → (c : Content) → Stamped stamp (clocked stamp (deliver_by parts parameters n stamp node msg c)).node.packets
@@ -185,15 +178,15 @@ module _ (parts : Parts) (parameters : Parameters) (s : MachineState) (values : 
 
   next_links : (a b : ℕ) → a < node_count parts → b < node_count parts → AllByRecursion (MsgStands parts a b (node_at next a).clock) (link_at parts next a b)
   next_links a b l m = subst (AllByRecursion (MsgStands parts a b (node_at next a).clock)) (sym (link_sent parts n a b (stepped_by parts parameters s event).sends (links_taken parts s.links event) en.here m links_size (all_go parts n stamp (stepped_by parts parameters s event).sends sends_stand)))
-      (each_append (MsgStands parts a b (node_at next a).clock) (get_or (links_taken parts s.links event) (link_place parts a b) []) (cond (a == n) (msgs_to b (stepped_by parts parameters s event).sends) [])
-      (taken_all (MsgStands parts a b (node_at next a).clock) event a b (each_more (MsgStands parts a b (node_at s a).clock) (MsgStands parts a b (node_at next a).clock) (later_stands parts a b (node_at s a).clock (node_at next a).clock (clock_grows a)) (link_at parts s a b) (times.links a b l m)))
+      (all_append (MsgStands parts a b (node_at next a).clock) (get_or (links_taken parts s.links event) (link_place parts a b) []) (cond (a == n) (msgs_to b (stepped_by parts parameters s event).sends) [])
+      (taken_all (MsgStands parts a b (node_at next a).clock) event a b (all_weaker (MsgStands parts a b (node_at s a).clock) (MsgStands parts a b (node_at next a).clock) (later_stands parts a b (node_at s a).clock (node_at next a).clock (clock_grows a)) (link_at parts s a b) (times.links a b l m)))
       (sent_all a b))
 
   next_packets : (m : ℕ) → m < node_count parts → Stamped (node_at next m).clock (node_at next m).packets
   next_packets m here = subst (λ (u : NodeState). Stamped u.clock u.packets) (sym (next_node_at m))
       (at_nodes (λ j u. j < node_count parts → Stamped u.clock u.packets) (node_at s) n v
       (λ l. event_packets parts parameters n stamp (node_at s n)
-      (each_more (λ (p : Msg). p.stamp ≤ (node_at s n).clock) (λ (p : Msg). p.stamp ≤ stamp) (λ p below. let above = above_clock (node_at s n).clock (taken_by parts s event) in omega arith) (node_at s n).packets (times.packets n l))
+      (all_weaker (λ (p : Msg). p.stamp ≤ (node_at s n).clock) (λ (p : Msg). p.stamp ≤ stamp) (λ p below. let above = above_clock (node_at s n).clock (taken_by parts s event) in omega arith) (node_at s n).packets (times.packets n l))
       event (taken_by parts s event) (λ msg e. let above = above_head (node_at s n).clock (taken_by parts s event) msg e in omega arith))
       (λ j other l. times.packets j l) m here)
 

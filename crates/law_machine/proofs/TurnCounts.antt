@@ -1,5 +1,5 @@
 -- How many turns a legal journal has: each is taken before the last halt and raises its node's clock, which stays within the limit.
-use Rattle.std.proofs.Common.{◌≡◌, ℕ, ◌+◌, ◌*◌, ◌<◌, ◌≤◌, Bool, true, false, Option, Some, None, List, [], ◌∷◌, ◌++◌, length, map, IsTrue, refl, sym, ap, subst, ◌∙◌, arith, length-append}
+use Rattle.std.proofs.Common.{◌≡◌, ℕ, ◌+◌, ◌*◌, ◌≤◌, Bool, true, false, Option, Some, None, List, [], ◌∷◌, ◌++◌, length, map, IsTrue, refl, ap, arith, length-append}
 use Rattle.std.specs.List.{flat_map}
 use Rattle.std.proofs.lemmas.List.{length-map}
 use Rattle.sparc_table.specs.declared.outcomes.Outcome.{Outcome}
@@ -16,8 +16,8 @@ use Rattle.alw_model.specs.declared.steps.Did.{Did}
 use Rattle.alw_model.specs.declared.steps.Did.TheVariants as acts
 use Rattle.alw_model.specs.Contexts.{running}
 use Rattle.alw_model.specs.MemorySteps as memory
-use Rattle.alw_model.specs.NodeStates.{NodeState, stamp_of, memory_of}
-use Rattle.alw_model.specs.NodeSteps.{at_home, deliver_by, deliver, handle_by, handle_front, event_at}
+use Rattle.alw_model.specs.NodeStates.{NodeState, memory_of}
+use Rattle.alw_model.specs.NodeSteps.{at_home, deliver_by, deliver, handle_by, handle_front}
 use Rattle.alw_model.specs.Machine.{MachineState, machine_start, node_at, taken_by, is_enabled, has_halted, step, stepped_by, IsNext, AreLegal, IsLegal}
 use Rattle.alw_model.specs.Runs.{Moment, number_of, moments_from, moments, turn_in, turns_in, turns_of}
 use Rattle.law_lines.proofs.Steps.{enabled_is}

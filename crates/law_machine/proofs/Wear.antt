@@ -75,7 +75,7 @@ links_more parts from (send ∷ rest) links =
     let place = link_place parts from send.0 in
     omega (arith, links_more parts from rest (set links place (get_or links place [] ++ send.1 ∷ [])), one_more links place send.1)
 
-evicted_few : (o : Option Copy) → length (evicted o) ≤ 1
+pub evicted_few : (o : Option Copy) → length (evicted o) ≤ 1
 evicted_few None = omega arith
 evicted_few (Some copy) = go copy.mode
   where
@@ -83,7 +83,7 @@ evicted_few (Some copy) = go copy.mode
     go Write = omega arith
     go Read = omega arith
 
-ready_not_halted : (status : Status) → is_ready status ≡ true → is_halted status ≡ true → ⊥
+pub ready_not_halted : (status : Status) → is_ready status ≡ true → is_halted status ≡ true → ⊥
 ready_not_halted Ready ready halted = cc
 ready_not_halted (Waiting line) ready halted = cc
 ready_not_halted Halted ready halted = cc

@@ -1,5 +1,5 @@
 -- Whatever nodes keep names nodes and lines that exist, so that what they send goes to nodes that exist.
-use Rattle.std.proofs.Common.{◌≡◌, ℕ, zero, suc, ◌*◌, ◌<◌, ◌==◌, nat_lt, not, Bool, true, false, cond, Option, Some, None, List, [], ◌∷◌, ◌++◌, get_or, set, map, IsTrue, refl, sym, subst, ◌∙◌}
+use Rattle.std.proofs.Common.{◌≡◌, ℕ, zero, suc, ◌*◌, ◌<◌, ◌==◌, nat_lt, not, Bool, true, false, cond, Option, Some, None, List, [], ◌∷◌, get_or, set, map, IsTrue, refl, sym, subst, ◌∙◌}
 use Rattle.std.specs.List.{AllByRecursion, range_with_len}
 use Rattle.std.proofs.lemmas.Bool.{ltb-true, false≢true}
 use Rattle.alw_num.proofs.MapLaws.{value-empty, value-with, value-without}
@@ -39,6 +39,7 @@ use Rattle.law_entry.specs.Entries.{PointsBelow}
 use Rattle.law_entry.proofs.Pointers.{hardware_points, handler_points, trap_points, no_points}
 use Rattle.law_order.specs.Aims.{CachesExist, NodeAims}
 use Rattle.law_order.proofs.Pointers.{hardware_sends, handler_sends}
+use Rattle.alw_num.proofs.Alls.{all_push}
 
 pub every_set : {X : Type 0} (P : X → Type 0) (xs : List X) (i : ℕ) (x : X) → AllByRecursion P xs → P x → AllByRecursion P (set xs i x)
 every_set P [] i x all is = tt
@@ -49,10 +50,6 @@ pub every_at : {X : Type 0} (P : X → Type 0) (xs : List X) (i : ℕ) (d : X) �
 every_at P [] i d all is = is
 every_at P (y ∷ rest) zero d all is = all.0
 every_at P (y ∷ rest) (suc i) d all is = every_at P rest i d all.1 is
-
-pub every_push : {X : Type 0} (P : X → Type 0) (xs : List X) (x : X) → AllByRecursion P xs → P x → AllByRecursion P (xs ++ x ∷ [])
-every_push P [] x all is = (is, tt)
-every_push P (y ∷ rest) x all is = (all.0, every_push P rest x all.1 is)
 
 pub every_of : {X Y : Type 0} (P : Y → Type 0) (f : X → Y) (xs : List X) → ((x : X) → P (f x)) → AllByRecursion P (map f xs)
 every_of P f [] each = tt
@@ -137,7 +134,7 @@ module _ (parts : Parts) (parameters : Parameters) where
       node = record {
         homes = homes_with msg.line.0 _ (trap_points (node_count parts) (home_at parts node msg.line.0) (home_points msg.line.0));
         cache = aims.cache;
-        packets = every_push (λ (packet : Msg). packet.src.0 < node_count parts) node.packets msg aims.packets source;
+        packets = all_push (λ (packet : Msg). packet.src.0 < node_count parts) node.packets msg aims.packets source;
       };
       sends = tt;
     }

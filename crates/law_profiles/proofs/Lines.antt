@@ -2,7 +2,7 @@
 use Rattle.std.proofs.Common.{◌≡◌, ◌≢◌, ℕ, ◌+◌, ◌<◌, ◌≤◌, ◌==◌, Option, Some, None, List, ◌++◌, flat_map, slice_index, refl, ◌∙◌, arith}
 use Rattle.std.specs.List.{AllByRecursion}
 use Rattle.alw_num.specs.Weights.{digit, weigh}
-use Rattle.alw_num.proofs.Weigh.{weigh-append, weigh-none, weigh-same, weigh-both, weigh-le}
+use Rattle.alw_num.proofs.Weigh.{weigh-append, weigh-none, weigh-same, weigh-both, weigh-le, weigh_flat}
 use Rattle.alw_num.specs.declared.states.Mode.TheVariants.{Read, Write}
 use Rattle.alw_num.specs.NodeSets.{Nodes}
 use Rattle.sparc_table.specs.declared.outcomes.Need.{Need}
@@ -24,7 +24,7 @@ use Rattle.alw_profile.specs.Marks.{has_count}
 use Rattle.alw_profile.specs.Places.{nodes_at}
 use Rattle.alw_profile.specs.Rows.{line_row, told}
 use Rattle.law_profiles.specs.Sums.{over_lines, LinesCount, LineSumsAreCounts}
-use Rattle.law_profiles.proofs.Rows.{in_column, inside, off, inside_all, weigh_flat, weigh_each, row_weight, column_is}
+use Rattle.law_profiles.proofs.Rows.{in_column, inside, off, inside_all, weigh_each, row_weight, column_is}
 use Rattle.law_profiles.proofs.Acts.{HasActs, all_act}
 use Rattle.law_profiles.proofs.Standing.{OfLines, lines_exist}
 

@@ -2,7 +2,7 @@
 use Rattle.std.proofs.Common.{◌≡◌, ◌≢◌, ℕ, ◌+◌, ◌<◌, ◌≤◌, ◌==◌, ◌||◌, not, Bool, true, false, List, [], ◌∷◌, flat_map, slice_index, refl, ◌∙◌, arith}
 use Rattle.std.specs.List.{AllByRecursion}
 use Rattle.alw_num.specs.Weights.{digit, weigh}
-use Rattle.alw_num.proofs.Weigh.{weigh-append, weigh-none, weigh-same}
+use Rattle.alw_num.proofs.Weigh.{weigh-append, weigh-none, weigh-same, weigh_flat}
 use Rattle.alw_msg.specs.declared.messages.Kind.{Kind}
 use Rattle.alw_msg.specs.declared.messages.Kind.TheVariants.{RREQ, WREQ, REPM, UPDATE, ACKC, RDATA, WDATA, INV, BUSY}
 use Rattle.alw_msg.specs.declared.messages.Msg.{Msg}
@@ -22,7 +22,7 @@ use Rattle.alw_profile.specs.Places.{most_at}
 use Rattle.alw_profile.specs.Rows.{node_counts, node_row, told}
 use Rattle.law_lines.proofs.Steps.{enabled_is}
 use Rattle.law_profiles.specs.Sums.{over_nodes, NodesCount, NodeSumsAreCounts}
-use Rattle.law_profiles.proofs.Rows.{in_column, inside, off, inside_all, weigh_flat, weigh_each, row_weight, column_is}
+use Rattle.law_profiles.proofs.Rows.{in_column, inside, off, inside_all, weigh_each, row_weight, column_is}
 
 -- ---- the marks of a run
 

@@ -5,7 +5,7 @@ use Rattle.std.proofs.lemmas.Bool.{false≢true, eqb-true, ltb-true, lt-ltb, ne_
 use Rattle.std.proofs.lemmas.List.FromFn.{get_or-map-range_with_len}
 use Rattle.alw_num.specs.Weights.{weigh, sum_below}
 use Rattle.alw_num.proofs.Lists.{number_more}
-use Rattle.alw_num.proofs.Weigh.{is_node, weigh-append, sum_same, sum_none, sum_both}
+use Rattle.alw_num.proofs.Weigh.{is_node, weigh-append, sum_same, sum_none, sum_both, weigh_flat}
 use Rattle.alw_model.specs.Runs.{Moment}
 use Rattle.alw_profile.specs.declared.tables.Mark.{Mark}
 use Rattle.alw_profile.specs.Marks.{weight_at, counted, row_of, has_count}
@@ -69,14 +69,6 @@ inside_all n column (mark ∷ rest) all =
     omega (arith, here, inside_all n column rest all.1)
 
 -- ---- sums over lists
-
-pub all_both : {X : Type 0} (P : X → Type 0) (xs ys : List X) → AllByRecursion P xs → AllByRecursion P ys → AllByRecursion P (xs ++ ys)
-all_both P [] ys all more = more
-all_both P (x ∷ xs) ys all more = (all.0, all_both P xs ys all.1 more)
-
-pub weigh_flat : {X : Type 0} (f : Mark → ℕ) (own : X → List Mark) (xs : List X) → weigh f (flat_map own xs) ≡ weigh (λ x. weigh f (own x)) xs
-weigh_flat f own [] = refl
-weigh_flat f own (x ∷ rest) = omega (arith, weigh-append f (own x) (flat_map own rest), weigh_flat f own rest)
 
 pub weigh_each : {X : Type 0} (P : X → Type 0) (f g : X → ℕ) → ((x : X) → P x → f x ≡ g x) → (xs : List X) → AllByRecursion P xs → weigh f xs ≡ weigh g xs
 weigh_each P f g same [] all = refl

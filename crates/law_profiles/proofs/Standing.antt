@@ -30,7 +30,7 @@ use Rattle.law_lines.proofs.Steps.{enabled_is}
 use Rattle.law_machine.specs.Values.{MachineIsSoundWith}
 use Rattle.law_machine.proofs.Runs.{step_sound, start_sound_with}
 use Rattle.law_machine.proofs.Sends.{AllSent, event_sent}
-use Rattle.law_profiles.proofs.Rows.{all_both}
+use Rattle.alw_num.proofs.Alls.{all_append}
 
 -- each mark is of a line that exists
 abbrev pub OfLines : Parts → List Mark → Type 0
@@ -73,8 +73,8 @@ module _ (image : Parts) (parameters : Parameters) (some : 1 ≤ parameters.poin
       let sent = event_sent image parameters n stamp node stands
       (λ l lines home j has. (sound.lines l lines).members j (ap (λ a. has_node (full_map_of (home_at image (node_at s a) l)).pointers j) home ∙ has))
       entry.event taken refl enabled.may_be in
-      all_both _ (ran_marks stepped.did (seen_of image node).ran) _ (ran_exist image stepped.did node (running node.slots node.current))
-      (all_both _ (handled_marks stepped.did (seen_of image node).front) _ (handled_exist image n stepped.did node.packets stands.packets)
+      all_append _ (ran_marks stepped.did (seen_of image node).ran) _ (ran_exist image stepped.did node (running node.slots node.current))
+      (all_append _ (handled_marks stepped.did (seen_of image node).front) _ (handled_exist image n stepped.did node.packets stands.packets)
       (sent_exist image n stamp stepped.sends sent))
 
   exist_from : (s : MachineState) (values : ℕ → Line) (journal : List Entry) → AreLegal image parameters s journal → MachineIsSoundWith image parameters values s

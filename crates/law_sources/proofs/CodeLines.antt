@@ -1,7 +1,7 @@
 -- The lines of code words.
 use Rattle.std.proofs.Common.{◌≡◌, ◌⊎◌, inl, inr, ℕ, ◌+◌, ◌*◌, ◌^◌, ◌<◌, ◌≤◌, Bool, true, false, not, ◌&&◌, nat_le, List, [], ◌∷◌, ◌++◌, map, length, Some, None, refl, sym, ap, ◌∙◌, append_assoc, arith}
 use Rattle.std.proofs.lemmas.Bool.{le-leb, false≢true}
-use Rattle.std.proofs.lemmas.List.{append-nil}
+use Rattle.std.proofs.lemmas.List.{append-nil, map-append}
 use Rattle.std.specs.List.{AllByRecursion}
 use Rattle.alw_num.specs.declared.addresses.Width.TheVariants.{Word}
 use Rattle.alw_image.specs.declared.parts.Parts.{Parts}
@@ -68,10 +68,6 @@ is_code _ h = absurd (false≢true h)
 
 pub within_word : (word : ℕ) (v : Sum) → above v ≡ word → below v ≡ 0 → word < 2 ^ 32 → is_datum Word v ≡ true
 within_word word v high low small = rw (high, low) (le-leb word 4294967295 (omega arith))
-
-map-append : {A B : Type 0} (f : A → B) (xs ys : List A) → map f (xs ++ ys) ≡ map f xs ++ map f ys
-map-append f [] ys = refl
-map-append f (x ∷ xs) ys = ap (λ rest. f x ∷ rest) (map-append f xs ys)
 
 words_behind : (old : List (ℕ × ℕ)) (n word : ℕ) (rest : List ℕ) → map (λ w. w.0) (old ++ (word, n) ∷ []) ++ rest ≡ map (λ w. w.0) old ++ word ∷ rest
 words_behind old n word rest = ap (λ xs. xs ++ rest) (map-append (λ w. w.0) old ((word, n) ∷ [])) ∙ append_assoc (map (λ w. w.0) old) (word ∷ []) rest

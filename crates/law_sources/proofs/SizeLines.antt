@@ -14,7 +14,7 @@ use Rattle.sparc_asm.specs.Values.{above}
 use Rattle.sparc_asm.specs.Encoding.{coded}
 use Rattle.sparc_asm.specs.Words.{coded_words}
 use Rattle.sparc_place.specs.Places.{Layout, nothing_laid, is_size}
-use Rattle.sparc_assemble.specs.Assembly.{Names, Filled, with_code, coded_fault}
+use Rattle.sparc_assemble.specs.Assembly.{Names, Filled, with_code}
 use Rattle.law_sources.specs.Parsed.{number, line_of, sizes_read}
 use Rattle.law_sources.proofs.Steps.{IsNumber, is_number, Step, Goes, goes}
 use Rattle.law_sources.proofs.CodeLines.{laid_so}
@@ -22,10 +22,6 @@ use Rattle.law_sources.proofs.CodeLines.{laid_so}
 -- a line without a code word fills in nothing
 pub nothing_added : (n : ℕ) (f : Filled) → with_code n [] f ≡ f
 nothing_added n f = ap (λ (ws : List (ℕ × ℕ)). record f { words = ws }) (append-nil f.words)
-
--- a directive has no instructions
-pub no_code : (names : Names) (here : ℕ) (s : Statement) → coded names here s ≡ Ok Nothing → coded_fault (coded names here s) ≡ None
-no_code names here s is = ap coded_fault is
 
 pub none_filled : (names : Names) (here n : ℕ) (s : Statement) (f : Filled) → coded names here s ≡ Ok Nothing → with_code n (coded_words (coded names here s)) f ≡ f
 none_filled names here n s f is = ap (λ r. with_code n (coded_words r) f) is ∙ nothing_added n f

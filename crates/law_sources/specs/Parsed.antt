@@ -1,5 +1,5 @@
 -- The lines that the source of an image is read as: no label stands on any, and each has a statement.
-use Rattle.std.specs.Prelude.{ℕ, ◌+◌, ◌-◌, ◌*◌, ◌&&◌, ◌==◌, cond, nat_lt, Bool, true, false, Option, Some, None, List, [], ◌∷◌, ◌++◌, map}
+use Rattle.std.specs.Prelude.{ℕ, ◌+◌, ◌-◌, ◌*◌, ◌&&◌, ◌==◌, cond, nat_lt, true, false, Option, Some, None, List, [], ◌∷◌, ◌++◌, map}
 use Rattle.std.specs.List.{flat_map}
 use Rattle.alw_num.specs.declared.addresses.Line.{Line as Body}
 use Rattle.alw_num.specs.declared.addresses.LineNo.{LineNo}

@@ -26,7 +26,7 @@ use Rattle.alw_model.specs.MachineInvariant.{trapped_rightly}
 use Rattle.law_lines.proofs.Following.{home_below}
 use Rattle.law_lines.proofs.Links.{read_set}
 use Rattle.law_lines.proofs.Steps.{enabled_is}
-use Rattle.law_order.proofs.Aims.{every_set, every_at, every_push}
+use Rattle.law_order.proofs.Aims.{every_set, every_at}
 use Rattle.law_machine.proofs.Runs.{node_at_start}
 use Rattle.law_machine.proofs.ContextFacts.{SlotStands}
 use Rattle.law_machine.proofs.ContextRuns.{after_keeps}
@@ -35,6 +35,7 @@ use Rattle.law_texts.specs.Words.{AreWords, SlotHasWords, HasWords}
 use Rattle.law_texts.proofs.Messages.{AllSend}
 use Rattle.law_texts.proofs.NodeEvents.{AllMessages, TakesWords, NodeWords, StepWords, entry_words, slot_words, step_leaves}
 use Rattle.law_texts.proofs.Starts.{start_words, start_listed}
+use Rattle.alw_num.proofs.Alls.{all_push}
 
 abbrev AllLinks : List (List Msg) → Type 0
 AllLinks links = AllByRecursion AllMessages links
@@ -77,7 +78,7 @@ module _ (parts : Parts) where
   sent_words from [] links sent all = all
   sent_words from (send ∷ rest) links sent all =
       let place = link_place parts from send.0 in
-      let one = every_push (λ (msg : Msg). AreWords msg.body) (get_or links place []) send.1 (link_words links place all) sent.0 in
+      let one = all_push (λ (msg : Msg). AreWords msg.body) (get_or links place []) send.1 (link_words links place all) sent.0 in
       sent_words from rest _ sent.1 (every_set AllMessages links place _ all one)
 
 no_messages : (count : ℕ) → AllLinks (replicate count [])

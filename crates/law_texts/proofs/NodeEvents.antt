@@ -35,12 +35,13 @@ use Rattle.alw_model.specs.ProcessorSteps as processor
 use Rattle.alw_model.specs.MemorySteps.{MemoryStep}
 use Rattle.alw_model.specs.MemorySteps as memory
 use Rattle.alw_model.specs.NodeSteps.{by_processor, by_memory, Stepped, take_turn, miss, access, instr_by, instr, at_home, at_cache, evict_from, deliver_by, deliver, handle_by, handle_front, event_at, node_step}
-use Rattle.law_order.proofs.Aims.{every_set, every_at, every_push}
+use Rattle.law_order.proofs.Aims.{every_set, every_at}
 use Rattle.law_texts.specs.Words.{AreWords, AreRegisters}
 use Rattle.law_texts.proofs.Turns.{TurnWords, TrapsByByte, turn_words}
 use Rattle.law_texts.proofs.Messages.{AsksWords, TellsWords, SaysWords, AllAsk, AllSend, zero_words, says, asked_words, told_words}
 use Rattle.law_texts.proofs.HomeTable.{hardware_words, handler_words, still_listed}
 use Rattle.law_texts.proofs.CacheSide.{AllCopies, OfWords, granted_words, store_words, evict_words, react_words}
+use Rattle.alw_num.proofs.Alls.{all_push}
 
 -- a slot's registers, and the type of its trap
 pub record SlotWords (slot : Slot) : Type 0 where
@@ -193,7 +194,7 @@ module _ (parts : Parts) (parameters : Parameters) (n stamp : ℕ) (node : NodeS
   home_leaves msg said words asks true =
       let place = place_of parts msg.line.0 in
       let homes = put_words node.homes place _ are.homes (entry_words node.homes place are.homes) in
-      let packets = every_push (λ (packet : Msg). AreWords packet.body) node.packets msg are.packets words in
+      let packets = all_push (λ (packet : Msg). AreWords packet.body) node.packets msg are.packets words in
       of_memory (memory.at_home stamp m msg said true) homes packets tt (still_listed node.homes place _ refl)
   home_leaves msg said words asks false =
       let place = place_of parts msg.line.0 in

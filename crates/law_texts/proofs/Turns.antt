@@ -27,10 +27,8 @@ use Rattle.sparc_exec.proofs.RegisterWords.{HoldWords, of_turn}
 use Rattle.alw_image.specs.Numbers.{IsWord}
 use Rattle.law_texts.specs.Words.{AreWords, AreRegisters}
 use Rattle.law_order.proofs.Aims.{every_set, every_at}
-
-either : {A : Type 0} (P : A → Type 0) (b : Bool) (x y : A) → P x → P y → P (cond b x y)
-either P true x y h k = h
-either P false x y h k = k
+use Rattle.sparc_table.proofs.Effects.{choice}
+use Rattle.sparc_exec.proofs.Lanes.{bytes_of_are}
 
 -- ---- the bytes of a line
 
@@ -42,12 +40,6 @@ AreBytes bytes = AllByRecursion IsByte bytes
 
 four_before : (word : ℕ) (bytes : List ℕ) → AreBytes bytes → AreBytes (to_be_bytes w32 word ++ bytes)
 four_before word bytes all = (omega arith, (omega arith, (omega arith, (omega arith, all))))
-
-bytes_are : (line : Line) → AreBytes (bytes_of line)
-bytes_are line =
-    let last = to_be_bytes w32 line.d in
-    let more = to_be_bytes w32 line.c ++ last in
-    four_before line.a (to_be_bytes w32 line.b ++ more) (four_before line.b more (four_before line.c last (four_before line.d [] tt)))
 
 byte_at : (bytes : List ℕ) (i : ℕ) → AreBytes bytes → IsByte (slice_index bytes i)
 byte_at bytes i all = every_at IsByte bytes i 0 all (omega arith)
@@ -70,7 +62,7 @@ words_from bytes all = (word 0, (word 4, (word 8, word 12)))
 
 stored_words : (op3 address value : ℕ) (line : Line) → AreWords (stored op3 address value line)
 unfolding stored
-stored_words op3 address value line = words_from _ (lane_put (bytes_of line) (address % 16) (width_of op3) _ (bytes_are line))
+stored_words op3 address value line = words_from _ (lane_put (bytes_of line) (address % 16) (width_of op3) _ (bytes_of_are line))
 
 -- ---- registers
 
@@ -95,10 +87,10 @@ written regs r value shape = go (r == 0) refl
     go false e = record { count = length-set regs.r r value ∙ shape.count; first = still regs.r r e ∙ shape.first }
 
 shaped_branch : (annul : Bool) (condition : ℕ) (taken : Bool) (target : ℕ) (regs : Regs) → Shaped regs → Shaped (branched annul condition taken target regs)
-shaped_branch annul condition taken target regs shape = either Shaped taken _ _ (either Shaped _ _ _ shape shape) (either Shaped annul _ _ shape shape)
+shaped_branch annul condition taken target regs shape = choice Shaped taken _ _ (choice Shaped _ _ _ shape shape) (choice Shaped annul _ _ shape shape)
 
 shaped_assigned : (op3 rd : ℕ) (result : Computed) (regs : Regs) → Shaped regs → Shaped (assigned op3 rd result regs)
-shaped_assigned op3 rd result regs shape = written _ rd result.value (either Shaped (nat_le 0x10 op3) (with_codes regs result) regs shape shape)
+shaped_assigned op3 rd result regs shape = written _ rd result.value (choice Shaped (nat_le 0x10 op3) (with_codes regs result) regs shape shape)
 
 shaped_product : (rd product : ℕ) (regs : Regs) → Shaped regs → Shaped (multiplied rd product regs)
 shaped_product rd product regs shape = let low = written regs rd (product % 2 ^ 32) shape in record { count = low.count; first = low.first }
@@ -106,8 +98,8 @@ shaped_product rd product regs shape = let low = written regs rd (product % 2 ^ 
 shaped_arithmetic : (op3 rd x y : ℕ) (regs : Regs) → Shaped regs → Shaped (arithmetic op3 rd x y regs)
 unfolding arithmetic
 shaped_arithmetic op3 rd x y regs shape =
-    either Shaped (op3 == 0x0A) _ _ (shaped_product rd _ regs shape)
-    (either Shaped (op3 == 0x0B) _ _ (shaped_product rd _ regs shape) (shaped_assigned op3 rd _ regs shape))
+    choice Shaped (op3 == 0x0A) _ _ (shaped_product rd _ regs shape)
+    (choice Shaped (op3 == 0x0B) _ _ (shaped_product rd _ regs shape) (shaped_assigned op3 rd _ regs shape))
 
 -- ---- instructions
 
@@ -133,7 +125,7 @@ need_traps : (instr : Instr) (regs : Regs) (lines : ℕ) → NeedsByByte (need i
 unfolding need
 need_traps (Memory op3 rd rs1 operand) regs lines =
     let address = address_of rs1 operand regs in
-    either NeedsByByte (address % bytes_in (width_of op3) == 0) _ _ (either NeedsByByte (is_shared address lines) _ _ tt (omega arith)) (omega arith)
+    choice NeedsByByte (address % bytes_in (width_of op3) == 0) _ _ (choice NeedsByByte (is_shared address lines) _ _ tt (omega arith)) (omega arith)
 need_traps (Call disp) regs lines = tt
 need_traps (Sethi rd imm) regs lines = tt
 need_traps (Branch annul condition disp) regs lines = tt
@@ -162,18 +154,18 @@ module _ (regs : Regs) (shape : Shaped regs) (line : Line) (are : AreWords line)
   of_effect (WriteY rs1 operand) = quiet _ line shape are
   of_effect (Jmpl rd rs1 operand) =
       let P : Regs × Outcome → Type 0 = λ after. Leaves (beside line after) in
-      either P (address_of rs1 operand regs % 4 == 0) _ _ (quiet _ line (written regs rd regs.pc shape) are) (stopped 0x07 (omega arith))
+      choice P (address_of rs1 operand regs % 4 == 0) _ _ (quiet _ line (written regs rd regs.pc shape) are) (stopped 0x07 (omega arith))
   of_effect (TrapOn condition rs1 operand) =
       let P : Regs × Outcome → Type 0 = λ after. Leaves (beside line after) in
       let number = address_of rs1 operand regs % 2 ^ 7 in
-      either P (holds condition regs) _ _
-      (either P (number == 0) _ _ (record { regs = shape; line = are; trap = tt })
-      (either P (number == 1) _ _ (record { regs = shape; line = are; trap = tt }) (stopped (0x80 + number) (omega arith))))
+      choice P (holds condition regs) _ _
+      (choice P (number == 0) _ _ (record { regs = shape; line = are; trap = tt })
+      (choice P (number == 1) _ _ (record { regs = shape; line = are; trap = tt }) (stopped (0x80 + number) (omega arith))))
       (quiet _ line shape are)
   of_effect (Memory op3 rd rs1 operand) =
       let load = written regs rd _ shape in
-      either Leaves (is_load op3) _ _ (quiet _ line load are)
-      (either Leaves (is_in (0x0D ∷ 0x0F ∷ []) op3) _ _ (quiet _ _ load (stored_words op3 _ _ line)) (quiet _ _ shape (stored_words op3 _ _ line)))
+      choice Leaves (is_load op3) _ _ (quiet _ line load are)
+      (choice Leaves (is_in (0x0D ∷ 0x0F ∷ []) op3) _ _ (quiet _ _ load (stored_words op3 _ _ line)) (quiet _ _ shape (stored_words op3 _ _ line)))
 
   of_run : (wants : Need) (instr : Instr) → NeedsByByte wants → Leaves (run_at wants instr regs line)
   of_run (needs.Trap type) instr byte = stopped type byte

@@ -9,7 +9,6 @@ use Rattle.std.proofs.lemmas.Bool.Decides.{nat_tests}
 use Rattle.std.proofs.lemmas.List.{take_at, drop_at}
 use Rattle.alw_num.specs.declared.addresses.Line.{Line}
 use Rattle.alw_text.specs.Numbers.{hex_byte, hex_word}
-use Rattle.alw_text.proofs.Numerals.{length-hex_digits}
 use Rattle.alw_image.specs.Numbers.{IsWord}
 use Rattle.alw_text.specs.Pieces.{nodes_text, next_node}
 use Rattle.alw_trace.proofs.OneLine.{one_digit}
@@ -18,10 +17,7 @@ use Rattle.alw_trace.specs.Lines.{IsNumber}
 use Rattle.law_texts.specs.Words.{AreWords}
 use Rattle.alw_save.specs.Lines.{spaced_word, body_text}
 use Rattle.law_texts.proofs.Readings.{Tells, both, behind, said_as, Stops, digits_end, in_digits}
-
--- ten bytes
-length-word : (n : ℕ) → length (hex_word n) ≡ 10
-length-word n = omega (arith, length-hex_digits n)
+use Rattle.alw_trace.proofs.PairReads.{length-word}
 
 pub one_word : (n m : ℕ) → IsWord n → IsWord m → Tells (n ≡ m) (hex_word n) (hex_word m)
 one_word n m l k = record {

@@ -38,6 +38,7 @@ use Rattle.alw_times.specs.Laws.{start_in, finish_in, finished}
 use Rattle.law_times.specs.Prices.{lengths_of, WaysAre, IsPriced, ArePriced, AreUnit}
 use Rattle.law_times.proofs.Lists.{ByNode, by_at, by_put, by_kept, by_start, clock_kept, Paired, AllPaired, all_at, all_set, all_start, paired_behind}
 use Rattle.law_times.proofs.Sending.{IsOut, all_out}
+use Rattle.alw_times.proofs.Bounds.{leaves_early}
 
 -- ---- what is woken
 
@@ -131,12 +132,6 @@ stamp_above clock (Some msg) = omega arith
 stamp_taken : (clock : ℕ) (taken : Option Msg) (msg : Msg) → taken ≡ Some msg → msg.stamp + 1 ≤ stamp_of clock taken
 stamp_taken clock None msg is = absurd (cc)
 stamp_taken clock (Some m) msg is = let same : m ≡ msg = cc in subst (λ (x : Msg). x.stamp + 1 ≤ max clock m.stamp + 1) same (omega arith)
-
-leaves_early : (event : Event) (start finish : ℕ) → start ≤ finish → leaves_at event start finish ≤ finish
-leaves_early (Instr at) start finish le = omega arith
-leaves_early (Handle at) start finish le = le
-leaves_early (Deliver from to) start finish le = omega arith
-leaves_early (Evict at set) start finish le = omega arith
 
 module _ (parts : Parts) (parameters : Parameters) (costs : Costs) (d work lengths way : ℕ) (fits : work + lengths + way ≤ d) where
   abbrev TimeBy : ℕ → ℕ → Type 0

@@ -2,14 +2,6 @@
 use Rattle.std.proofs.Common.{◌≡◌, ℕ, zero, suc, ◌<◌, ◌⊎◌, inl, inr, List, [], ◌∷◌, ◌++◌, length, take, drop, get_or, refl, sym, subst, ap, ◌∙◌, arith, append-nil, length-append}
 use Rattle.std.specs.List.{AllByRecursion}
 
-pub all_append : {X : Type 0} (P : X → Type 0) (xs ys : List X) → AllByRecursion P xs → AllByRecursion P ys → AllByRecursion P (xs ++ ys)
-all_append P [] ys one two = two
-all_append P (x ∷ xs) ys one two = (one.0, all_append P xs ys one.1 two)
-
-pub all_map : {X : Type 0} (P Q : X → Type 0) → ((x : X) → P x → Q x) → (xs : List X) → AllByRecursion P xs → AllByRecursion Q xs
-all_map P Q gives [] all = tt
-all_map P Q gives (x ∷ xs) all = (gives x all.0, all_map P Q gives xs all.1)
-
 -- a member with what stands before it and behind it
 pub all_among : {X : Type 0} (P : X → Type 0) (front : List X) (x : X) (rest xs : List X) → front ++ x ∷ rest ≡ xs → AllByRecursion P xs → P x
 all_among {X} P front x rest xs is all = at front (subst_all (sym is) all)

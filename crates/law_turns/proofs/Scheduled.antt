@@ -13,7 +13,7 @@ use Rattle.alw_msg.specs.declared.events.Event.{Event}
 use Rattle.alw_msg.specs.declared.events.Event.TheVariants.{Instr, Handle, Deliver, Evict}
 use Rattle.alw_msg.specs.declared.events.Entry.{Entry}
 use Rattle.alw_msg.specs.Events.{is_evict}
-use Rattle.alw_msg.specs.Statuses.{is_halted, is_ready, has_trapped}
+use Rattle.alw_msg.specs.Statuses.{is_ready, has_trapped}
 use Rattle.alw_model.specs.Headline.{IsScheduled}
 use Rattle.alw_model.specs.Machine.{MachineState, machine_start, any_trapped, has_halted, is_settled, is_enabled, is_within_limit, goes_on, step, after, state, main_events, end_of, IsNext, AreLegal, IsLegal, Halted, Trapped, Limit}
 use Rattle.alw_model.specs.Flat.{Flat, Context, AreReady, flat_after, context_at}
@@ -24,20 +24,16 @@ use Rattle.law_machine.proofs.FlatStarts.{flat_view_is, turns_are_ready}
 use Rattle.law_machine.proofs.MainEvents.{instr_among, handle_among, deliver_among}
 use Rattle.law_turns.specs.Turns.{turns_from, serves, ServesTurn, ServesTurns, NoneTrapsEarly}
 use Rattle.law_turns.proofs.Ends.{nodes_halted, nodes_trapped, trapped_one, halted_each}
-use Rattle.law_turns.proofs.Fronts.{all_append, all_map, all_among, cut_in, before_last, cut_at}
+use Rattle.law_turns.proofs.Fronts.{all_among, cut_in, before_last, cut_at}
 use Rattle.law_turns.proofs.Turns.{state_more, turns_more, turns_of_more, next_is_ready}
+use Rattle.alw_num.proofs.Alls.{all_append, all_weaker}
+use Rattle.law_machine.proofs.Wear.{ready_not_halted}
 
 pub serves_keeps : (c : ℕ) (event : Event) → serves c event ≡ true → is_evict event ≡ false
 serves_keeps c (Instr at) own = refl
 serves_keeps c (Handle at) own = refl
 serves_keeps c (Deliver from to) own = refl
 serves_keeps c (Evict at its) own = absurd (false≢true own)
-
-not_both : (status : Status) → is_ready status ≡ true → is_halted status ≡ true → ⊥
-not_both statuses.Ready ready halted = false≢true halted
-not_both (statuses.Waiting line) ready halted = false≢true halted
-not_both statuses.Halted ready halted = false≢true ready
-not_both (statuses.Trapped pc tt) ready halted = false≢true halted
 
 pub none_first : {X : Type 0} (one two : List X) → one ++ two ≡ [] → one ≡ []
 none_first [] two e = refl
@@ -96,7 +92,7 @@ module _ (parts : Parts) (image : IsImage parts) (parameters : Parameters) (are 
       where
         go : (b : Bool) → has_halted (state parts parameters journal) ≡ b → has_halted (state parts parameters journal) ≡ false
         go false e = e
-        go true e = absurd (not_both (context_at (flat_view parts parameters (state parts parameters journal)) context).status
+        go true e = absurd (ready_not_halted (context_at (flat_view parts parameters (state parts parameters journal)) context).status
             (ap (λ (f : Flat). is_ready (context_at f context).status) flat ∙ ready)
             (halted_each (flat_view parts parameters (state parts parameters journal)).contexts nobody context refl (nodes_halted (state parts parameters journal).nodes ∙ e)))
 
@@ -141,7 +137,7 @@ module _ (parts : Parts) (image : IsImage parts) (parameters : Parameters) (are 
   no_evictions [] s entries served = subst (AllByRecursion (λ (entry : Entry). is_evict entry.event ≡ false)) (sym served) tt
   no_evictions (c ∷ rest) s entries (first, (more, (all, (v, others)))) = subst (AllByRecursion (λ (entry : Entry). is_evict entry.event ≡ false)) all
       (all_append (λ (entry : Entry). is_evict entry.event ≡ false) first more
-      (all_map (λ (entry : Entry). serves c entry.event ≡ true) (λ (entry : Entry). is_evict entry.event ≡ false) (λ entry. serves_keeps c entry.event) first v.own)
+      (all_weaker (λ (entry : Entry). serves c entry.event ≡ true) (λ (entry : Entry). is_evict entry.event ≡ false) (λ entry. serves_keeps c entry.event) first v.own)
       (no_evictions rest (after parts parameters s first) more others))
 
   pub scheduled_so : (turns : List ℕ) (journal : List Entry) → IsLegal parts parameters journal → turns_of parts parameters journal ≡ turns → ServesTurns parts parameters (machine_start parts) turns journal → NoneTrapsEarly parts turns → IsScheduled parts parameters journal

@@ -35,7 +35,6 @@ use Rattle.law_machine.proofs.MainEvents.{ready_runs}
 use Rattle.law_machine.proofs.MachineRuns.{IsKept}
 use Rattle.law_machine.proofs.Sums.{weigh_set}
 use Rattle.law_turns.specs.Turns.{IsAtRest, greatest_clock, turns_from, turn_events, serves, ServesTurn}
-use Rattle.law_turns.proofs.Fronts.{all_append}
 use Rattle.law_turns.proofs.Hefts.{heft, packet_heft, busy, heft_in, busy_in, of_msg, links_more, requests_weigh}
 use Rattle.law_turns.proofs.Stages.{heft_of, busy_of, own, Waits, Holds, IsServing, no_others}
 use Rattle.law_turns.proofs.Resting.{settled_light, settled_calm, light_settled, none_open, none_waits}
@@ -44,6 +43,7 @@ use Rattle.law_turns.proofs.Instructions.{Turned, Asked, Does, instr_does}
 use Rattle.law_turns.specs.Orders.{entry_for}
 use Rattle.law_turns.proofs.Draining.{stamp_near, is_next, next_kept, next_clock, Drains, DrainsOrStops, Stops, stops_now, stops_later, drains}
 use Rattle.law_turns.proofs.Turns.{legal_more, turns_more, EachIsServed, NobodyWaits}
+use Rattle.alw_num.proofs.Alls.{all_append}
 
 module _ (parts : Parts) (image : IsImage parts) (one : parts.contexts ≡ 1) (parameters : Parameters) (are : AreMeans parameters) where
   abbrev n : ℕ

@@ -1,5 +1,5 @@
 -- The induction over turns.
-use Rattle.std.proofs.Common.{◌≡◌, ℕ, ◌+◌, ◌*◌, ◌<◌, ◌≤◌, true, map, List, [], ◌∷◌, ◌++◌, length, get_or, refl, sym, subst, ap, ◌∙◌, append_assoc, arith, length-append, ◌⊎◌, inl, inr}
+use Rattle.std.proofs.Common.{◌≡◌, ℕ, ◌+◌, ◌*◌, ◌<◌, ◌≤◌, true, map, List, [], ◌∷◌, ◌++◌, length, get_or, refl, sym, subst, ap, ◌∙◌, append_assoc, arith, ◌⊎◌, inl, inr}
 use Rattle.std.specs.List.{flat_map}
 use Rattle.std.proofs.lemmas.Bool.{eq-eqb, false≢true}
 use Rattle.std.proofs.lemmas.List.{append-nil, map-append, get_or_past}
@@ -16,14 +16,12 @@ use Rattle.alw_msg.specs.declared.contexts.Status.{Status}
 use Rattle.alw_msg.specs.declared.contexts.Status.TheVariants as statuses
 use Rattle.alw_msg.specs.Statuses.{is_ready, waits_on}
 use Rattle.alw_model.specs.Contexts.{slot_at}
-use Rattle.alw_model.specs.NodeStates.{NodeState}
 use Rattle.alw_model.specs.Machine.{MachineState, machine_start, node_at, step, after, state, AreLegal, IsLegal}
 use Rattle.alw_model.specs.Flat.{Flat, Context, AreReady, are_ready, flat_start, flat_after, context_at, flat_turn, turns_after, turns_ready}
 use Rattle.alw_model.specs.Runs.{Moment, number_of, moments_from, moments, turn_in, turns_of, flat_view, flat_status, flat_context}
 use Rattle.alw_model.proofs.Journals.{after-append, moments_from-append, and_parts}
-use Rattle.law_machine.proofs.FlatStarts.{flat_view_is}
-use Rattle.law_machine.proofs.FlatViews.{HaveSlots, own_length, slots_behind, context_read}
-use Rattle.law_machine.specs.FlatRuns.{contexts_of}
+use Rattle.law_machine.proofs.FlatStarts.{flat_view_is, contexts_length}
+use Rattle.law_machine.proofs.FlatViews.{HaveSlots, context_read}
 use Rattle.law_machine.proofs.MachineRuns.{IsKept}
 use Rattle.law_turns.specs.Limits.{IsKeptBack}
 use Rattle.law_turns.proofs.Draining.{Stops}
@@ -76,11 +74,6 @@ ready_by statuses.Ready is not = refl
 ready_by (statuses.Waiting line) is not = absurd (not line.0 (eq-eqb line.0 line.0 refl))
 ready_by statuses.Halted is not = absurd (false≢true is)
 ready_by (statuses.Trapped pc tt) is not = absurd (false≢true is)
-
-contexts_length : (count : ℕ) (nodes : List NodeState) → HaveSlots count nodes → length (contexts_of nodes) ≡ length nodes * count
-contexts_length count [] have = omega arith
-contexts_length count (node ∷ rest) have =
-    omega (arith, length-append (map flat_context node.slots) (contexts_of rest), own_length count node rest have, contexts_length count rest (slots_behind count node rest have), suc-mul (length rest) count)
 
 module _ (parts : Parts) (image : IsImage parts) (one : parts.contexts ≡ 1) (parameters : Parameters) (are : AreMeans parameters) (waits_not : NobodyWaits parts parameters) (serve : EachIsServed parts parameters) where
   -- a legal journal that has some turns goes on to one that serves these behind them, and ends at rest

@@ -14,7 +14,8 @@ use Rattle.mesh_route.specs.Deliveries.{messages_of, waiting}
 use Rattle.mesh_route.specs.Keeping.{MessageIsPlaced, queue_load, load_left, MessagesAreCarried}
 use Rattle.mesh_route.proofs.Steps.{distance}
 use Rattle.mesh_route.proofs.Stops.{stops-from, stop_first, messages-append, waiting-others, puts}
-use Rattle.mesh_route.proofs.QueuePlaces.{place_is, place_below, place_node, IsOfPair, IsOfAnother, its_message, pair_of, each_push}
+use Rattle.mesh_route.proofs.QueuePlaces.{place_is, place_below, place_node, IsOfPair, IsOfAnother, its_message, pair_of}
+use Rattle.alw_num.proofs.Alls.{all_push}
 
 module _ (sent : List Packet) (mesh : Mesh) (packet : Packet) (is : MessagesAreCarried sent mesh) (from_within : packet.from.0 < count_of mesh)
     (to_within : packet.to.0 < count_of mesh) where
@@ -40,7 +41,7 @@ module _ (sent : List Packet) (mesh : Mesh) (packet : Packet) (is : MessagesAreC
       (λ apart. rw (other node port apart) (is.placed node port l))
     where
       first : AllByRecursion (MessageIsPlaced mesh.width (count_of mesh) packet.from.0 Local) (queue_of later packet.from.0 Local)
-      first = rw put (each_push (MessageIsPlaced mesh.width (count_of mesh) packet.from.0 Local) (queue_of mesh packet.from.0 Local) packet
+      first = rw put (all_push (MessageIsPlaced mesh.width (count_of mesh) packet.from.0 Local) (queue_of mesh packet.from.0 Local) packet
           (is.placed packet.from.0 Local from_within)
           (record {
             from_within = from_within;

@@ -17,7 +17,8 @@ use Rattle.mesh_route.specs.Keeping.{MessageIsPlaced, queue_load, load_left, Mes
 use Rattle.mesh_route.proofs.Steps.{IsStep, distance}
 use Rattle.mesh_route.proofs.Stops.{stops-from, messages-append, waiting-others, stop_next, passes}
 use Rattle.mesh_route.proofs.Loads.{load_on}
-use Rattle.mesh_route.proofs.QueuePlaces.{place_is, place_below, place_node, IsOfPair, IsOfAnother, its_message, pair_of, each_push}
+use Rattle.mesh_route.proofs.QueuePlaces.{place_is, place_below, place_node, IsOfPair, IsOfAnother, its_message, pair_of}
+use Rattle.alw_num.proofs.Alls.{all_push}
 
 module _ (sent : List Packet) (mesh : Mesh) (node next : ℕ) (port : Port) (packet : Packet) (rest : List Packet) (is : MessagesAreCarried sent mesh)
     (below : node < count_of mesh)
@@ -85,7 +86,7 @@ module _ (sent : List Packet) (mesh : Mesh) (node next : ℕ) (port : Port) (pac
       (λ same. let here = place_is at node by port same in subst ArePlaced (λ i. (sym here.0 i, sym here.1 i)) (rw left stood.1))
       (λ apart. is_node _ (queue_place at by) next_place
       (λ same. let here = place_is at next by in_port same in subst ArePlaced (λ i. (sym here.0 i, sym here.1 i))
-      (rw put (each_push (MessageIsPlaced mesh.width (count_of mesh) next in_port) (queue_of mesh next in_port) packet
+      (rw put (all_push (MessageIsPlaced mesh.width (count_of mesh) next in_port) (queue_of mesh next in_port) packet
       (is.placed next in_port next_below) stood_next)))
       (λ also. rw (other (queue_place at by) apart also) (is.placed at by l)))
 

@@ -1,7 +1,6 @@
 -- Places of queues, and which pair a message is of.
-use Rattle.std.proofs.Common.{◌≡◌, ◌≢◌, ℕ, zero, suc, ◌*◌, ◌/◌, ◌<◌, ◌==◌, Bool, true, false, List, [], ◌∷◌, ◌++◌, refl}
+use Rattle.std.proofs.Common.{◌≡◌, ◌≢◌, ℕ, zero, suc, ◌*◌, ◌/◌, ◌<◌, ◌==◌, Bool, true, false, [], ◌∷◌, refl}
 use Rattle.std.proofs.Common.{sym, ap, ◌∙◌, ◌⊎◌, inl, inr, arith}
-use Rattle.std.specs.List.{AllByRecursion}
 use Rattle.std.proofs.lemmas.Bool.{eqb-true, eqb-false, eq-eqb}
 use Rattle.std.proofs.lemmas.Nat.{div-mul-add, same_from_place}
 use Rattle.mesh_route.specs.declared.ports.Port.{Port}
@@ -74,7 +73,3 @@ pair_of from to packet = go (from == packet.from.0) (to == packet.to.0) refl ref
     go true true e f = inl (record { from_is = eqb-true from packet.from.0 e; to_is = eqb-true to packet.to.0 f; message = rw (e, f) refl })
     go true false e f = inr (record { apart = λ same also. eqb-false to packet.to.0 f also; message = rw (e, f) refl })
     go false d e f = inr (record { apart = λ same also. eqb-false from packet.from.0 e same; message = rw e refl })
-
-pub each_push : {X : Type 0} (P : X → Type 0) (xs : List X) (x : X) → AllByRecursion P xs → P x → AllByRecursion P (xs ++ x ∷ [])
-each_push P [] x each here = (here, tt)
-each_push P (y ∷ ys) x each here = (each.0, each_push P ys x each.1 here)

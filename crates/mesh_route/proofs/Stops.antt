@@ -12,6 +12,7 @@ use Rattle.mesh_route.specs.Routes.{route, port_from, stops_behind, stops}
 use Rattle.mesh_route.specs.Deliveries.{messages_of, waiting}
 use Rattle.mesh_route.specs.Keeping.{IsStop}
 use Rattle.mesh_route.proofs.Steps.{IsStep, distance, distance-same, steps, route_end, route_first, along}
+use Rattle.alw_num.proofs.Alls.{all_weaker}
 
 -- the queues on a route from one of its nodes on, where its messages come in by a port
 unfoldable pub stops_from : ℕ → ℕ → ℕ → Port → List (ℕ × Port)
@@ -32,10 +33,6 @@ pub waiting-same : (queue later : ℕ → Port → List Packet) (from to : ℕ) 
     → waiting later from to list ≡ waiting queue from to list
 waiting-same queue later from to [] same = refl
 waiting-same queue later from to (stop ∷ rest) same = λ i. waiting-same queue later from to rest same.1 i ++ same.0 i
-
-all_of : {X : Type 0} (P Q : X → Type 0) → ((x : X) → P x → Q x) → (xs : List X) → AllByRecursion P xs → AllByRecursion Q xs
-all_of P Q more [] each = tt
-all_of P Q more (x ∷ xs) each = (more x each.0, all_of P Q more xs each.1)
 
 each_of : {X : Type 0} (P : X → Type 0) → ((x : X) → P x) → (xs : List X) → AllByRecursion P xs
 each_of P each [] = tt
@@ -81,7 +78,7 @@ module _ (width to : ℕ) (wide : 0 < width) where
       (λ port. rw (stops_end port) (omega arith, tt))
       (λ node next port step near. rw (stops_on node next port step) (
         omega arith,
-        all_of (IsNear next) (IsNear node) (λ stop l. omega (arith, step.nearer))
+        all_weaker (IsNear next) (IsNear node) (λ stop l. omega (arith, step.nearer))
             (stops_from width to next (port_from width node next)) near,
       ))
 
@@ -94,7 +91,7 @@ module _ (width to : ℕ) (wide : 0 < width) where
         ≡ waiting queue from to (stops_from width to next port)
     unfolding IsNear
     kept_near node next port step kept = waiting-same queue later from to (stops_from width to next port)
-        (all_of (IsNear next) _ (λ stop near. ap (messages_of from to) (kept stop.0 stop.1 (omega (arith, step.nearer)))) (stops_from width to next port)
+        (all_weaker (IsNear next) _ (λ stop near. ap (messages_of from to) (kept stop.0 stop.1 (omega (arith, step.nearer)))) (stops_from width to next port)
         (stops_near next port))
 
     -- a message more at the end of a queue is the last to wait from there on

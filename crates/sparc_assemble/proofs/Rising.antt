@@ -3,6 +3,8 @@ use Rattle.std.proofs.Common.{◌≡◌, ℕ, zero, suc, ◌+◌, ◌<◌, ◌�
 use Rattle.std.specs.List.{AllByRecursion}
 use Rattle.std.specs.List.Sorted.{IsStrictlyIncreasing}
 use Rattle.sparc_assemble.specs.Assembly.{gathered}
+use Rattle.alw_num.proofs.Alls.{all_append}
+use Rattle.std.proofs.lemmas.List.{map-append}
 
 -- numbers from one on, each above those before it, all below another
 abbrev pub Rises : ℕ → ℕ → List ℕ → Type 0
@@ -27,17 +29,9 @@ pub rises_gathered : (found : ℕ → List ℕ) (start : ℕ → ℕ) → ((n : 
 rises_gathered found start each zero = omega arith
 rises_gathered found start each (suc n) = rises_append (start 0) (start n) (start (suc n)) (gathered found n) (found n) (rises_gathered found start each n) (each n)
 
-map-append : {A B : Type 0} (f : A → B) (xs ys : List A) → map f (xs ++ ys) ≡ map f xs ++ map f ys
-map-append f [] ys = refl
-map-append f (x ∷ xs) ys = ap (λ rest. f x ∷ rest) (map-append f xs ys)
-
 pub map_gathered : {A B : Type 0} (f : A → B) (found : ℕ → List A) (n : ℕ) → map f (gathered found n) ≡ gathered (λ k. map f (found k)) n
 map_gathered f found zero = refl
 map_gathered f found (suc n) = map-append f (gathered found n) (found n) ∙ ap (λ xs. xs ++ map f (found n)) (map_gathered f found n)
-
-all_append : {A : Type 0} (P : A → Type 0) (xs ys : List A) → AllByRecursion P xs → AllByRecursion P ys → AllByRecursion P (xs ++ ys)
-all_append P [] ys h k = k
-all_append P (x ∷ xs) ys h k = (h.0, all_append P xs ys h.1 k)
 
 pub all_gathered : {A : Type 0} (P : A → Type 0) (found : ℕ → List A) (n : ℕ) → ((k : ℕ) → k < n → AllByRecursion P (found k)) → AllByRecursion P (gathered found n)
 all_gathered P found zero each = tt

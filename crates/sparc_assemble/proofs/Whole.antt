@@ -39,10 +39,6 @@ fills_err found wanted (Unaligned n) h not = h
 fills_err found wanted (Overlap n) h not = h
 fills_err found wanted NoMemory h not = absurd (not refl)
 
-pub first_pass : (text : List ℕ) (e : AsmErr) → AnswersLines (read_source text) (Err e) → Answers (assembled text) (Err e)
-unfolding assembled
-first_pass text e h = answers_err (assembled text) e (λ not. ap after_lines (lines_err (read_source text) e h not))
-
 -- what is left behind the second pass
 behind_lines : (text : List ℕ) (lines : List Line) → read_source text ≡ Ok lines → assembled text ≡ after_places (places_of nothing_laid lines) lines (places 1 nothing_laid lines)
 unfolding assembled

@@ -1,5 +1,5 @@
 -- An assembled source's words are of 32 bits.
-use Rattle.std.proofs.Common.{◌≡◌, ℕ, zero, suc, ◌+◌, ◌-◌, ◌*◌, ◌<◌, ◌&&◌, Bool, true, false, if◌then◌else◌, nat_lt, nat_le, Option, Some, None, Result, Ok, Err, List, [], ◌∷◌, ◌++◌, length, map, slice_index, arith}
+use Rattle.std.proofs.Common.{◌≡◌, ℕ, zero, suc, ◌+◌, ◌-◌, ◌*◌, ◌<◌, ◌&&◌, Bool, true, false, if◌then◌else◌, nat_lt, nat_le, Option, Some, None, Result, Ok, Err, List, [], ◌∷◌, length, map, slice_index, arith}
 use Rattle.std.specs.List.{flat_map, AllByRecursion}
 use Rattle.std.specs.Option.{option_map_or}
 use Rattle.alw_num.specs.declared.addresses.Width.{Width}
@@ -24,15 +24,12 @@ use Rattle.sparc_place.specs.Places.{Layout, line_count}
 use Rattle.sparc_assemble.specs.declared.assembling.Assembled.{Assembled}
 use Rattle.sparc_assemble.specs.Assembly.{Names, Filled, nothing_filled, datum, modulus_of, spelled_as, with_code, with_bytes, with_values, filled, filled_in, all_filled, gathered, word_in, body_at, is_zero, data_line, parts_of, assembled}
 use Rattle.sparc_assemble.proofs.Passes.{holds_of_all}
+use Rattle.alw_num.proofs.Alls.{all_append}
 
 -- what lines fill in: words of 32 bits, and bytes
 record IsFilled (f : Filled) : Type 0 where
   words : AllByRecursion (λ (w : ℕ × ℕ). IsWord w.0) f.words
   bytes : (place : ℕ) → f.memory place < 256
-
-all-append : {X : Type 0} (P : X → Type 0) (xs ys : List X) → AllByRecursion P xs → AllByRecursion P ys → AllByRecursion P (xs ++ ys)
-all-append P [] ys all more = more
-all-append P (x ∷ xs) ys (h, all) more = (h, all-append P xs ys all more)
 
 all-map : {X Y : Type 0} (P : X → Type 0) (Q : Y → Type 0) (f : X → Y) (xs : List X) → ((x : X) → P x → Q (f x)) → AllByRecursion P xs →
     AllByRecursion Q (map f xs)
@@ -53,7 +50,7 @@ coded-words (Ok (Two first second)) fits = ((spelled first fits.0).1, ((spelled 
 
 filled-code : (number : ℕ) (words : List ℕ) (f : Filled) → AllByRecursion IsWord words → IsFilled f → IsFilled (with_code number words f)
 filled-code number words f all is = record {
-  words = all-append (λ (w : ℕ × ℕ). IsWord w.0) f.words (map (λ word. (word, number)) words) is.words
+  words = all_append (λ (w : ℕ × ℕ). IsWord w.0) f.words (map (λ word. (word, number)) words) is.words
       (all-map IsWord (λ (w : ℕ × ℕ). IsWord w.0) (λ word. (word, number)) words (λ word h. h) all);
   bytes = is.bytes;
 }
@@ -77,7 +74,7 @@ spelled-bytes Word value = (omega arith, (omega arith, (omega arith, (omega arit
 all-bytes : (width : Width) (values : List ℕ) → AllByRecursion (λ byte. byte < 256) (flat_map (spelled_as width) values)
 all-bytes width [] = tt
 all-bytes width (value ∷ rest) =
-    all-append (λ byte. byte < 256) (spelled_as width value) (flat_map (spelled_as width) rest) (spelled-bytes width value) (all-bytes width rest)
+    all_append (λ byte. byte < 256) (spelled_as width value) (flat_map (spelled_as width) rest) (spelled-bytes width value) (all-bytes width rest)
 
 byte-at : (bytes : List ℕ) (i : ℕ) → AllByRecursion (λ byte. byte < 256) bytes → slice_index bytes i < 256
 byte-at [] i all = omega arith
@@ -141,7 +138,7 @@ four-words memory n bytes = by_test (is_zero (body_at memory n))
 all-lines : (memory : ℕ → ℕ) (count : ℕ) → ((at : ℕ) → memory at < 256) → AllByRecursion HasFourWords (gathered (data_line memory) count)
 all-lines memory zero bytes = tt
 all-lines memory (suc n) bytes =
-    all-append HasFourWords (gathered (data_line memory) n) (data_line memory n) (all-lines memory n bytes) (four-words memory n bytes)
+    all_append HasFourWords (gathered (data_line memory) n) (data_line memory n) (all-lines memory n bytes) (four-words memory n bytes)
 
 have-words : (l : Layout) (f : Filled) → IsFilled f → HasWords (parts_of l f)
 have-words l f is = record {

@@ -13,7 +13,7 @@ byte_below [] i h = omega arith
 byte_below (x ∷ xs) zero h = h.0
 byte_below (x ∷ xs) (suc i) h = byte_below xs i h.1
 
-bytes_of_are : (line : Line) → AreBytes (bytes_of line)
+pub bytes_of_are : (line : Line) → AreBytes (bytes_of line)
 bytes_of_are line = (omega arith, (omega arith, (omega arith, (omega arith, (omega arith, (omega arith, (omega arith, (omega arith, (omega arith, (omega arith, (omega arith, (omega arith, (omega arith, (omega arith, (omega arith, (omega arith, tt))))))))))))))))
 
 pub byte_lane : (line : Line) (offset : ℕ) → lane_of line offset Byte < 256

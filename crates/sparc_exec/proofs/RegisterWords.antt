@@ -1,10 +1,9 @@
 -- Registers hold words: what a turn leaves in them, and what it prints, is below 2^32.
-use Rattle.std.proofs.Common.{◌≡◌, ℕ, zero, suc, ◌+◌, ◌-◌, ◌*◌, ◌/◌, ◌%◌, ◌^◌, ◌<◌, ◌≤◌, ◌==◌, nat_le, nat_lt, Bool, true, false, cond, Option, Some, None, Result, Ok, Err, List, [], ◌∷◌, slice_index, slice_set, slice_get, replicate, bit_and, bit_or, bit_xor, refl, sym, subst, ap, arith}
-use Rattle.std.specs.Prelude.{IfSome, ⊤, ℤ, pos, negsuc, unsigned_abs, ◌*ℤ◌}
+use Rattle.std.proofs.Common.{◌≡◌, ℕ, zero, suc, ◌-◌, ◌*◌, ◌/◌, ◌%◌, ◌^◌, ◌<◌, ◌≤◌, ◌==◌, nat_le, nat_lt, Bool, true, false, cond, Option, Some, None, Result, Ok, Err, List, [], ◌∷◌, slice_index, slice_set, slice_get, replicate, refl, sym, subst, arith}
+use Rattle.std.specs.Prelude.{⊤, ℤ, pos, negsuc, unsigned_abs}
 use Rattle.std.specs.List.{AllByRecursion}
 use Rattle.std.specs.Int.{w32, w64, cast_signed, cast_unsigned, int_shr, bit_not, from_bool}
 use Rattle.std.proofs.lemmas.Bool.{eqb-true}
-use Rattle.std.proofs.lemmas.Bool.Decides.{nat_tests}
 use Rattle.std.proofs.lemmas.Int.{ints, of_z-to_z, fits_signed_mul}
 use Rattle.std.proofs.Math.Facts.{Fits-of_z}
 use Rattle.std.proofs.lemmas.Nat.{and_le_l, or_of_32, xor_of_32, mul-le}
@@ -12,15 +11,15 @@ use Rattle.std.proofs.Math.Nat.{div-le_self, pow-le-pow_right}
 use Rattle.alw_num.specs.declared.addresses.Line.{Line}
 use Rattle.alw_num.specs.declared.addresses.Width.{Width}
 use Rattle.alw_num.specs.declared.addresses.Width.TheVariants.{Byte, Half, Word}
-use Rattle.alw_num.specs.Lanes.{bytes_of, lane_of}
+use Rattle.alw_num.specs.Lanes.{lane_of}
 use Rattle.sparc_table.specs.Registers.{register, with_register, start_of}
-use Rattle.sparc_table.specs.Operands.{operand_of, address_of, sign_extended}
-use Rattle.sparc_table.specs.Arithmetic.{Computed, computed, logical, added, subtracted, with_codes, signed_product, multiplied, assigned, arithmetic, shifted}
-use Rattle.sparc_table.specs.Control.{holds, next, transfer, transfer_at_once, skip, branched, call_target, branch_target}
-use Rattle.sparc_table.specs.Access.{width_of, is_load, loaded, stored}
+use Rattle.sparc_table.specs.Operands.{operand_of, address_of}
+use Rattle.sparc_table.specs.Arithmetic.{Computed, computed, logical, with_codes, signed_product, multiplied, assigned, arithmetic, shifted}
+use Rattle.sparc_table.specs.Control.{holds, next, transfer, branched}
+use Rattle.sparc_table.specs.Access.{width_of, is_load, loaded}
 use Rattle.sparc_table.specs.Table.{is_in, instr_of, Fits, FitsOperand}
-use Rattle.sparc_table.specs.Meaning.{effect, jumped, trap_on}
-use Rattle.sparc_table.specs.Turns.{or_illegal, or_no_access, fetched, run_at, run_of, need_of, turn_at, turn_of}
+use Rattle.sparc_table.specs.Meaning.{effect}
+use Rattle.sparc_table.specs.Turns.{or_illegal, or_no_access, fetched, run_at, turn_at, turn_of}
 use Rattle.sparc_table.specs.Meaning.{need}
 use Rattle.sparc_table.specs.declared.registers.Regs.{Regs}
 use Rattle.sparc_table.specs.declared.instructions.Instr.{Instr}
@@ -33,6 +32,7 @@ use Rattle.sparc_table.specs.declared.outcomes.Outcome.{Outcome}
 use Rattle.sparc_table.specs.declared.outcomes.Outcome.TheVariants.{Done, Miss, Out, Halt, Trap}
 use Rattle.sparc_table.proofs.Rows.{table_fits}
 use Rattle.sparc_exec.proofs.Lanes.{byte_lane, half_lane, word_lane}
+use Rattle.sparc_table.proofs.Effects.{choice}
 
 abbrev IsWord : ℕ → Type 0
 IsWord n = n < 2 ^ 32
@@ -50,10 +50,6 @@ PrintsWord Done = ⊤
 PrintsWord (Miss line mode) = ⊤
 PrintsWord Halt = ⊤
 PrintsWord (Trap tt) = ⊤
-
-choice : {A : Type 0} (P : A → Type 0) (b : Bool) (x y : A) → P x → P y → P (cond b x y)
-choice P true x y h k = h
-choice P false x y h k = k
 
 -- the same where the first is only so if the test holds
 chosen : {A : Type 0} (P : A → Type 0) (b : Bool) (x y : A) → (b ≡ true → P x) → P y → P (cond b x y)

@@ -8,7 +8,7 @@ use Rattle.sparc_asm.specs.declared.statements.Line.{Line}
 use Rattle.sparc_asm.proofs.Reading.{drop_get}
 use Rattle.sparc_place.specs.declared.cursors.Place.{Place}
 use Rattle.sparc_place.specs.declared.plans.Step.{Step}
-use Rattle.sparc_place.specs.Places.{Layout, place_fault, label_again, labelled, laid, behind, here_of, places, places_of, place_of, place_or}
+use Rattle.sparc_place.specs.Places.{Layout, place_fault, label_again, labelled, behind, here_of, places, places_of, place_or}
 use Rattle.sparc_place.specs.Plans.{stepped, placed, refused, IsStep, LineIsLaid, AnswersPlaces}
 
 -- a statement's step, and its label before it

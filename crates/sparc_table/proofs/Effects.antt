@@ -26,7 +26,7 @@ pub record IsOrderly (regs : Regs) (line : Line) (after : Regs × Line × Outcom
   pub still : OutcomeIsStill after.2 → (after.0 ≡ regs) × (after.1 ≡ line)
   pub found : (l : LineNo) → (m : Mode) → after.2 ≢ Miss l m
 
-choice : {A : Type 0} (P : A → Type 0) (b : Bool) (x y : A) → P x → P y → P (cond b x y)
+pub choice : {A : Type 0} (P : A → Type 0) (b : Bool) (x y : A) → P x → P y → P (cond b x y)
 choice P true x y h k = h
 choice P false x y h k = k
 

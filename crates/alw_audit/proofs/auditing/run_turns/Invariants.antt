@@ -1,5 +1,5 @@
 -- The turns so far are taken, and what they printed is appended.
-use Rattle.std.proofs.Common.{◌≡◌, ◌<◌, ◌≤◌, ◌+◌, drop, length}
+use Rattle.std.proofs.Common.{◌≡◌, ◌<◌, ◌≤◌, drop, length}
 use Rattle.std.specs.List.{AllByRecursion}
 use Rattle.alw_image.specs.Images.{context_count}
 use Rattle.alw_audit.proofs.TurnRuns.{IsUnderWay}

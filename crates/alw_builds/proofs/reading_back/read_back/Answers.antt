@@ -1,7 +1,6 @@
 -- The source of the image that was read, or what is refused.
-use Rattle.std.proofs.Common.{◌≡◌, ℕ, List, sym, ap, subst, ◌∙◌, arith}
+use Rattle.std.proofs.Common.{ap, subst, ◌∙◌, arith}
 use Rattle.std.proofs.lemmas.Result.{err_from_is_err_and}
-use Rattle.alw_image.specs.declared.parts.Parts.{Parts}
 use Rattle.alw_image.specs.Images.{IsImage, spelling}
 use Rattle.alw_source.specs.Sources.{source_of}
 use Rattle.alw_answers.specs.Refusals.{IsNoImage}

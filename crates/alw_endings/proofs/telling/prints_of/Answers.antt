@@ -1,5 +1,5 @@
 -- The words of one context more.
-use Rattle.std.proofs.Common.{◌≡◌, ℕ, List, [], ◌++◌, map, sym, ap, ◌∙◌}
+use Rattle.std.proofs.Common.{ℕ, List, [], ◌++◌, map, sym, ap, ◌∙◌}
 use Rattle.std.specs.Prelude.{slice_index_or}
 use Rattle.alw_outcomes.specs.Explored.{place_in}
 use Rattle.alw_endings.specs.Ends.{prints_by}

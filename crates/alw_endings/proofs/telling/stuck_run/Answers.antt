@@ -1,7 +1,7 @@
 -- The turns lead to the place from which no end can be reached.
 use Rattle.std.proofs.Common.{◌≡◌, sym, subst}
 use Rattle.std.specs.Prelude.{slice_get, Some}
-use Rattle.alw_outcomes.specs.Explored.{Found, found_in}
+use Rattle.alw_outcomes.specs.Explored.{Found}
 use Rattle.alw_endings.proofs.Told.{within}
 use Rattle.alw_endings.proofs.telling.stuck_run.Goals as goal
 

@@ -1,5 +1,5 @@
 -- One start more.
-use Rattle.std.proofs.Common.{ℕ, List, [], ◌∷◌, ◌++◌, ap, sym, ◌∙◌, arith, length-append}
+use Rattle.std.proofs.Common.{ℕ, List, [], ◌∷◌, ◌++◌, ap, sym, ◌∙◌, arith}
 use Rattle.std.proofs.lemmas.List.FromFn.{map-range_with_len_more}
 use Rattle.alw_num.specs.declared.addresses.NodeNo.{NodeNo}
 use Rattle.alw_gen.specs.Workloads.{start_of_node}

@@ -1,5 +1,5 @@
 -- A node that isn't the home has messages about the line on its link to the home alone.
-use Rattle.std.proofs.Common.{◌≡◌, ℕ, ◌<◌, sym, ap, ◌∙◌, arith}
+use Rattle.std.proofs.Common.{ℕ, ◌<◌, sym, ap, ◌∙◌, arith}
 use Rattle.std.proofs.lemmas.Bool.{false≢true, eqb-true, eq-eqb}
 use Rattle.alw_image.specs.Images.{node_count}
 use Rattle.alw_mesh.specs.Histories.{state_of}

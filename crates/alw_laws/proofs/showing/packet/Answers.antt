@@ -1,5 +1,5 @@
 -- The first packet about the line.
-use Rattle.std.proofs.Common.{◌≡◌, ℕ, sym, ap, ◌∙◌}
+use Rattle.std.proofs.Common.{ℕ, sym, ap, ◌∙◌}
 use Rattle.alw_msg.specs.Lists.{front}
 use Rattle.alw_model.specs.Machine.{node_at}
 use Rattle.alw_mesh.specs.Histories.{state_of}

@@ -1,5 +1,5 @@
 -- The home lines so far.
-use Rattle.std.proofs.Common.{◌≡◌, ℕ, ◌+◌, ◌*◌, ◌++◌}
+use Rattle.std.proofs.Common.{◌≡◌, ◌+◌, ◌*◌, ◌++◌}
 use Rattle.std.specs.List.{flat_map, range_with_len}
 use Rattle.alw_mesh.specs.Histories.{state_of}
 use Rattle.alw_save.specs.States.{home_text}

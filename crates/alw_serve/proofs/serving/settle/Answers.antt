@@ -3,11 +3,11 @@ use Rattle.std.proofs.Common.{◌≡◌, true, List, [], ◌∷◌, ◌++◌, le
 use Rattle.alw_msg.specs.declared.events.Entry.{Entry}
 use Rattle.alw_model.specs.Machine.{main_events}
 use Rattle.law_turns.specs.Orders.{is_quiet}
-use Rattle.law_turns.proofs.Fronts.{all_append}
 use Rattle.alw_mesh.specs.Histories.{History, may_be_next, entry_of}
 use Rattle.alw_mesh.proofs.Journals.{journal_fits}
 use Rattle.alw_serve.proofs.Finding.{found_passes}
 use Rattle.alw_serve.proofs.serving.settle.Goals as goal
+use Rattle.alw_num.proofs.Alls.{all_append}
 
 pub take-requires : goal.take-requires
 take-requires c =

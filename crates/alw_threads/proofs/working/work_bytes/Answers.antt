@@ -4,7 +4,6 @@ use Rattle.std.specs.Prelude.{Err}
 use Rattle.std.proofs.lemmas.Result.{err_from_is_err_and}
 use Rattle.alw_image.specs.Parameters.{Parameters}
 use Rattle.alw_mesh.specs.Limits.{most_steps}
-use Rattle.alw_answers.specs.declared.outputs.Refusal.{Refusal}
 use Rattle.alw_answers.specs.Outputs.{Gives}
 use Rattle.alw_runs.specs.Running.{parameters_in}
 use Rattle.alw_threads.specs.Working.{Works, IsNotWorked}

@@ -1,5 +1,5 @@
 -- The entry of one line more.
-use Rattle.std.proofs.Common.{◌≡◌, ℕ, List, ◌++◌, sym, ap, ◌∙◌, arith}
+use Rattle.std.proofs.Common.{List, ◌++◌, sym, ap, ◌∙◌, arith}
 use Rattle.alw_model.specs.Counts.{DirectoryLine, directory_line}
 use Rattle.alw_model.specs.Lines.{entry_of}
 use Rattle.alw_mesh.specs.Histories.{state_of}

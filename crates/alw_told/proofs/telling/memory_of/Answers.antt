@@ -1,5 +1,5 @@
 -- The words of one line more.
-use Rattle.std.proofs.Common.{◌≡◌, ℕ, List, ◌++◌, sym, ap, ◌∙◌, arith}
+use Rattle.std.proofs.Common.{ℕ, List, ◌++◌, sym, ap, ◌∙◌, arith}
 use Rattle.alw_num.specs.declared.addresses.Line.{Line}
 use Rattle.alw_model.specs.Counts.{words_of}
 use Rattle.alw_model.specs.Lines.{current_value}

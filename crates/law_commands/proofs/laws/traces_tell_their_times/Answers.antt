@@ -1,7 +1,5 @@
 -- The trace of a run tells its times.
 use Rattle.alw_mesh.specs.Limits.{most_timed_steps}
-use Rattle.alw_runs.specs.Forms.{IsToldBy}
-use Rattle.alw_cycles.specs.Timing.{time_text}
 use Rattle.alw_cycles.specs.ByTime.{timed_text}
 use Rattle.law_commands.proofs.Again.{times_the_same, told_again}
 use Rattle.law_commands.proofs.laws.traces_tell_their_times.Goals as goal

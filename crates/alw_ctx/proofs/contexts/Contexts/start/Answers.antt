@@ -1,6 +1,5 @@
 -- No slot has a hold.
-use Rattle.std.proofs.Common.{arith, rules, sym, ap, ◌∙◌}
-use Rattle.alw_ctx.specs.Residents.{slots_of, holds_of}
+use Rattle.std.proofs.Common.{arith, rules, sym}
 use Rattle.alw_ctx.proofs.Holds.{start_holds}
 use Rattle.alw_ctx.proofs.contexts.Contexts.start.Goals as goal
 

@@ -1,8 +1,7 @@
 -- The rows fit the machine.
-use Rattle.std.proofs.Common.{◌<◌, length, slice_get, Some, sym, subst}
+use Rattle.std.proofs.Common.{◌<◌, sym, subst}
 use Rattle.std.proofs.lemmas.Option.{get_or_from_slice_get}
 use Rattle.alw_model.specs.Machine.{MachineState}
-use Rattle.alw_ready.specs.declared.rows.Row.{Row}
 use Rattle.alw_ready.specs.Rows.{no_row}
 use Rattle.alw_ready.specs.Fits.{RowFits}
 use Rattle.alw_mesh.proofs.machines.Machine.row.Goals as goal

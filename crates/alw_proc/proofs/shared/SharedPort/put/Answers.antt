@@ -1,5 +1,5 @@
 -- The line's copy has the value, and what is seen of the others stays.
-use Rattle.std.proofs.Common.{◌≡◌, ap, ◌∙◌}
+use Rattle.std.proofs.Common.{ap, ◌∙◌}
 use Rattle.alw_cache.specs.Places.{Copies, seen_in}
 use Rattle.alw_cache.proofs.Seen.{seen_written}
 use Rattle.alw_proc.proofs.Turning.{can_write}

@@ -1,6 +1,3 @@
-use Rattle.std.proofs.Common.{◌≡◌, drop, length}
-use Rattle.alw_image.specs.Images.{node_count}
-use Rattle.alw_ready.specs.Changes.{RowsFitBut}
 use Rattle.alw_ready.proofs.Renewing.{AreLeft}
 use Rattle.alw_ready.proofs.ready.Ready.renew_sent.Given as goal
 

@@ -1,4 +1,4 @@
-use Rattle.std.proofs.Common.{◌≡◌, replicate, ap, ◌∙◌, arith}
+use Rattle.std.proofs.Common.{◌≡◌, arith}
 use Rattle.alw_ready.proofs.RowEvents.{starts}
 use Rattle.alw_ready.proofs.ready.Ready.start.Goals as goal
 
