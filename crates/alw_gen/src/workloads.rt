@@ -31,10 +31,7 @@ pub fn workload(
     ensures words { IfOk result (λ image. HasWords image) }
 {
     let parts = parts_of(alloc, seed, width, height, size)?;
-    match Image::from_parts(parts) {
-        Some(image) => Ok(image),
-        None => unreachable!(),
-    }
+    Ok(Image::checked(parts))
 }
 
 /// The most operations of each node of a workload: 255 on a mesh of at most 8 columns and 8 rows, and 63 on

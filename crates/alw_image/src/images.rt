@@ -62,8 +62,8 @@ impl Image {
         &self.parts
     }
 
-    /// The image of parts that are known to be one's.
-    pub(crate) fn checked(parts: Parts) -> Image
+    /// The image of parts that are known to be one's: nothing is looked at again.
+    pub fn checked(parts: Parts) -> Image
         requires { IsImage parts }
         ensures { result ≡ parts }
     {

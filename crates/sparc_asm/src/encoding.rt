@@ -46,10 +46,8 @@ fn number_of(
 fn word_of(names: &Names, here: u32, expression: &Expression) -> Result<u32, Fault>
     ensures value { result ≡ word_of (value_in names.now) here expression.now }
 {
-    match number_of(names, here, 1 << 31, (1 << 32) - 1, expression) {
-        Ok(value) => Ok(value.modulo(1 << 32) as u32),
-        Err(fault) => Err(fault),
-    }
+    let value = number_of(names, here, 1 << 31, (1 << 32) - 1, expression)?;
+    Ok(value.modulo(1 << 32) as u32)
 }
 
 // A number within a field.
@@ -77,16 +75,16 @@ fn operand_of(
 {
     match operand {
         Source::Register(number) => Ok(Operand::Reg { rs2: *number }),
-        Source::Number(expression) => match number_of(names, here, least, most, expression) {
-            Ok(value) => Ok(Operand::Imm {
+        Source::Number(expression) => {
+            let value = number_of(names, here, least, most, expression)?;
+            Ok(Operand::Imm {
                 bits: value.modulo(1 << 13) as u16,
-            }),
-            Err(fault) => Err(fault),
-        },
-        Source::Low(expression) => match word_of(names, here, expression) {
-            Ok(word) => immediate(most, (word % 1024) as u16),
-            Err(fault) => Err(fault),
-        },
+            })
+        }
+        Source::Low(expression) => {
+            let word = word_of(names, here, expression)?;
+            immediate(most, (word % 1024) as u16)
+        }
     }
 }
 
@@ -120,13 +118,9 @@ fn aligned(target: Sum, found: u32) -> Result<u32, Fault>
 fn call_distance(names: &Names, here: u32, expression: &Expression) -> Result<u32, Fault>
     ensures value { result ≡ call_distance (value_in names.now) here expression.now }
 {
-    match target_of(names, here, expression) {
-        Ok(target) => {
-            let words = ahead(target, here).quarter();
-            aligned(target, words.modulo(1 << 30) as u32)
-        }
-        Err(fault) => Err(fault),
-    }
+    let target = target_of(names, here, expression)?;
+    let words = ahead(target, here).quarter();
+    aligned(target, words.modulo(1 << 30) as u32)
 }
 
 // How far a target lies ahead.
@@ -143,16 +137,12 @@ fn ahead(target: Sum, here: u32) -> Sum
 fn branch_distance(names: &Names, here: u32, expression: &Expression) -> Result<u32, Fault>
     ensures value { result ≡ branch_distance (value_in names.now) here expression.now }
 {
-    match target_of(names, here, expression) {
-        Ok(target) => {
-            let distance = ahead(target, here);
-            if distance.is_between(1 << 23, (1 << 23) - 4) {
-                aligned(target, distance.quarter().modulo(1 << 22) as u32)
-            } else {
-                Err(Fault::Range)
-            }
-        }
-        Err(fault) => Err(fault),
+    let target = target_of(names, here, expression)?;
+    let distance = ahead(target, here);
+    if distance.is_between(1 << 23, (1 << 23) - 4) {
+        aligned(target, distance.quarter().modulo(1 << 22) as u32)
+    } else {
+        Err(Fault::Range)
     }
 }
 
@@ -181,43 +171,31 @@ fn set_word(rd: u8, word: u32) -> Coded
 pub fn encode(names: &Names, here: u32, statement: &Statement) -> Result<Coded, Fault>
     ensures { result ≡ coded (value_in names.now) here statement.now }
 {
-    match statement {
-        Statement::Call { target } => match call_distance(names, here, target) {
-            Ok(disp) => Ok(Coded::One(Instr::Call { disp })),
-            Err(fault) => Err(fault),
+    let instr = match statement {
+        Statement::Call { target } => Instr::Call {
+            disp: call_distance(names, here, target)?,
         },
         Statement::Branch {
             annul,
             cond,
             target,
-        } => match branch_distance(names, here, target) {
-            Ok(disp) => Ok(Coded::One(Instr::Branch {
-                annul: *annul,
-                cond: *cond,
-                disp,
-            })),
-            Err(fault) => Err(fault),
+        } => Instr::Branch {
+            annul: *annul,
+            cond: *cond,
+            disp: branch_distance(names, here, target)?,
         },
-        Statement::Sethi { value, rd } => match number_of(names, here, 0, 4_194_303, value) {
-            Ok(value) => Ok(Coded::One(Instr::Sethi {
-                rd: *rd,
-                imm: value.above() as u32,
-            })),
-            Err(fault) => Err(fault),
+        Statement::Sethi { value, rd } => Instr::Sethi {
+            rd: *rd,
+            imm: number_of(names, here, 0, 4_194_303, value)?.above() as u32,
         },
-        Statement::SethiHigh { value, rd } => match word_of(names, here, value) {
-            Ok(word) => Ok(Coded::One(Instr::Sethi {
-                rd: *rd,
-                imm: word / 1024,
-            })),
-            Err(fault) => Err(fault),
+        Statement::SethiHigh { value, rd } => Instr::Sethi {
+            rd: *rd,
+            imm: word_of(names, here, value)? / 1024,
         },
-        Statement::Set { value, rd } => match word_of(names, here, value) {
-            Ok(word) => Ok(set_word(*rd, word)),
-            Err(fault) => Err(fault),
-        },
-        _ => with_operand(names, here, statement),
-    }
+        Statement::Set { value, rd } => return Ok(set_word(*rd, word_of(names, here, value)?)),
+        _ => return with_operand(names, here, statement),
+    };
+    Ok(Coded::One(instr))
 }
 
 // The same of a statement that has an operand, or none to be looked up.
@@ -232,62 +210,43 @@ fn with_operand(names: &Names, here: u32, statement: &Statement) -> Result<Coded
             rs1,
             operand,
             rd,
-        } => match plain_operand(names, here, operand) {
-            Ok(operand) => Instr::Arith {
-                op3: *op3,
-                rd: *rd,
-                rs1: *rs1,
-                operand,
-            },
-            Err(fault) => return Err(fault),
+        } => Instr::Arith {
+            op3: *op3,
+            rd: *rd,
+            rs1: *rs1,
+            operand: plain_operand(names, here, operand)?,
         },
         Statement::Shift {
             op3,
             rs1,
             operand,
             rd,
-        } => match operand_of(names, here, 0, 31, operand) {
-            Ok(operand) => Instr::Shift {
-                op3: *op3,
-                rd: *rd,
-                rs1: *rs1,
-                operand,
-            },
-            Err(fault) => return Err(fault),
+        } => Instr::Shift {
+            op3: *op3,
+            rd: *rd,
+            rs1: *rs1,
+            operand: operand_of(names, here, 0, 31, operand)?,
         },
-        Statement::WriteY { rs1, operand } => match plain_operand(names, here, operand) {
-            Ok(operand) => Instr::WriteY { rs1: *rs1, operand },
-            Err(fault) => return Err(fault),
+        Statement::WriteY { rs1, operand } => Instr::WriteY {
+            rs1: *rs1,
+            operand: plain_operand(names, here, operand)?,
         },
-        Statement::Jmpl { address, rd } => match plain_operand(names, here, &address.offset) {
-            Ok(operand) => Instr::Jmpl {
-                rd: *rd,
-                rs1: address.base,
-                operand,
-            },
-            Err(fault) => return Err(fault),
+        Statement::Jmpl { address, rd } => Instr::Jmpl {
+            rd: *rd,
+            rs1: address.base,
+            operand: plain_operand(names, here, &address.offset)?,
         },
-        Statement::Trap { cond, address } => {
-            match operand_of(names, here, 0, 127, &address.offset) {
-                Ok(operand) => Instr::TrapOn {
-                    cond: *cond,
-                    rs1: address.base,
-                    operand,
-                },
-                Err(fault) => return Err(fault),
-            }
-        }
-        Statement::Memory { op3, address, rd } => {
-            match plain_operand(names, here, &address.offset) {
-                Ok(operand) => Instr::Memory {
-                    op3: *op3,
-                    rd: *rd,
-                    rs1: address.base,
-                    operand,
-                },
-                Err(fault) => return Err(fault),
-            }
-        }
+        Statement::Trap { cond, address } => Instr::TrapOn {
+            cond: *cond,
+            rs1: address.base,
+            operand: operand_of(names, here, 0, 127, &address.offset)?,
+        },
+        Statement::Memory { op3, address, rd } => Instr::Memory {
+            op3: *op3,
+            rd: *rd,
+            rs1: address.base,
+            operand: plain_operand(names, here, &address.offset)?,
+        },
         Statement::ReadY { rd } => Instr::ReadY { rd: *rd },
         _ => return Ok(Coded::Nothing),
     };

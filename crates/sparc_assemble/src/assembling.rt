@@ -28,31 +28,16 @@ pub fn assemble(alloc: Global, text: &[u8]) -> Result<Assembled, AsmErr>
     ensures image { IfOk result (λ assembled. IsImage assembled.image) }
     ensures words { IfOk result (λ assembled. HasWords assembled.image) }
 {
-    let lines = match read_source(alloc, text) {
-        Ok(lines) => lines,
-        Err(e) => return Err(e),
-    };
-    let laid = match lay_out(alloc, &lines) {
-        Ok(laid) => laid,
-        Err(e) => return Err(e),
-    };
-    let filling = match fill_in(alloc, &laid, &lines) {
-        Ok(filling) => filling,
-        Err(e) => return Err(e),
-    };
+    let lines = read_source(alloc, text)?;
+    let laid = lay_out(alloc, &lines)?;
+    let filling = fill_in(alloc, &laid, &lines)?;
     if laid.plan.code() == 0 {
         return Err(AsmErr::Range { line: 0 });
     }
-    let parts = match parts_of(alloc, &laid.plan, &filling) {
-        Ok(parts) => parts,
-        Err(_e) => return Err(AsmErr::NoMemory),
-    };
-    let lines = match lines_of(alloc, &filling.words) {
-        Ok(lines) => lines,
-        Err(_e) => return Err(AsmErr::NoMemory),
-    };
-    match Image::from_parts(parts) {
-        Some(image) => Ok(Assembled { image, lines }),
-        None => unreachable!(),
-    }
+    let parts = parts_of(alloc, &laid.plan, &filling)?;
+    let word_lines = lines_of(alloc, &filling.words)?;
+    Ok(Assembled {
+        image: Image::checked(parts),
+        lines: word_lines,
+    })
 }
