@@ -2,7 +2,7 @@ ghost use Rattle.std.specs.Prelude.{◌≡◌};
 ghost use Rattle.alw_answers.specs.Outputs.{status_of};
 ghost use Rattle.alw_answers.specs.Tasks.{IsNothing};
 
-use alw_audit::Place;
+use alw_audit::Difference;
 use alw_config::WordErr;
 use alw_image::ImageErr;
 use alw_model::TrapAt;
@@ -49,7 +49,7 @@ pub enum Cause {
     ReadFault,
     WriteFault,
     NoMemory,
-    Differs(Place, u64, u64),
+    Differs(Difference, u64, u64),
     MayTrap,
     MayNotEnd,
 }

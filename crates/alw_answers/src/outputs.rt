@@ -5,7 +5,7 @@ ghost use Rattle.std.specs.Prelude.{◌≡◌, []};
 ghost use Rattle.alw_answers.specs.Outputs.{IsText, ending_of};
 
 use crate::answers::InputErr;
-use alw_audit::Place;
+use alw_audit::Difference;
 use alw_image::ImageErr;
 use alw_mesh::FitErr;
 use alw_model::{Ended, TrapAt};
@@ -23,7 +23,7 @@ pub enum Ending {
     Fine,
     Trapped(TrapAt),
     Limit(Event),
-    Differs(Place, u64, u64),
+    Differs(Difference, u64, u64),
     MayTrap,
     MayNotEnd,
 }

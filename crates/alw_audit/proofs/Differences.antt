@@ -9,7 +9,7 @@ use Rattle.alw_image.specs.Images.{line_count}
 use Rattle.alw_model.specs.Flat.{Flat, context_at, flat_start, flat_turn, turns_ready, flat_after, flat_prints, are_ready}
 use Rattle.alw_flat.specs.Machines.{IsSharedWord, word_of}
 use Rattle.alw_trace.specs.declared.values.Claim.{Claim}
-use Rattle.alw_audit.specs.declared.verdicts.Place.TheVariants.{Turn, PrintCount, PrintContext, Print, Memory}
+use Rattle.alw_audit.specs.declared.verdicts.Difference.TheVariants.{Turn, PrintCount, PrintContext, Print, Memory}
 use Rattle.alw_audit.specs.declared.verdicts.Verdict.{Verdict}
 use Rattle.alw_audit.specs.declared.verdicts.Verdict.TheVariants.{Sound, Differs}
 use Rattle.alw_audit.specs.Verdicts.{ClaimIsSound, stop_number, claimed_word, or_else, turns_verdict, pairs_verdict, prints_verdict, words_verdict, verdict_of}

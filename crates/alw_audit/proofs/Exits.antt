@@ -8,7 +8,7 @@ use Rattle.alw_image.specs.Images.{IsImage, context_count, line_count}
 use Rattle.alw_model.specs.Flat.{Flat, flat_start, turns_after, turns_print, flat_after, flat_prints}
 use Rattle.alw_flat.specs.Machines.{FlatMachine, for_turns}
 use Rattle.alw_trace.specs.declared.values.Claim.{Claim}
-use Rattle.alw_audit.specs.declared.verdicts.Place.{Place}
+use Rattle.alw_audit.specs.declared.verdicts.Difference.{Difference}
 use Rattle.alw_audit.specs.declared.verdicts.Verdict.{Verdict}
 use Rattle.alw_audit.specs.declared.verdicts.Verdict.TheVariants.{Sound, Differs}
 use Rattle.alw_audit.specs.Verdicts.{or_else, turns_verdict, prints_verdict, words_verdict, verdict_of}
@@ -42,7 +42,7 @@ after_is claim machine after list started same is =
     ap (λ (m : FlatMachine). m.flat) is ∙ ap (λ (m : FlatMachine). turns_after m.parts m.flat list) started ∙ same_after claim.image (flat_start claim.image) list ∙ ap (turns_after claim.image (flat_start claim.image)) same
 
 -- a turn differs
-pub turn_found : (claim : Claim) (machine : FlatMachine) (list : List ℕ) (found : Verdict) (place : Place) (claimed real : ℕ) → IsStarted claim.image machine → list ≡ claim.turns → found ≡ turns_verdict machine.parts machine.flat 0 list → found ≡ Differs place claimed real
+pub turn_found : (claim : Claim) (machine : FlatMachine) (list : List ℕ) (found : Verdict) (place : Difference) (claimed real : ℕ) → IsStarted claim.image machine → list ≡ claim.turns → found ≡ turns_verdict machine.parts machine.flat 0 list → found ≡ Differs place claimed real
     → found ≡ verdict_of claim
 unfolding verdict_of
 turn_found claim machine list found place claimed real started same is differs =
@@ -50,7 +50,7 @@ turn_found claim machine list found place claimed real started same is differs =
     differs ∙ ap (λ (v : Verdict). or_else v rest) (sym differs) ∙ ap (λ (v : Verdict). or_else v rest) (turns_are claim machine list found started same is)
 
 -- no turn does, and a print differs
-pub print_found : (claim : Claim) (machine : FlatMachine) (list : List ℕ) (turns found : Verdict) (claims prints : List (ℕ × ℕ)) (place : Place) (claimed real : ℕ) → IsStarted claim.image machine → list ≡ claim.turns → turns ≡ turns_verdict machine.parts machine.flat 0 list → turns ≡ Sound
+pub print_found : (claim : Claim) (machine : FlatMachine) (list : List ℕ) (turns found : Verdict) (claims prints : List (ℕ × ℕ)) (place : Difference) (claimed real : ℕ) → IsStarted claim.image machine → list ≡ claim.turns → turns ≡ turns_verdict machine.parts machine.flat 0 list → turns ≡ Sound
     → claims ≡ claim.prints → prints ≡ flat_prints claim.image claim.turns → found ≡ prints_verdict claims prints → found ≡ Differs place claimed real → found ≡ verdict_of claim
 unfolding verdict_of
 print_found claim machine list turns found claims prints place claimed real started same is sound claims_are real_are printed differs =

@@ -9,7 +9,7 @@ use Rattle.alw_image.specs.declared.parts.Parts.{Parts}
 use Rattle.alw_image.specs.Images.{line_count}
 use Rattle.alw_model.specs.Flat.{Flat, context_at, flat_turn, flat_turn_by, print_of, turns_after, turns_print}
 use Rattle.alw_flat.specs.Machines.{for_turns}
-use Rattle.alw_audit.specs.declared.verdicts.Place.TheVariants.{Turn}
+use Rattle.alw_audit.specs.declared.verdicts.Difference.TheVariants.{Turn}
 use Rattle.alw_audit.specs.declared.verdicts.Verdict.{Verdict}
 use Rattle.alw_audit.specs.declared.verdicts.Verdict.TheVariants.{Differs}
 use Rattle.alw_audit.specs.Verdicts.{stop_number, turns_verdict}

@@ -7,7 +7,7 @@ ghost use Rattle.alw_audit.specs.Verdicts.{AreWords, IsAuditable, ClaimIsSound, 
 
 use crate::memory::words_verdict;
 use crate::prints::prints_verdict;
-use crate::verdicts::{Place, Verdict};
+use crate::verdicts::{Difference, Verdict};
 use alw_flat::Flat;
 use alw_msg::{Prints, Status};
 use alw_num::NoMemory;
@@ -66,7 +66,7 @@ fn run_turns(flat: &mut Flat, turns: &[u32], prints: &mut Prints) -> Result<Verd
         let status = flat.status(*context);
         if !status.is_ready() {
             return Ok(Verdict::Differs {
-                place: Place::Turn { k },
+                place: Difference::Turn { k },
                 claimed: u64::from(*context),
                 real: stop_number(status),
             });

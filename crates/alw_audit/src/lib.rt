@@ -9,4 +9,4 @@ mod verdicts;
 
 pub use auditing::audit;
 pub use laws::runs_claim_what_is_sound;
-pub use verdicts::{Place, Verdict};
+pub use verdicts::{Difference, Verdict};

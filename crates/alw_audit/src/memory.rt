@@ -2,7 +2,7 @@ ghost use Rattle.std.specs.Prelude.{◌≡◌, ◌<◌, ◌≤◌, ◌+◌, ◌*
 ghost use Rattle.alw_image.specs.Images.{line_count};
 ghost use Rattle.alw_audit.specs.Verdicts.{WordsAreFrom, AreWords, claimed_word, words_verdict};
 
-use crate::verdicts::{Place, Verdict};
+use crate::verdicts::{Difference, Verdict};
 use alw_flat::Flat;
 use alw_num::{MOST_LINES, SHARED_BASE};
 
@@ -22,7 +22,7 @@ pub fn words_verdict(flat: &Flat, lines: u32, memory: &[(u32, u32)]) -> Verdict
         let real = flat.word(addr);
         if claimed != real {
             return Verdict::Differs {
-                place: Place::Memory { addr },
+                place: Difference::Memory { addr },
                 claimed: u64::from(claimed),
                 real: u64::from(real),
             };

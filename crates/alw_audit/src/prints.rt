@@ -1,7 +1,7 @@
 ghost use Rattle.std.specs.Prelude.{◌≡◌, ◌<◌, ◌^◌, [], ◌∷◌, length};
 ghost use Rattle.alw_audit.specs.Verdicts.{AreWords, pairs_verdict, prints_verdict};
 
-use crate::verdicts::{Place, Verdict};
+use crate::verdicts::{Difference, Verdict};
 
 /// The number of prints, or the first print, that differs.
 pub fn prints_verdict(claimed: &[(u32, u32)], real: &[(u32, u32)]) -> Verdict
@@ -12,7 +12,7 @@ pub fn prints_verdict(claimed: &[(u32, u32)], real: &[(u32, u32)]) -> Verdict
 {
     if claimed.len() != real.len() {
         return Verdict::Differs {
-            place: Place::PrintCount,
+            place: Difference::PrintCount,
             claimed: claimed.len() as u64,
             real: real.len() as u64,
         };
@@ -33,14 +33,14 @@ fn pair_verdict(k: u32, claimed: (u32, u32), real: (u32, u32)) -> Verdict
 {
     if claimed.0 != real.0 {
         return Verdict::Differs {
-            place: Place::PrintContext { k },
+            place: Difference::PrintContext { k },
             claimed: u64::from(claimed.0),
             real: u64::from(real.0),
         };
     }
     if claimed.1 != real.1 {
         return Verdict::Differs {
-            place: Place::Print { k },
+            place: Difference::Print { k },
             claimed: u64::from(claimed.1),
             real: u64::from(real.1),
         };

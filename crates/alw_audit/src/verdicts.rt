@@ -1,6 +1,6 @@
 /// Where a claim differs from the flat run of its turns. Turns and prints are counted from 0.
 #[derive(Clone, Copy, PartialEq, Eq)]
-pub enum Place {
+pub enum Difference {
     /// A turn is of a context that isn't Ready.
     Turn { k: u32 },
     /// There are more or fewer prints.
@@ -19,7 +19,7 @@ pub enum Place {
 pub enum Verdict {
     Sound,
     Differs {
-        place: Place,
+        place: Difference,
         claimed: u64,
         real: u64,
     },

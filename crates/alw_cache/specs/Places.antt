@@ -6,7 +6,7 @@ use Rattle.alw_num.specs.declared.addresses.LineNo.{LineNo}
 use Rattle.alw_num.specs.declared.states.Mode.{Mode}
 use Rattle.alw_num.specs.Maps.{empty_map, value_at, with_value, passes_if_some}
 use Rattle.alw_model.specs.Caches.{Copy, Cache, set_of, copy_at}
-use Rattle.alw_cache.specs.declared.places.Place.{Place}
+use Rattle.alw_cache.specs.declared.places.SetCopy.{SetCopy}
 use Rattle.alw_cache.specs.declared.places.Evicted.{Evicted}
 
 -- a cache: the number of its sets, and the copy that each set holds
@@ -35,7 +35,7 @@ abbrev pub line_of : Copy → LineNo
 line_of copy = record { 0 = copy.line }
 
 -- the copy at a place: none where it has no mode
-abbrev pub held_at : Place → Option Copy
+abbrev pub held_at : SetCopy → Option Copy
 held_at place = option_map (λ mode. copy_of place.line mode place.body) place.mode
 
 -- the map with what a place holds, at a set
@@ -44,19 +44,19 @@ with_place set None cache = cache
 with_place set (Some copy) cache = with_value cache set copy
 
 -- the map of places, the first of which is that of a set
-abbrev pub map_from : ℕ → List Place → Cache
+abbrev pub map_from : ℕ → List SetCopy → Cache
 map_from set [] = empty_map
 map_from set (place ∷ rest) = with_place set (held_at place) (map_from (set + 1) rest)
 
 -- the place of a set: an empty one where there is none
-abbrev pub no_place : Place
+abbrev pub no_place : SetCopy
 no_place = record { line = 0; mode = None; body = record { a = 0; b = 0; c = 0; d = 0 } }
 
-abbrev pub place_at : List Place → ℕ → Place
+abbrev pub place_at : List SetCopy → ℕ → SetCopy
 place_at places set = slice_index_or places set no_place
 
 -- each copy stands in the set of its line
-abbrev pub AreInSets : ℕ → List Place → Type 0
+abbrev pub AreInSets : ℕ → List SetCopy → Type 0
 AreInSets sets places = (set : ℕ) → (place_at places set).mode ≢ None → (place_at places set).line % sets ≡ set
 
 -- a copy belongs in a set

@@ -5,7 +5,7 @@ ghost use Rattle.alw_num.specs.Maps.{empty_map, value_at, with_value};
 ghost use Rattle.alw_model.specs.Caches.{set_of, copy_at, granted_copy, replaced, fill, invalidate};
 ghost use Rattle.alw_cache.specs.Places.{copy_of, evicted_of, seen_of, line_of, ArePlaced};
 
-use crate::places::{Evicted, Place};
+use crate::places::{Evicted, SetCopy};
 use alw_num::{Divisor, Line, LineNo, Mode, NoMemory};
 use std::alloc::Global;
 use std::marker::Model;
@@ -15,7 +15,7 @@ use std::marker::Model;
 #[derive(Drop)]
 pub struct Cache {
     sets: Divisor,
-    places: Vec<Place>,
+    places: Vec<SetCopy>,
 }
 
 impl Model for Cache {
@@ -35,7 +35,7 @@ impl Cache {
         requires { 1 ≤ sets }
         ensures { IfOk result (λ c. c ≡ record { sets = sets; copies = empty_map }) }
     {
-        let places = vec![in alloc; Place::EMPTY; sets as usize]?;
+        let places = vec![in alloc; SetCopy::EMPTY; sets as usize]?;
         Ok(Cache {
             sets: Divisor::of(sets),
             places,
@@ -95,7 +95,7 @@ impl Cache {
     {
         let leaves = self.another(line);
         let set = self.sets.remainder(line.0) as usize;
-        self.places[set] = Place {
+        self.places[set] = SetCopy {
             line: line.0,
             mode: Some(mode),
             body,
@@ -111,7 +111,7 @@ impl Cache {
     {
         let copy = self.copy(line)?;
         let set = self.sets.remainder(line.0) as usize;
-        self.places[set] = Place::EMPTY;
+        self.places[set] = SetCopy::EMPTY;
         Some(copy)
     }
 

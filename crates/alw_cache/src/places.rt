@@ -14,15 +14,15 @@ pub struct Evicted {
 
 /// What a set holds: the copy of a line, or nothing where there is no mode.
 #[derive(Clone, Copy)]
-pub struct Place {
+pub struct SetCopy {
     pub line: u32,
     pub mode: Option<Mode>,
     pub body: Line,
 }
 
-impl Place {
+impl SetCopy {
     /// A set that holds nothing.
-    pub const EMPTY: Place = Place {
+    pub const EMPTY: SetCopy = SetCopy {
         line: 0,
         mode: None,
         body: Line::ZERO,

@@ -6,8 +6,8 @@ use Rattle.alw_trace.specs.declared.values.Claim.{Claim}
 use Rattle.alw_trace.specs.declared.faults.TextErr.TheVariants as text
 use Rattle.alw_trace.specs.Texts.{claim_text}
 use Rattle.alw_trace.specs.Readings.{IsClaim, HasClaimTypes, ReadsClaim}
-use Rattle.alw_audit.specs.declared.verdicts.Place.{Place}
-use Rattle.alw_audit.specs.declared.verdicts.Place.TheVariants.{Turn, PrintCount, PrintContext, Print, Memory}
+use Rattle.alw_audit.specs.declared.verdicts.Difference.{Difference}
+use Rattle.alw_audit.specs.declared.verdicts.Difference.TheVariants.{Turn, PrintCount, PrintContext, Print, Memory}
 use Rattle.alw_audit.specs.declared.verdicts.Verdict.{Verdict}
 use Rattle.alw_audit.specs.declared.verdicts.Verdict.TheVariants.{Sound, Differs}
 use Rattle.alw_audit.specs.Verdicts.{verdict_of, ClaimIsSound}
@@ -29,7 +29,7 @@ use Rattle.alw_answers.specs.Tasks.{Task}
 unfoldable pub print_context : List ℕ
 print_context = codes "print-context "
 
-abbrev pub place_text : Place → List ℕ
+abbrev pub place_text : Difference → List ℕ
 place_text (Turn k) = codes "turn " ++ decimal k
 place_text PrintCount = codes "print-count"
 place_text (PrintContext k) = print_context ++ decimal k

@@ -6,7 +6,7 @@ ghost use Rattle.alw_checks.specs.Auditing.{Audits, IsNoClaim, audit_text, endin
 ghost use Rattle.alw_answers.specs.Outputs.{Gives};
 
 use alw_answers::{Ending, Output, Refusal};
-use alw_audit::{Place, Verdict, audit};
+use alw_audit::{Difference, Verdict, audit};
 use alw_claims::claim_log;
 use alw_config::AuditForm;
 use alw_num::NoMemory;
@@ -87,18 +87,18 @@ fn put_verdict(text: &mut Text, verdict: Verdict) -> Result<(), NoMemory>
 }
 
 // The place at which a claim differs.
-fn put_place(text: &mut Text, place: Place) -> Result<(), NoMemory>
+fn put_place(text: &mut Text, place: Difference) -> Result<(), NoMemory>
     ensures { OnOk result (text.new ≡ text.old ++ place_text place) }
 {
     match place {
-        Place::Turn { k } => put_number(text, b"turn ", u64::from(k)),
-        Place::PrintCount => text.put(b"print-count"),
-        Place::PrintContext { k } => {
+        Difference::Turn { k } => put_number(text, b"turn ", u64::from(k)),
+        Difference::PrintCount => text.put(b"print-count"),
+        Difference::PrintContext { k } => {
             put_print_context(text)?;
             text.put_decimal(u64::from(k))
         }
-        Place::Print { k } => put_number(text, b"print ", u64::from(k)),
-        Place::Memory { addr } => {
+        Difference::Print { k } => put_number(text, b"print ", u64::from(k)),
+        Difference::Memory { addr } => {
             text.put(b"memory ")?;
             text.put_hex32(addr)
         }

@@ -4,7 +4,7 @@ ghost use Rattle.alw_num.specs.Weights.{digit, weigh};
 ghost use Rattle.alw_num.specs.declared.addresses.LineNo.{LineNo};
 ghost use Rattle.alw_num.specs.declared.states.Mode.{Mode};
 ghost use Rattle.sparc_table.specs.Turns.{need_of, turn_of};
-ghost use Rattle.sparc_exec.specs.Runs.{seen, IsRun, CopyIsMissing};
+ghost use Rattle.sparc_exec.specs.Runs.{seen, IsRunWith, CopyIsMissing};
 ghost use Rattle.alw_image.specs.Images.{node_count};
 ghost use Rattle.alw_model.specs.Contexts.{slots_start, slot_at, running, ran, wake, give_hold, is_held, all_halted};
 ghost use Rattle.alw_ctx.specs.Residents.{number_of, slots_of, left_by};
@@ -147,7 +147,7 @@ impl Contexts {
     /// current one, its hold ends, and where it misses it waits on the line.
     pub fn turn<P: Port>(&mut self, slot: u8, code: &Program, port: &mut P) -> Outcome
         requires { slot < length self.old.slots }
-        ensures run { IsRun (need_of code.now (slot_at self.old.slots slot).regs (P.lines port.old)) (turn_of code.now (slot_at self.old.slots slot).regs (P.lines port.old))
+        ensures run { IsRunWith (need_of code.now (slot_at self.old.slots slot).regs (P.lines port.old)) (turn_of code.now (slot_at self.old.slots slot).regs (P.lines port.old))
             (seen (slot_at self.old.slots slot).regs (P.copy port.old) (P.calls port.old)) (seen (slot_at self.new.slots slot).regs (P.copy port.new) (P.calls port.new)) result }
         ensures missed { (line : LineNo) → (mode : Mode) → (result ≡ Outcome.Miss line mode) ↔ CopyIsMissing (need_of code.now (slot_at self.old.slots slot).regs (P.lines port.old)) (P.copy port.old) line mode }
         ensures contexts { self.new ≡ record { slots = ran self.old.slots slot (slot_at self.new.slots slot).regs (left_by (slot_at self.new.slots slot).regs result); current = slot } }

@@ -2,7 +2,7 @@ ghost use Rattle.std.specs.Prelude.{◌≡◌, ◌↔◌, ◌≤◌, ◌==◌, N
 ghost use Rattle.alw_num.specs.Maps.{passes};
 ghost use Rattle.alw_num.specs.Weights.{digit};
 ghost use Rattle.sparc_table.specs.Turns.{need_of, turn_of};
-ghost use Rattle.sparc_exec.specs.Runs.{seen, IsRun, CopyIsMissing};
+ghost use Rattle.sparc_exec.specs.Runs.{seen, IsRunWith, CopyIsMissing};
 ghost use Rattle.alw_num.specs.declared.addresses.LineNo.{LineNo};
 ghost use Rattle.alw_num.specs.declared.states.Mode.{Mode};
 ghost use Rattle.alw_msg.specs.Statuses.{is_ready, is_halted, waits_on};
@@ -66,7 +66,7 @@ impl Resident {
 
     /// A turn of the context over a port. Its hold ends, and where it misses it waits on the line.
     pub fn turn<P: Port>(&mut self, code: &Program, port: &mut P) -> Outcome
-        ensures run { IsRun (need_of code.now self.old.regs (P.lines port.old)) (turn_of code.now self.old.regs (P.lines port.old)) (seen self.old.regs (P.copy port.old) (P.calls port.old)) (seen self.new.regs (P.copy port.new) (P.calls port.new)) result }
+        ensures run { IsRunWith (need_of code.now self.old.regs (P.lines port.old)) (turn_of code.now self.old.regs (P.lines port.old)) (seen self.old.regs (P.copy port.old) (P.calls port.old)) (seen self.new.regs (P.copy port.new) (P.calls port.new)) result }
         ensures missed { (line : LineNo) → (mode : Mode) → (result ≡ Outcome.Miss line mode) ↔ CopyIsMissing (need_of code.now self.old.regs (P.lines port.old)) (P.copy port.old) line mode }
         ensures left { slot_of self.new ≡ record { regs = self.new.regs; status = left_by self.new.regs result; hold = None } }
         ensures sizes { (P.lines port.new ≡ P.lines port.old) × (P.places port.new ≡ P.places port.old) }

@@ -14,7 +14,7 @@ use Rattle.sparc_table.specs.declared.outcomes.Need.{Need}
 use Rattle.sparc_table.specs.declared.outcomes.Need.TheVariants as needs
 use Rattle.sparc_table.specs.declared.outcomes.Outcome.{Outcome}
 use Rattle.sparc_exec.specs.Ports.{granted, with_copy}
-use Rattle.sparc_exec.specs.Runs.{seen, Completed, IsRunOn, IsRun, CopyIsMissing}
+use Rattle.sparc_exec.specs.Runs.{seen, Completed, IsRunOn, IsRunWith, CopyIsMissing}
 use Rattle.alw_msg.specs.declared.contexts.Status.{Status}
 use Rattle.alw_image.specs.declared.parts.Parts.{Parts}
 use Rattle.alw_image.specs.Images.{line_count, zero_line}
@@ -84,7 +84,7 @@ same_left flat context memory memory' regs regs' outcome outcome' m r o = λ i. 
 
 by_need : (parts : Parts) (flat : Flat) (context : ℕ) (memory : List Line) (regs : Regs) (outcome : Outcome) (n : Need)
     → length flat.memory ≡ line_count parts → need_of parts.code (context_at flat context).regs (line_count parts) ≡ n
-    → IsRun n (turn_of parts.code (context_at flat context).regs (line_count parts)) (seen (context_at flat context).regs (copy_in flat.memory) None) (seen regs (copy_in memory) None) outcome
+    → IsRunWith n (turn_of parts.code (context_at flat context).regs (line_count parts)) (seen (context_at flat context).regs (copy_in flat.memory) None) (seen regs (copy_in memory) None) outcome
     → flat_turn_by parts flat context n ≡ left flat context memory regs outcome
 by_need parts flat context memory regs outcome needs.Nothing long e run =
     let done = run.0 zero_line in
@@ -106,10 +106,10 @@ by_need parts flat context memory regs outcome (needs.Copy line mode) long e run
         same_left flat context _ memory _ regs _ outcome (sym (same_memory memory (slice_set flat.memory line.0 value) (λ l. done.2 l ∙ sym (copies-set flat.memory line.0 value l here)))) (sym done.1) (sym done.0)
 
 pub takes_turn : (parts : Parts) (flat : Flat) (context lines : ℕ) (memory : List Line) (before regs : Regs) (outcome : Outcome) → length flat.memory ≡ line_count parts → lines ≡ length flat.memory → before ≡ (context_at flat context).regs
-    → IsRun (need_of parts.code before lines) (turn_of parts.code before lines) (seen before (copy_in flat.memory) None) (seen regs (copy_in memory) None) outcome → IsTurn parts flat context memory regs outcome
+    → IsRunWith (need_of parts.code before lines) (turn_of parts.code before lines) (seen before (copy_in flat.memory) None) (seen regs (copy_in memory) None) outcome → IsTurn parts flat context memory regs outcome
 takes_turn parts flat context lines memory before regs outcome long lines_are before_is run =
-    let lined = subst (λ (n : ℕ). IsRun (need_of parts.code before n) (turn_of parts.code before n) (seen before (copy_in flat.memory) None) (seen regs (copy_in memory) None) outcome) (lines_are ∙ long) run in
-    let placed = subst (λ (r : Regs). IsRun (need_of parts.code r (line_count parts)) (turn_of parts.code r (line_count parts)) (seen r (copy_in flat.memory) None) (seen regs (copy_in memory) None) outcome) before_is lined in
+    let lined = subst (λ (n : ℕ). IsRunWith (need_of parts.code before n) (turn_of parts.code before n) (seen before (copy_in flat.memory) None) (seen regs (copy_in memory) None) outcome) (lines_are ∙ long) run in
+    let placed = subst (λ (r : Regs). IsRunWith (need_of parts.code r (line_count parts)) (turn_of parts.code r (line_count parts)) (seen r (copy_in flat.memory) None) (seen regs (copy_in memory) None) outcome) before_is lined in
     let all = by_need parts flat context memory regs outcome _ long refl placed in
     record { flat_is = ap (λ (d : Flat × Outcome). d.0) all; outcome_is = ap (λ (d : Flat × Outcome). d.1) all }
 
@@ -147,7 +147,7 @@ pub record IsMachineTurn (parts : Parts) (memory memory' : List Line) (contexts 
 
 pub turns : (parts : Parts) (memory memory' : List Line) (contexts : List Context) (context : ℕ) (here : Context) (regs : Regs) (status : Status) (outcome : Outcome) → length memory ≡ line_count parts
     → is_ready (context_at ((machine_of parts memory contexts).flat) context).status ≡ true → here ≡ get_or contexts context here → status ≡ status_after regs outcome
-    → IsRun (need_of parts.code here.regs (length memory)) (turn_of parts.code here.regs (length memory)) (seen here.regs (copy_in memory) None) (seen regs (copy_in memory') None) outcome
+    → IsRunWith (need_of parts.code here.regs (length memory)) (turn_of parts.code here.regs (length memory)) (seen here.regs (copy_in memory) None) (seen regs (copy_in memory') None) outcome
     → IsMachineTurn parts memory memory' contexts context regs status outcome
 turns parts memory memory' contexts context here regs status outcome long ready read status_is run =
     let flat : Flat = (machine_of parts memory contexts).flat in

@@ -5,7 +5,7 @@ use Rattle.alw_num.specs.Weights.{weigh}
 use Rattle.alw_num.proofs.Weigh.{digit_same}
 use Rattle.alw_msg.specs.declared.messages.Msg.{Msg}
 use Rattle.alw_links.specs.declared.pools.Ends.{Ends}
-use Rattle.alw_links.specs.declared.pools.Place.{Place}
+use Rattle.alw_links.specs.declared.pools.PoolPlace.{PoolPlace}
 use Rattle.alw_links.specs.Chains.{no_place, messages_on, messages_from, links_of, Spot, start_of, end_of, messages_of, times_in, place_with, IsPath, IsLink, AreLinks}
 
 -- ---- lists of which one member changes
@@ -44,7 +44,7 @@ module _ {X : Type 0} where
 
 -- ---- a path stays where its places do
 
-kept : (places after : List Place) (chain : List Spot) → ((j : ℕ) → 1 ≤ times_in j chain → slice_get after j ≡ slice_get places j) → IsPath places chain → IsPath after chain
+kept : (places after : List PoolPlace) (chain : List Spot) → ((j : ℕ) → 1 ≤ times_in j chain → slice_get after j ≡ slice_get places j) → IsPath places chain → IsPath after chain
 kept places after [] same path = tt
 kept places after (spot ∷ rest) same path = (
   same spot.at (omega (arith, digit_same spot.at spot.at refl)) ∙ path.0,
@@ -52,19 +52,19 @@ kept places after (spot ∷ rest) same path = (
 )
 
 -- a place that isn't on a path changes
-pub kept_beside : (places : List Place) (k : ℕ) (place : Place) (chain : List Spot) → times_in k chain ≡ 0 → IsPath places chain → IsPath (slice_set places k place) chain
+pub kept_beside : (places : List PoolPlace) (k : ℕ) (place : PoolPlace) (chain : List Spot) → times_in k chain ≡ 0 → IsPath places chain → IsPath (slice_set places k place) chain
 kept_beside places k place chain off path =
     kept places (slice_set places k place) chain (λ j l. get-set_other places k j place (λ e. absurd (omega (arith, ap (λ i. times_in i chain) e)))) path
 
 -- the pool has more places
-pub kept_more : (places more : List Place) (chain : List Spot) → IsPath places chain → IsPath (places ++ more) chain
+pub kept_more : (places more : List PoolPlace) (chain : List Spot) → IsPath places chain → IsPath (places ++ more) chain
 kept_more places more [] path = tt
 kept_more places more (spot ∷ rest) path = (get-more places more spot.at (place_with spot.msg (start_of rest)) path.0, kept_more places more rest path.1)
 
-pub within : (places : List Place) (spot : Spot) (rest : List Spot) → IsPath places (spot ∷ rest) → spot.at < length places
+pub within : (places : List PoolPlace) (spot : Spot) (rest : List Spot) → IsPath places (spot ∷ rest) → spot.at < length places
 within places spot rest path = slice_get_within places spot.at (place_with spot.msg (start_of rest)) path.0
 
-pub end_within : (places : List Place) (spot : Spot) (rest : List Spot) → IsPath places (spot ∷ rest) → end_of (spot ∷ rest) < length places
+pub end_within : (places : List PoolPlace) (spot : Spot) (rest : List Spot) → IsPath places (spot ∷ rest) → end_of (spot ∷ rest) < length places
 end_within places spot [] path = within places spot [] path
 end_within places spot (next ∷ rest) path = end_within places next rest path.1
 
@@ -74,14 +74,14 @@ end_stands spot (next ∷ rest) = omega (arith, end_stands next rest)
 
 -- ---- what is read along a path
 
-pub along : (places : List Place) (most : ℕ) (chain : List Spot) → length places ≤ no_place → length chain ≤ most → IsPath places chain
+pub along : (places : List PoolPlace) (most : ℕ) (chain : List Spot) → length places ≤ no_place → length chain ≤ most → IsPath places chain
     → messages_on places (slice_get places (start_of chain)) most ≡ messages_of chain
-along places most [] few short path = ap (λ (o : Option Place). messages_on places o most) (slice_get_past places no_place few)
+along places most [] few short path = ap (λ (o : Option PoolPlace). messages_on places o most) (slice_get_past places no_place few)
 along places zero (spot ∷ rest) few short path = absurd (omega arith)
 along places (suc most) (spot ∷ rest) few short path =
-    ap (λ (o : Option Place). messages_on places o (suc most)) path.0 ∙ ap (λ (msgs : List Msg). spot.msg ∷ msgs) (along places most rest few (omega arith) path.1)
+    ap (λ (o : Option PoolPlace). messages_on places o (suc most)) path.0 ∙ ap (λ (msgs : List Msg). spot.msg ∷ msgs) (along places most rest few (omega arith) path.1)
 
-pub links_are : (places : List Place) (links : List Ends) (chains : List (List Spot)) → length places ≤ no_place → weigh (λ chain. length chain) chains ≤ length places
+pub links_are : (places : List PoolPlace) (links : List Ends) (chains : List (List Spot)) → length places ≤ no_place → weigh (λ chain. length chain) chains ≤ length places
     → AreLinks places links chains → links_of places links ≡ map messages_of chains
 links_are places [] [] few short are = refl
 links_are places [] (chain ∷ chains) few short are = absurd are
@@ -93,24 +93,24 @@ links_are places (ends ∷ links) (chain ∷ chains) few short are =
 
 -- ---- the chains of all links
 
-pub as_many : (places : List Place) (links : List Ends) (chains : List (List Spot)) → AreLinks places links chains → length chains ≡ length links
+pub as_many : (places : List PoolPlace) (links : List Ends) (chains : List (List Spot)) → AreLinks places links chains → length chains ≡ length links
 as_many places [] [] are = refl
 as_many places [] (chain ∷ chains) are = absurd are
 as_many places (ends ∷ links) [] are = absurd are
 as_many places (ends ∷ links) (chain ∷ chains) are = omega (arith, as_many places links chains are.1)
 
-pub link_read : (places : List Place) (links : List Ends) (chains : List (List Spot)) (i : ℕ) (d : Ends) → AreLinks places links chains → i < length links
+pub link_read : (places : List PoolPlace) (links : List Ends) (chains : List (List Spot)) (i : ℕ) (d : Ends) → AreLinks places links chains → i < length links
     → IsLink places (get_or links i d) (get_or chains i [])
 link_read places [] chains i d are l = absurd (omega arith)
 link_read places (ends ∷ links) [] i d are l = absurd are
 link_read places (ends ∷ links) (chain ∷ chains) zero d are l = are.0
 link_read places (ends ∷ links) (chain ∷ chains) (suc i) d are l = link_read places links chains i d are.1 (omega arith)
 
-link_beside : (places : List Place) (k : ℕ) (place : Place) (ends : Ends) (chain : List Spot) → times_in k chain ≡ 0 → IsLink places ends chain → IsLink (slice_set places k place) ends chain
+link_beside : (places : List PoolPlace) (k : ℕ) (place : PoolPlace) (ends : Ends) (chain : List Spot) → times_in k chain ≡ 0 → IsLink places ends chain → IsLink (slice_set places k place) ends chain
 link_beside places k place ends chain off is = record { first = is.first; last = is.last; path = kept_beside places k place chain off is.path }
 
 -- a place that is on no link changes
-pub links_beside : (places : List Place) (k : ℕ) (place : Place) (links : List Ends) (chains : List (List Spot)) → weigh (λ chain. times_in k chain) chains ≡ 0
+pub links_beside : (places : List PoolPlace) (k : ℕ) (place : PoolPlace) (links : List Ends) (chains : List (List Spot)) → weigh (λ chain. times_in k chain) chains ≡ 0
     → AreLinks places links chains → AreLinks (slice_set places k place) links chains
 links_beside places k place [] [] off are = tt
 links_beside places k place [] (chain ∷ chains) off are = absurd are
@@ -121,7 +121,7 @@ links_beside places k place (ends ∷ links) (chain ∷ chains) off are = (
 )
 
 -- a place that is on no other link than one changes, and this one with it
-pub links_changed : (places : List Place) (k : ℕ) (place : Place) (now : Ends) (path : List Spot) (links : List Ends) (chains : List (List Spot)) (i : ℕ) → i < length links
+pub links_changed : (places : List PoolPlace) (k : ℕ) (place : PoolPlace) (now : Ends) (path : List Spot) (links : List Ends) (chains : List (List Spot)) (i : ℕ) → i < length links
     → weigh (λ chain. times_in k chain) chains ≤ times_in k (get_or chains i []) → IsLink (slice_set places k place) now path → AreLinks places links chains
     → AreLinks (slice_set places k place) (slice_set links i now) (slice_set chains i path)
 links_changed places k place now path [] chains i l off is are = absurd (omega arith)
@@ -134,7 +134,7 @@ links_changed places k place now path (ends ∷ links) (chain ∷ chains) (suc i
     )
 
 -- the pool has more places
-pub links_more : (places more : List Place) (links : List Ends) (chains : List (List Spot)) → AreLinks places links chains → AreLinks (places ++ more) links chains
+pub links_more : (places more : List PoolPlace) (links : List Ends) (chains : List (List Spot)) → AreLinks places links chains → AreLinks (places ++ more) links chains
 links_more places more [] [] are = tt
 links_more places more [] (chain ∷ chains) are = absurd are
 links_more places more (ends ∷ links) [] are = absurd are
@@ -151,11 +151,11 @@ end_push (first ∷ []) spot = refl
 end_push (first ∷ next ∷ rest) spot = end_push (next ∷ rest) spot
 
 -- the last place names the new one
-pub extended : (places : List Place) (first : Spot) (rest : List Spot) (spot : Spot) (seen : Place) → times_in (end_of (first ∷ rest)) (first ∷ rest) ≤ 1
+pub extended : (places : List PoolPlace) (first : Spot) (rest : List Spot) (spot : Spot) (seen : PoolPlace) → times_in (end_of (first ∷ rest)) (first ∷ rest) ≤ 1
     → spot.at ≢ end_of (first ∷ rest) → slice_get places spot.at ≡ Some (place_with spot.msg no_place) → slice_get places (end_of (first ∷ rest)) ≡ Some seen
     → IsPath places (first ∷ rest) → IsPath (slice_set places (end_of (first ∷ rest)) (place_with seen.msg spot.at)) (first ∷ (rest ++ spot ∷ []))
 extended places first [] spot seen once apart here there path =
-    let same : seen.msg ≡ first.msg = ap (λ (p : Place). p.msg) (same_Some seen (place_with first.msg no_place) (sym there ∙ path.0)) in (
+    let same : seen.msg ≡ first.msg = ap (λ (p : PoolPlace). p.msg) (same_Some seen (place_with first.msg no_place) (sym there ∙ path.0)) in (
       get-set_same places first.at (place_with seen.msg spot.at) (within places first [] path) ∙ ap (λ (msg : Msg). Some (place_with msg spot.at)) same,
       (get-set_other places first.at spot.at (place_with seen.msg spot.at) apart ∙ here, tt),
     )

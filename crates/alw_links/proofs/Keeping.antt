@@ -13,7 +13,7 @@ use Rattle.alw_num.proofs.Sets.{has-none, has-add, has-drop}
 use Rattle.alw_msg.specs.declared.messages.Msg.{Msg}
 use Rattle.alw_msg.specs.Lists.{is_nonempty, behind}
 use Rattle.alw_links.specs.declared.pools.Ends.{Ends}
-use Rattle.alw_links.specs.declared.pools.Place.{Place}
+use Rattle.alw_links.specs.declared.pools.PoolPlace.{PoolPlace}
 use Rattle.alw_links.specs.Traffic.{place_of, link_of, links_without, links_with}
 use Rattle.alw_links.specs.Chains.{no_place, links_of, Spot, times_in, AreLinks, IsPool, IsPoolOf}
 use Rattle.alw_links.specs.Keeping.{nobody, AreSenders, IsTraffic}
@@ -97,7 +97,7 @@ module _ (nodes : ℕ) (links : List (List Msg)) (senders : List NodeSet) (from 
       (λ same. rw (eq-eqb a from same) refl)
       (λ other. rw (ne_eqb a from other) refl))))
 
-module _ (nodes : ℕ) (links : List Ends) (senders : List NodeSet) (places : List Place) (spare room from to : ℕ) (is : IsTraffic nodes links senders places spare room)
+module _ (nodes : ℕ) (links : List Ends) (senders : List NodeSet) (places : List PoolPlace) (spare room from to : ℕ) (is : IsTraffic nodes links senders places spare room)
     (f : from < nodes) (t : to < nodes) where
   old : NodeSet
   old = get_or senders to nobody
@@ -109,7 +109,7 @@ module _ (nodes : ℕ) (links : List Ends) (senders : List NodeSet) (places : Li
   place_within = rw is.links_are (place_below nodes from to f t)
 
   -- one link has another list
-  changes : (msgs : List Msg) (now : NodeSet) (after : List Ends) (pool : List Place) (first left : ℕ) → IsPoolOf pool after first left (set (links_of places links) (place_of nodes from to) msgs)
+  changes : (msgs : List Msg) (now : NodeSet) (after : List Ends) (pool : List PoolPlace) (first left : ℕ) → IsPoolOf pool after first left (set (links_of places links) (place_of nodes from to) msgs)
       → ((k : ℕ) → has_node (nodes_of now) k ≡ cond (k == from) (is_nonempty msgs) (has_node (nodes_of old) k)) → IsTraffic nodes after (set senders to now) pool first left
   unfolding old
   changes msgs now after pool first left is_pool told =
@@ -124,7 +124,7 @@ module _ (nodes : ℕ) (links : List Ends) (senders : List NodeSet) (places : Li
       }
 
   -- the sender of a message is among the senders, where the link was empty only then
-  pub sends : (msg : Msg) (now : NodeSet) (alone : Bool) (after : List Ends) (pool : List Place) (first left : ℕ) → IsPoolOf pool after first left (links_with nodes (links_of places links) from to msg)
+  pub sends : (msg : Msg) (now : NodeSet) (alone : Bool) (after : List Ends) (pool : List PoolPlace) (first left : ℕ) → IsPoolOf pool after first left (links_with nodes (links_of places links) from to msg)
       → alone ≡ not (is_nonempty (link_of nodes (links_of places links) from to)) → nodes_of now ≡ cond alone (add_node (nodes_of (get_or senders to nobody)) from) (nodes_of (get_or senders to nobody))
       → IsTraffic nodes after (set senders to now) pool first left
   unfolding old link
@@ -137,7 +137,7 @@ module _ (nodes : ℕ) (links : List Ends) (senders : List NodeSet) (places : Li
       joins false k false e a = absurd (false≢true a)
 
   -- of a link that had a message the head was taken, and its sender stays where the link has another
-  pub takes : (now : NodeSet) (more : Bool) (after : List Ends) (pool : List Place) (first left : ℕ) → IsPoolOf pool after first left (links_without nodes (links_of places links) from to)
+  pub takes : (now : NodeSet) (more : Bool) (after : List Ends) (pool : List PoolPlace) (first left : ℕ) → IsPoolOf pool after first left (links_without nodes (links_of places links) from to)
       → 1 ≤ length (link_of nodes (links_of places links) from to) → more ≡ is_nonempty (behind (link_of nodes (links_of places links) from to))
       → nodes_of now ≡ cond more (nodes_of (get_or senders to nobody)) (drop_node (nodes_of (get_or senders to nobody)) from) → IsTraffic nodes after (set senders to now) pool first left
   unfolding old link

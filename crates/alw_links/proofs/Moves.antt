@@ -9,7 +9,7 @@ use Rattle.alw_num.proofs.Weigh.{weigh_push, digit_le, digit_same}
 use Rattle.alw_msg.specs.declared.messages.Msg.{Msg}
 use Rattle.alw_msg.specs.Lists.{behind, front, is_nonempty}
 use Rattle.alw_links.specs.declared.pools.Ends.{Ends}
-use Rattle.alw_links.specs.declared.pools.Place.{Place}
+use Rattle.alw_links.specs.declared.pools.PoolPlace.{PoolPlace}
 use Rattle.alw_links.specs.Chains.{no_place, messages_from, links_of, Spot, start_of, end_of, messages_of, times_in, place_with, IsPath, IsChain, IsLink, AreLinks, IsPool, IsPoolOf}
 use Rattle.alw_links.proofs.Chains.{get-set_same, get-push, weigh-set, weigh-at, kept_beside, kept_more, within, end_within, end_stands, links_are, as_many, link_read, links_beside, links_changed, links_more, end_push, extended}
 
@@ -19,27 +19,27 @@ get_or-messages (chain ∷ chains) zero = refl
 get_or-messages (chain ∷ chains) (suc i) = get_or-messages chains i
 
 -- a place that was read
-read_is : (places : List Place) (k : ℕ) (seen place : Place) → seen ≡ get_or places k seen → slice_get places k ≡ Some place → seen ≡ place
+read_is : (places : List PoolPlace) (k : ℕ) (seen place : PoolPlace) → seen ≡ get_or places k seen → slice_get places k ≡ Some place → seen ≡ place
 read_is places k seen place e there = e ∙ get_or_from_slice_get places k place seen there
 
 -- a chain whose last place is none
-none_on : (places : List Place) (chain : List Spot) → length places ≤ no_place → IsPath places chain → end_of chain ≡ no_place → chain ≡ []
+none_on : (places : List PoolPlace) (chain : List Spot) → length places ≤ no_place → IsPath places chain → end_of chain ≡ no_place → chain ≡ []
 none_on places [] few path e = refl
 none_on places (spot ∷ rest) few path e = absurd (omega (arith, end_within places spot rest path))
 
 -- the first spare place
-record HasSpare (places : List Place) (spare : ℕ) (loose : List Spot) : Type 0 where
+record HasSpare (places : List PoolPlace) (spare : ℕ) (loose : List Spot) : Type 0 where
   pub spot : Spot
   pub more : List Spot
   pub whole : loose ≡ spot ∷ more
   pub at : spot.at ≡ spare
   pub path : IsPath places (spot ∷ more)
 
-has_spare : (places : List Place) (spare : ℕ) (loose : List Spot) → 1 ≤ length loose → spare ≡ start_of loose → IsPath places loose → HasSpare places spare loose
+has_spare : (places : List PoolPlace) (spare : ℕ) (loose : List Spot) → 1 ≤ length loose → spare ≡ start_of loose → IsPath places loose → HasSpare places spare loose
 has_spare places spare [] some starts path = absurd (omega arith)
 has_spare places spare (spot ∷ more) some starts path = record { spot = spot; more = more; whole = refl; at = sym starts; path = path }
 
-module _ (places : List Place) (links : List Ends) (spare room : ℕ) (is : IsPool places links spare room) where
+module _ (places : List PoolPlace) (links : List Ends) (spare room : ℕ) (is : IsPool places links spare room) where
   pub lists : links_of places links ≡ map messages_of is.chains
   lists = links_are places links is.chains is.few (omega (arith, is.counted)) is.linked
 
@@ -51,7 +51,7 @@ module _ (places : List Place) (links : List Ends) (spare room : ℕ) (is : IsPo
     fits = omega (arith, as_many places links is.chains is.linked, here)
 
     -- one link has another chain, and the spare chain what is left
-    moves : (after : List Place) (now : Ends) (path left : List Spot) (first size : ℕ) → length after ≡ length places → AreLinks after (slice_set links i now) (slice_set is.chains i path)
+    moves : (after : List PoolPlace) (now : Ends) (path left : List Spot) (first size : ℕ) → length after ≡ length places → AreLinks after (slice_set links i now) (slice_set is.chains i path)
         → IsPath after left → first ≡ start_of left → length left ≡ size → ((k : ℕ) → times_in k path + times_in k left ≡ times_in k (get_or is.chains i []) + times_in k is.loose)
         → length path + length left ≡ length (get_or is.chains i []) + length is.loose
         → IsPoolOf after (slice_set links i now) first size (slice_set (links_of places links) i (messages_of path))
@@ -77,7 +77,7 @@ module _ (places : List Place) (links : List Ends) (spare room : ℕ) (is : IsPo
     -- ---- a message more
 
     module _ (msg : Msg) (free : HasSpare places spare is.loose) where
-      written : List Place
+      written : List PoolPlace
       written = slice_set places free.spot.at (place_with msg no_place)
 
       new_spot : Spot
@@ -117,14 +117,14 @@ module _ (places : List Place) (links : List Ends) (spare room : ℕ) (is : IsPo
           way refl (omega (arith, is.left, loose_length)) (λ k. omega (arith, loose_times k, ap (times_in k) none)) (omega (arith, loose_length, ap length none)))
 
       -- behind the last place of a link
-      sent_behind : (first : Spot) (rest : List Spot) (ends : Ends) (seen : Place) → get_or is.chains i [] ≡ first ∷ rest → ends.first ≡ first.at → seen ≡ get_or written (end_of (first ∷ rest)) seen
+      sent_behind : (first : Spot) (rest : List Spot) (ends : Ends) (seen : PoolPlace) → get_or is.chains i [] ≡ first ∷ rest → ends.first ≡ first.at → seen ≡ get_or written (end_of (first ∷ rest)) seen
           → IsPoolOf (slice_set written (end_of (first ∷ rest)) (place_with seen.msg free.spot.at)) (slice_set links i (record { first = ends.first; last = free.spot.at })) (start_of free.more) (room - 1)
           (slice_set (links_of places links) i (get_or (links_of places links) i [] ++ msg ∷ []))
       unfolding written new_spot
       sent_behind first rest ends seen some start read =
           let last = end_of (first ∷ rest) in
           let now : Ends = record { first = ends.first; last = free.spot.at } in
-          let after : List Place = slice_set written last (place_with seen.msg free.spot.at) in
+          let after : List PoolPlace = slice_set written last (place_with seen.msg free.spot.at) in
           let old : get_or (links_of places links) i [] ++ msg ∷ [] ≡ messages_of (first ∷ (rest ++ new_spot ∷ [])) =
           ap (λ (msgs : List Msg). msgs ++ msg ∷ []) (lists_at i ∙ ap messages_of some) ∙ sym (map-append (λ (spot : Spot). spot.msg) (first ∷ rest) (new_spot ∷ [])) in
           let at_i : (k : ℕ) → times_in k (get_or is.chains i []) ≡ times_in k (first ∷ rest) = λ k. ap (times_in k) some in
@@ -152,18 +152,18 @@ module _ (places : List Place) (links : List Ends) (spare room : ℕ) (is : IsPo
           (λ k. omega (arith, loose_times k, at_i k, weigh_push (λ (spot : Spot). digit (k == spot.at)) rest new_spot))
           (omega (arith, loose_length, ap length some, length_push rest new_spot)))
         where
-          there_is : (ps : List Place) (k : ℕ) (place : Place) → k < length ps → place ≡ get_or ps k place → slice_get ps k ≡ Some place
+          there_is : (ps : List PoolPlace) (k : ℕ) (place : PoolPlace) → k < length ps → place ≡ get_or ps k place → slice_get ps k ≡ Some place
           there_is ps k place l e = slice_get_read ps (length ps) k place refl l e
 
     -- ---- a message less
 
-    taken_at : (first : Spot) (rest : List Spot) (seen : Place) (last : ℕ) → get_or is.chains i [] ≡ first ∷ rest → slice_get places first.at ≡ Some (place_with first.msg (start_of rest))
+    taken_at : (first : Spot) (rest : List Spot) (seen : PoolPlace) (last : ℕ) → get_or is.chains i [] ≡ first ∷ rest → slice_get places first.at ≡ Some (place_with first.msg (start_of rest))
         → seen ≡ get_or places first.at seen → last ≡ end_of rest
         → IsPoolOf (slice_set places first.at (place_with seen.msg spare)) (slice_set links i (record { first = start_of rest; last = last })) first.at (room + 1)
         (slice_set (links_of places links) i (behind (get_or (links_of places links) i [])))
     taken_at first rest seen last some there read last_is =
         let now : Ends = record { first = start_of rest; last = last } in
-        let after : List Place = slice_set places first.at (place_with seen.msg spare) in
+        let after : List PoolPlace = slice_set places first.at (place_with seen.msg spare) in
         let at_i : (k : ℕ) → times_in k (get_or is.chains i []) ≡ digit (k == first.at) + times_in k rest = λ k. ap (times_in k) some in
         let all : (k : ℕ) → times_in k (get_or is.chains i []) ≤ weigh (λ chain. times_in k chain) is.chains = λ k. weigh-at (λ (chain : List Spot). times_in k chain) is.chains i [] fits in
         let path : IsPath places (first ∷ rest) = subst (IsPath places) some (link_read places links is.chains i now is.linked here).path in
@@ -172,7 +172,7 @@ module _ (places : List Place) (links : List Ends) (spare room : ℕ) (is : IsPo
         let alone : weigh (λ chain. times_in first.at chain) is.chains ≤ times_in first.at (get_or is.chains i []) = omega (arith, all first.at, at_i first.at) in
         let off_rest : times_in first.at rest ≡ 0 = omega (arith, all first.at, at_i first.at) in
         let off_loose : times_in first.at is.loose ≡ 0 = omega (arith, all first.at, at_i first.at) in
-        let msg_is : seen.msg ≡ first.msg = ap (λ (p : Place). p.msg) (read_is places first.at seen (place_with first.msg (start_of rest)) read there) in
+        let msg_is : seen.msg ≡ first.msg = ap (λ (p : PoolPlace). p.msg) (read_is places first.at seen (place_with first.msg (start_of rest)) read there) in
         let link : IsLink after now rest = record { first = refl; last = last_is; path = kept_beside places first.at (place_with seen.msg spare) rest off_rest path.1 } in
         let way : IsPath after (first ∷ is.loose) = (
           get-set_same places first.at (place_with seen.msg spare) (within places first rest path) ∙ (λ k. Some (place_with (msg_is k) (is.starts k))),
@@ -221,7 +221,7 @@ module _ (places : List Place) (links : List Ends) (spare room : ℕ) (is : IsPo
 
     -- ---- a message more, as it is sent
 
-    pub sends_alone : (msg : Msg) (ends : Ends) (seen : Place) → 1 ≤ room → ends ≡ get_or links i ends → ends.last ≡ no_place → seen ≡ get_or places spare seen
+    pub sends_alone : (msg : Msg) (ends : Ends) (seen : PoolPlace) → 1 ≤ room → ends ≡ get_or links i ends → ends.last ≡ no_place → seen ≡ get_or places spare seen
         → IsPoolOf (slice_set places spare (place_with msg no_place)) (slice_set links i (record { first = spare; last = spare })) seen.next (room - 1)
         (slice_set (links_of places links) i (get_or (links_of places links) i [] ++ msg ∷ []))
     unfolding written
@@ -229,13 +229,13 @@ module _ (places : List Place) (links : List Ends) (spare room : ℕ) (is : IsPo
         let link = link_is ends read in
         let free = has_spare places spare is.loose (omega (arith, is.left)) is.starts is.path in
         let sent_lists = slice_set (links_of places links) i (get_or (links_of places links) i [] ++ msg ∷ []) in
-        let next : seen.next ≡ start_of free.more = ap (λ (p : Place). p.next) (read_is places spare seen (place_with free.spot.msg (start_of free.more)) seen_is
+        let next : seen.next ≡ start_of free.more = ap (λ (p : PoolPlace). p.next) (read_is places spare seen (place_with free.spot.msg (start_of free.more)) seen_is
         (ap (slice_get places) (sym free.at) ∙ free.path.0)) in
         subst (λ (n : ℕ). IsPoolOf (slice_set places spare (place_with msg no_place)) (slice_set links i (record { first = spare; last = spare })) n (room - 1) sent_lists) (sym next)
         (subst (λ (k : ℕ). IsPoolOf (slice_set places k (place_with msg no_place)) (slice_set links i (record { first = k; last = k })) (start_of free.more) (room - 1) sent_lists) free.at
         (sent_alone msg free (none_on places (get_or is.chains i []) is.few link.path (sym link.last ∙ none))))
 
-    pub sends_behind : (msg : Msg) (ends old : Ends) (seen last : Place) → 1 ≤ room → ends ≡ get_or links i ends → old ≡ get_or links i old → ends.last ≢ no_place → seen ≡ get_or places spare seen
+    pub sends_behind : (msg : Msg) (ends old : Ends) (seen last : PoolPlace) → 1 ≤ room → ends ≡ get_or links i ends → old ≡ get_or links i old → ends.last ≢ no_place → seen ≡ get_or places spare seen
         → last ≡ get_or (slice_set places spare (place_with msg no_place)) ends.last last
         → IsPoolOf (slice_set (slice_set places spare (place_with msg no_place)) ends.last (place_with last.msg spare)) (slice_set links i (record { first = old.first; last = spare })) seen.next (room - 1)
         (slice_set (links_of places links) i (get_or (links_of places links) i [] ++ msg ∷ []))
@@ -244,7 +244,7 @@ module _ (places : List Place) (links : List Ends) (spare room : ℕ) (is : IsPo
         let h = last_some ends read some in
         let free = has_spare places spare is.loose (omega (arith, is.left)) is.starts is.path in
         let sent_lists = slice_set (links_of places links) i (get_or (links_of places links) i [] ++ msg ∷ []) in
-        let next : seen.next ≡ start_of free.more = ap (λ (p : Place). p.next) (read_is places spare seen (place_with free.spot.msg (start_of free.more)) seen_is
+        let next : seen.next ≡ start_of free.more = ap (λ (p : PoolPlace). p.next) (read_is places spare seen (place_with free.spot.msg (start_of free.more)) seen_is
         (ap (slice_get places) (sym free.at) ∙ free.path.0)) in
         let start : old.first ≡ h.first.at = (link_is old old_read).first ∙ ap start_of h.some in
         let read_last : last ≡ get_or (slice_set places free.spot.at (place_with msg no_place)) (end_of (h.first ∷ h.rest)) last = last_is ∙ (λ k. get_or (slice_set places (sym free.at k) (place_with msg no_place)) (h.end k) last) in
@@ -269,39 +269,39 @@ module _ (places : List Place) (links : List Ends) (spare room : ℕ) (is : IsPo
         omega (arith, is.counted, is.left, weigh-at (λ (chain : List Spot). length chain) is.chains i [] fits, ap length h.some)
 
     -- what was read at the first place
-    first_is : (ends : Ends) (seen : Place) (h : HasSome ends) → seen ≡ get_or places ends.first seen → seen ≡ place_with h.first.msg (start_of h.rest)
+    first_is : (ends : Ends) (seen : PoolPlace) (h : HasSome ends) → seen ≡ get_or places ends.first seen → seen ≡ place_with h.first.msg (start_of h.rest)
     first_is ends seen h seen_is = read_is places ends.first seen (place_with h.first.msg (start_of h.rest)) seen_is (ap (slice_get places) h.start ∙ h.path.0)
 
-    pub takes_front : (ends : Ends) (seen : Place) → ends ≡ get_or links i ends → 1 ≤ length (get_or (links_of places links) i []) → seen ≡ get_or places ends.first seen
+    pub takes_front : (ends : Ends) (seen : PoolPlace) → ends ≡ get_or links i ends → 1 ≤ length (get_or (links_of places links) i []) → seen ≡ get_or places ends.first seen
         → front (get_or (links_of places links) i []) ≡ Some seen.msg
     takes_front ends seen read some seen_is =
         let h = first_some ends read some in
-        ap front (lists_at i ∙ ap messages_of h.some) ∙ ap (λ (p : Place). Some p.msg) (sym (first_is ends seen h seen_is))
+        ap front (lists_at i ∙ ap messages_of h.some) ∙ ap (λ (p : PoolPlace). Some p.msg) (sym (first_is ends seen h seen_is))
 
     -- the index that ends a chain tells whether it goes on
     goes_on : (rest : List Spot) → IsPath places rest → not (start_of rest == no_place) ≡ is_nonempty (messages_of rest)
     goes_on [] path = refl
     goes_on (spot ∷ rest) path = ap not (ne_eqb spot.at no_place (λ e. omega (arith, within places spot rest path, is.few)))
 
-    pub takes_more : (ends : Ends) (seen : Place) → ends ≡ get_or links i ends → 1 ≤ length (get_or (links_of places links) i []) → seen ≡ get_or places ends.first seen
+    pub takes_more : (ends : Ends) (seen : PoolPlace) → ends ≡ get_or links i ends → 1 ≤ length (get_or (links_of places links) i []) → seen ≡ get_or places ends.first seen
         → not (seen.next == no_place) ≡ is_nonempty (behind (get_or (links_of places links) i []))
     takes_more ends seen read some seen_is =
         let h = first_some ends read some in
-        ap (λ (p : Place). not (p.next == no_place)) (first_is ends seen h seen_is) ∙ (goes_on h.rest h.path.1 ∙ ap (λ (msgs : List Msg). is_nonempty (behind msgs)) (sym (lists_at i ∙ ap messages_of h.some)))
+        ap (λ (p : PoolPlace). not (p.next == no_place)) (first_is ends seen h seen_is) ∙ (goes_on h.rest h.path.1 ∙ ap (λ (msgs : List Msg). is_nonempty (behind msgs)) (sym (lists_at i ∙ ap messages_of h.some)))
 
     -- the last place of what is left
     end_left : (first : Spot) (rest : List Spot) (last : ℕ) → IsPath places rest → last ≡ end_of (first ∷ rest) → cond (start_of rest == no_place) no_place last ≡ end_of rest
     end_left first [] last path e = refl
     end_left first (spot ∷ rest) last path e = ap (λ (b : Bool). cond b no_place last) (ne_eqb spot.at no_place (λ same. omega (arith, within places spot rest path, is.few))) ∙ e
 
-    pub takes : (ends : Ends) (seen again : Place) (last : ℕ) → ends ≡ get_or links i ends → 1 ≤ length (get_or (links_of places links) i []) → seen ≡ get_or places ends.first seen
+    pub takes : (ends : Ends) (seen again : PoolPlace) (last : ℕ) → ends ≡ get_or links i ends → 1 ≤ length (get_or (links_of places links) i []) → seen ≡ get_or places ends.first seen
         → again ≡ get_or places ends.first again → last ≡ cond (seen.next == no_place) no_place ends.last
         → IsPoolOf (slice_set places ends.first (place_with again.msg spare)) (slice_set links i (record { first = seen.next; last = last })) ends.first (room + 1)
         (slice_set (links_of places links) i (behind (get_or (links_of places links) i [])))
     takes ends seen again last read some seen_is again_is last_is =
         let h = first_some ends read some in
         let left_lists = slice_set (links_of places links) i (behind (get_or (links_of places links) i [])) in
-        let next : seen.next ≡ start_of h.rest = ap (λ (p : Place). p.next) (first_is ends seen h seen_is) in
+        let next : seen.next ≡ start_of h.rest = ap (λ (p : PoolPlace). p.next) (first_is ends seen h seen_is) in
         let end : last ≡ end_of h.rest = last_is ∙ (ap (λ (n : ℕ). cond (n == no_place) no_place ends.last) next ∙ end_left h.first h.rest ends.last h.path.1 h.end) in
         let read_again : again ≡ get_or places h.first.at again = again_is ∙ ap (λ (k : ℕ). get_or places k again) h.start in
         subst (λ (n : ℕ). IsPoolOf (slice_set places ends.first (place_with again.msg spare)) (slice_set links i (record { first = n; last = last })) ends.first (room + 1) left_lists) (sym next)
@@ -336,7 +336,7 @@ module _ (places : List Place) (links : List Ends) (spare room : ℕ) (is : IsPo
 
   pub widens : (msg : Msg) → length places + 1 ≤ no_place → IsPoolOf (places ++ place_with msg spare ∷ []) links (length places) (room + 1) (links_of places links)
   widens msg more =
-      let after : List Place = places ++ place_with msg spare ∷ [] in
+      let after : List PoolPlace = places ++ place_with msg spare ∷ [] in
       let long : length after ≡ length places + 1 = length_push places (place_with msg spare) in
       let few : length after ≤ no_place = omega arith in
       let spot : Spot = record { at = length places; msg = msg } in
@@ -360,13 +360,13 @@ module _ (places : List Place) (links : List Ends) (spare room : ℕ) (is : IsPo
       one_more k n = grind (arith, nat_tests)
 
 -- a pool of the same messages with a place more
-pub wider : (places : List Place) (links : List Ends) (spare room : ℕ) (said : List (List Msg)) (place : Place) (after : List Place) (size : ℕ) → IsPoolOf places links spare room said
+pub wider : (places : List PoolPlace) (links : List Ends) (spare room : ℕ) (said : List (List Msg)) (place : PoolPlace) (after : List PoolPlace) (size : ℕ) → IsPoolOf places links spare room said
     → length places + 1 ≤ no_place → place.next ≡ spare → after ≡ places ++ place ∷ [] → size ≡ length places → IsPoolOf after links size (room + 1) said
 wider places links spare room said place after size is more next_is after_is size_is =
     let now = widens places links spare room is.pool place.msg more in
     let one : IsPoolOf (places ++ place ∷ []) links (length places) (room + 1) said =
     subst (λ (n : ℕ). IsPoolOf (places ++ place_with place.msg n ∷ []) links (length places) (room + 1) said) (sym next_is) (record { pool = now.pool; lists_are = now.lists_are ∙ is.lists_are }) in
-    subst (λ (ps : List Place). IsPoolOf ps links size (room + 1) said) (sym after_is) (subst (λ (n : ℕ). IsPoolOf (places ++ place ∷ []) links n (room + 1) said) (sym size_is) one)
+    subst (λ (ps : List PoolPlace). IsPoolOf ps links size (room + 1) said) (sym after_is) (subst (λ (n : ℕ). IsPoolOf (places ++ place ∷ []) links n (room + 1) said) (sym size_is) one)
 
-pub one_longer : (places after : List Place) (place : Place) → after ≡ places ++ place ∷ [] → length after ≡ length places + 1
+pub one_longer : (places after : List PoolPlace) (place : PoolPlace) → after ≡ places ++ place ∷ [] → length after ≡ length places + 1
 one_longer places after place e = ap length e ∙ length_push places place

@@ -7,7 +7,7 @@ use Rattle.alw_msg.specs.declared.messages.Msg.{Msg}
 use Rattle.alw_msg.specs.Lists.{is_nonempty}
 use Rattle.alw_links.specs.Traffic.{link_of}
 use Rattle.alw_links.specs.declared.pools.Ends.{Ends}
-use Rattle.alw_links.specs.declared.pools.Place.{Place}
+use Rattle.alw_links.specs.declared.pools.PoolPlace.{PoolPlace}
 use Rattle.alw_links.specs.Chains.{links_of, IsPool}
 
 abbrev pub nobody : NodeSet
@@ -18,7 +18,7 @@ abbrev pub AreSenders : ℕ → List (List Msg) → List NodeSet → Type 0
 AreSenders nodes links senders = (from to : ℕ) → to < nodes
     → has_node (nodes_of (slice_index_or senders to nobody)) from ≡ (nat_lt from nodes && is_nonempty (link_of nodes links from to))
 
-pub record IsTraffic (nodes : ℕ) (links : List Ends) (senders : List NodeSet) (places : List Place) (spare room : ℕ) : Type 0 where
+pub record IsTraffic (nodes : ℕ) (links : List Ends) (senders : List NodeSet) (places : List PoolPlace) (spare room : ℕ) : Type 0 where
   pub few_nodes : nodes ≤ most_nodes
   pub links_are : length links ≡ nodes * nodes
   pub senders_are : length senders ≡ nodes

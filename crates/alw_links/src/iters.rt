@@ -2,14 +2,14 @@ ghost use Rattle.std.specs.Prelude.{◌≡◌};
 ghost use Rattle.std.specs.Iterator.{YieldsFirstRef, item_count};
 ghost use Rattle.alw_links.specs.Chains.{messages_from, IsChain};
 
-use crate::pools::{END, Place};
+use crate::pools::{END, PoolPlace};
 use alw_msg::Msg;
 use std::marker::Model;
 
 /// The messages of a link that are left, the first one first.
 #[derive(Drop)]
 pub struct Link<'a> {
-    places: &'a [Place],
+    places: &'a [PoolPlace],
     at: u32,
 }
 
@@ -27,7 +27,7 @@ impl<'a> Model for Link<'a> {
 
 impl<'a> Link<'a> {
     // The messages of the chain from a place on.
-    pub(crate) fn start(places: &'a [Place], at: u32) -> Link<'a>
+    pub(crate) fn start(places: &'a [PoolPlace], at: u32) -> Link<'a>
         requires { IsChain places.now at }
         ensures { result ≡ messages_from places.now at }
     {

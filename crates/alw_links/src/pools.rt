@@ -26,7 +26,7 @@ pub struct Ends {
 
 /// A place of the pool: a message, and the index of the next place of its chain.
 #[derive(Clone, Copy)]
-pub struct Place {
+pub struct PoolPlace {
     pub msg: Msg,
     pub next: u32,
 }
@@ -34,7 +34,7 @@ pub struct Place {
 /// Places for messages, the first spare one, and how many are spare.
 #[derive(Drop)]
 pub struct Pool {
-    pub places: Vec<Place>,
+    pub places: Vec<PoolPlace>,
     pub spare: u32,
     pub room: u32,
 }
@@ -54,7 +54,7 @@ pub fn widen(links: &Vec<Ends>, pool: &mut Pool, more: u32) -> Result<(), NoMemo
     for _ in 0..more {
         let next = pool.spare;
         pool.spare = pool.places.len() as u32;
-        pool.places.push_reserved(Place { msg: BLANK, next });
+        pool.places.push_reserved(PoolPlace { msg: BLANK, next });
         pool.room += 1;
     }
     Ok(())
@@ -74,7 +74,7 @@ pub fn push(links: &mut Vec<Ends>, pool: &mut Pool, at: usize, msg: Msg) -> bool
     let ends = links[at];
     let free = pool.spare;
     pool.spare = pool.places[free as usize].next;
-    pool.places[free as usize] = Place { msg, next: END };
+    pool.places[free as usize] = PoolPlace { msg, next: END };
     pool.room -= 1;
     if ends.last == END {
         links[at] = Ends {

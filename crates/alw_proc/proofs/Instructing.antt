@@ -10,7 +10,7 @@ use Rattle.sparc_table.specs.Turns.{need_of, turn_of}
 use Rattle.sparc_table.specs.declared.registers.Regs.{Regs}
 use Rattle.sparc_table.specs.declared.outcomes.Outcome.{Outcome}
 use Rattle.sparc_table.specs.declared.outcomes.Outcome.TheVariants as ends
-use Rattle.sparc_exec.specs.Runs.{seen, IsRun, CopyIsMissing}
+use Rattle.sparc_exec.specs.Runs.{seen, IsRunWith, CopyIsMissing}
 use Rattle.alw_msg.specs.Sending.{Sending, with_messages}
 use Rattle.alw_msg.specs.declared.contexts.Status.TheVariants.{Waiting}
 use Rattle.alw_cache.specs.Places.{Copies, seen_in, ArePlaced}
@@ -22,7 +22,7 @@ use Rattle.alw_model.specs.Messages.{homeward}
 use Rattle.alw_model.specs.Sides.{Processor, lines_of}
 use Rattle.alw_model.specs.ProcessorSteps.{Steps, instr, miss, opened, take_turn, status_after}
 use Rattle.alw_proc.specs.Homeward.{with_requests}
-use Rattle.alw_proc.specs.Turns.{Runs}
+use Rattle.alw_proc.specs.Turns.{SlotRuns}
 use Rattle.alw_proc.specs.declared.shared.Shared.{Shared}
 use Rattle.alw_proc.specs.Processors.{IsProcessor, IsSide, processor_from}
 use Rattle.alw_proc.proofs.Leaving.{home_fits}
@@ -36,13 +36,13 @@ pub record HasRun (code : List ℕ) (p : Processor) (slot lines : ℕ) (contexts
   pub sizes : (lines' ≡ lines) × (cache.sets ≡ p.sets)
   pub placed : ArePlaced (copies_of p p.cache)
   pub stays : ArePlaced cache
-  pub run : IsRun (need_of code (regs_of p slot) lines) (turn_of code (regs_of p slot) lines)
+  pub run : IsRunWith (need_of code (regs_of p slot) lines) (turn_of code (regs_of p slot) lines)
       (seen (regs_of p slot) (seen_in (copies_of p p.cache)) None) (seen (slot_at contexts.slots slot).regs (seen_in cache) None) outcome
   pub missed : (line : LineNo) → (mode : Mode) → (outcome ≡ ends.Miss line mode) ↔ CopyIsMissing (need_of code (regs_of p slot) lines) (seen_in (copies_of p p.cache)) line mode
   pub contexts_are : contexts ≡ record { slots = ran p.slots slot (slot_at contexts.slots slot).regs (left_by (slot_at contexts.slots slot).regs outcome); current = slot }
 
 pub has_run : (code : List ℕ) (number width height per_node : ℕ) (contexts contexts' : NodeContexts) (shared shared' : Shared) (transactions : Transactions) (slot : ℕ) (outcome : Outcome)
-    → IsSide (processor_from number width height per_node contexts shared.cache transactions) shared.lines → running contexts.slots contexts.current ≡ Some slot → Runs code slot contexts shared contexts' shared' outcome
+    → IsSide (processor_from number width height per_node contexts shared.cache transactions) shared.lines → running contexts.slots contexts.current ≡ Some slot → SlotRuns code slot contexts shared contexts' shared' outcome
     → HasRun code (processor_from number width height per_node contexts shared.cache transactions) slot shared.lines contexts' shared'.cache shared'.lines outcome
 has_run code number width height per_node contexts contexts' shared shared' transactions slot outcome is runs r = record {
   runs = runs;
@@ -73,11 +73,11 @@ placed_is : (p : Processor) (cache : Copies) → cache.sets ≡ p.sets → ArePl
 placed_is p cache e placed = subst (λ n. Placed p n cache) e placed
 
 run_is : (code : List ℕ) (p : Processor) (slot lines : ℕ) (contexts : NodeContexts) (cache : Copies) (lines' : ℕ) (outcome : Outcome) → HasRun code p slot lines contexts cache lines' outcome
-    → IsRun (need_of code (regs_of p slot) (lines_of p)) (turn_of code (regs_of p slot) (lines_of p)) (seen (regs_of p slot) (seen_in (copies_of p p.cache)) None)
+    → IsRunWith (need_of code (regs_of p slot) (lines_of p)) (turn_of code (regs_of p slot) (lines_of p)) (seen (regs_of p slot) (seen_in (copies_of p p.cache)) None)
     (seen (slot_at contexts.slots slot).regs (seen_in (copies_of p cache.copies)) None) outcome
 run_is code p slot lines contexts cache lines' outcome h =
     let By : ℕ → ℕ → Type 0 = λ n sets. let c : Copies = record { sets = sets; copies = cache.copies } in
-    IsRun (need_of code (regs_of p slot) n) (turn_of code (regs_of p slot) n) (seen (regs_of p slot) (seen_in (copies_of p p.cache)) None) (seen (slot_at contexts.slots slot).regs (seen_in c) None) outcome in
+    IsRunWith (need_of code (regs_of p slot) n) (turn_of code (regs_of p slot) n) (seen (regs_of p slot) (seen_in (copies_of p p.cache)) None) (seen (slot_at contexts.slots slot).regs (seen_in c) None) outcome in
     subst (λ n. By n p.sets) h.lines_are (subst (λ sets. By lines sets) h.sizes.1 h.run)
 
 -- ---- a turn

@@ -14,7 +14,7 @@ use Rattle.sparc_table.specs.declared.outcomes.Outcome.{Outcome}
 use Rattle.sparc_table.specs.declared.outcomes.Outcome.TheVariants as ends
 use Rattle.sparc_table.proofs.Effects.{turn_exists}
 use Rattle.sparc_exec.specs.Ports.{granted}
-use Rattle.sparc_exec.specs.Runs.{Seen, seen, IsRunOn, IsRun, CopyIsMissing}
+use Rattle.sparc_exec.specs.Runs.{Seen, seen, IsRunOn, IsRunWith, CopyIsMissing}
 use Rattle.alw_image.specs.Images.{zero_line}
 use Rattle.alw_cache.specs.Places.{Copies, copy_of, seen_of, seen_in, ArePlaced}
 use Rattle.alw_cache.proofs.Seen.{same_caches, seen_written, placed_written}
@@ -40,7 +40,7 @@ over p regs cache = seen regs (seen_in (copies_of p cache)) None
 
 -- a turn of a slot has left these registers, this cache and this outcome
 abbrev pub Turned : List ℕ → Processor → ℕ → Regs → Cache → Outcome → Type 0
-Turned code p slot regs cache outcome = IsRun (need_of code (regs_of p slot) (lines_of p)) (turn_of code (regs_of p slot) (lines_of p)) (over p (regs_of p slot) p.cache) (over p regs cache) outcome
+Turned code p slot regs cache outcome = IsRunWith (need_of code (regs_of p slot) (lines_of p)) (turn_of code (regs_of p slot) (lines_of p)) (over p (regs_of p slot) p.cache) (over p regs cache) outcome
 
 -- ---- what a port grants
 
@@ -133,7 +133,7 @@ on_copy code stamp p slot regs cache outcome line Write (Some copy) e here place
 -- by the need
 by_need : (code : List ℕ) (stamp : ℕ) (p : Processor) (slot : ℕ) (regs : Regs) (cache : Cache) (outcome : Outcome) (need : Need)
     → need_of code (regs_of p slot) (lines_of p) ≡ need → ArePlaced (copies_of p p.cache) → ArePlaced (copies_of p cache) → ((line : LineNo) → (mode : Mode) → outcome ≢ ends.Miss line mode)
-    → IsRun need (turn_of code (regs_of p slot) (lines_of p)) (over p (regs_of p slot) p.cache) (over p regs cache) outcome
+    → IsRunWith need (turn_of code (regs_of p slot) (lines_of p)) (over p (regs_of p slot) p.cache) (over p regs cache) outcome
     → IsTurn code stamp p slot regs cache outcome need
 by_need code stamp p slot regs cache outcome needs.Nothing e placed placed' hit run =
     let done = run.0 zero_line in
@@ -173,7 +173,7 @@ pub miss_is : (code : List ℕ) (stamp : ℕ) (p : Processor) (slot : ℕ) (regs
     → Turned code p slot regs cache (ends.Miss line mode) → IsMiss code stamp p slot regs cache line mode
 miss_is code stamp p slot regs cache line mode placed placed' missing run =
     let none : granted_copy p.sets p.cache line.0 mode ≡ None = none_is _ (sym (granted_is (copy_at p.sets p.cache line.0) mode) ∙ missing.1) in
-    let By : Need → Type 0 = λ n. IsRun n (turn_of code (regs_of p slot) (lines_of p)) (over p (regs_of p slot) p.cache) (over p regs cache) (ends.Miss line mode) in
+    let By : Need → Type 0 = λ n. IsRunWith n (turn_of code (regs_of p slot) (lines_of p)) (over p (regs_of p slot) p.cache) (over p regs cache) (ends.Miss line mode) in
     let On : Option Line → Type 0 = λ found. IsRunOn found line mode (turn_of code (regs_of p slot) (lines_of p)) (over p (regs_of p slot) p.cache) (over p regs cache) (ends.Miss line mode) in
     let missed = subst On missing.1 (subst By missing.0 run) in
     record {

@@ -5,7 +5,7 @@ ghost use Rattle.alw_model.specs.Contexts.{is_held};
 ghost use Rattle.alw_model.specs.ProcessorSteps.{opened, slots_after};
 ghost use Rattle.alw_proc.specs.Openings.{OpeningIsNotOf};
 ghost use Rattle.alw_proc.specs.Homeward.{with_requests};
-ghost use Rattle.alw_proc.specs.Turns.{Runs};
+ghost use Rattle.alw_proc.specs.Turns.{SlotRuns};
 
 use crate::homeward::send;
 use crate::openings::Openings;
@@ -19,7 +19,7 @@ use sparc_exec::{Outcome, Program};
 /// A turn of a slot over the node's cache: on the slot's registers and the cache's copies where they stand.
 pub fn take_turn(contexts: &mut Contexts, shared: &mut Shared, slot: u8, code: &Program) -> Outcome
     requires { slot < length contexts.old.slots }
-    ensures { Runs code.now slot contexts.old shared.old contexts.new shared.new result }
+    ensures { SlotRuns code.now slot contexts.old shared.old contexts.new shared.new result }
 {
     let _placed = shared.cache.sets(); // for its clause
     let outcome = contexts.turn(slot, code, shared);

@@ -27,7 +27,7 @@ use Rattle.alw_answers.specs.declared.outputs.Refusal.{Refusal}
 use Rattle.alw_answers.specs.declared.outputs.Refusal.TheVariants as refusal
 use Rattle.alw_answers.specs.Outputs.{Gives}
 use Rattle.alw_runs.specs.Forms.{TextOf, IsTold, IsToldBy, output_of, output_with, run_text}
-use Rattle.alw_runs.specs.Running.{parameters_in, Runs}
+use Rattle.alw_runs.specs.Running.{parameters_in, RunsBySeed}
 use Rattle.alw_runs.specs.Replaying.{Spells, IsFit, IsFirstIllegal, IsUnfinished, IsFinishedTrace, IsNotTaken, EndsTrace, TakesAgain, IsNoReplay}
 use Rattle.alw_runs.proofs.NoEvict.{some_end}
 
@@ -83,7 +83,7 @@ pub record IsReadAs (bytes : List ℕ) (image : Parts) : Type 0 where
   pub accepted : image_fault bytes ≡ None
 
 pub ran : (seed : ℕ) (params : Parameters) (form : Form) (bytes : List ℕ) (image : Parts) → IsReadAs bytes image → (before after : History) (e : Ended) →
-    before ≡ begun image params → IsFitFor most_steps image params → RunIsFinished before seed after e → Runs seed params form bytes (output_of after e form)
+    before ≡ begun image params → IsFitFor most_steps image params → RunIsFinished before seed after e → RunsBySeed seed params form bytes (output_of after e form)
 ran seed params form bytes image read before after e started fit finished =
     let done : RunIsFinished (begun image params) seed after e = subst (λ (h : History). RunIsFinished h seed after e) started finished in
     let is : after ≡ record { image = image; parameters = params; journal = after.journal; joined = 0 } = of_start image params seed after done.seeded in

@@ -20,7 +20,7 @@ abbrev pub parameters_in : Parameters → List ℕ → Parameters
 parameters_in parameters bytes = parameters_for (node_count (image_in bytes)) parameters
 
 -- the bytes are an image, which was run to an end by the schedule of a seed
-pub record Runs (seed : ℕ) (parameters : Parameters) (form : Form) (bytes : List ℕ) (output : Output) : Type 0 where
+pub record RunsBySeed (seed : ℕ) (parameters : Parameters) (form : Form) (bytes : List ℕ) (output : Output) : Type 0 where
   pub accepted : image_fault bytes ≡ None
   pub spelled : bytes ≡ spelling (image_in bytes)
   pub told : IsTold (image_in bytes) parameters form output
@@ -37,7 +37,7 @@ IsNoRun parameters bytes _ = ⊥
 abbrev pub run_task : ℕ → Parameters → Form → Task
 run_task seed parameters form = record {
   reads = true;
-  Makes = λ bytes. Runs seed (parameters_in parameters bytes) form bytes;
+  Makes = λ bytes. RunsBySeed seed (parameters_in parameters bytes) form bytes;
   Refuses = λ bytes. IsNoRun (parameters_in parameters bytes) bytes;
   Accepts = λ bytes. (image_fault bytes ≡ None) × (stamps_of (image_in bytes) (parameters_in parameters bytes) ≤ most_steps);
   is_done = is_run;

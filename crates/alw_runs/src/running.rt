@@ -1,5 +1,5 @@
 ghost use Rattle.alw_answers.specs.Outputs.{Gives};
-ghost use Rattle.alw_runs.specs.Running.{Runs, IsNoRun, parameters_in};
+ghost use Rattle.alw_runs.specs.Running.{RunsBySeed, IsNoRun, parameters_in};
 
 use crate::forms::told;
 use alw_answers::{Output, Refusal};
@@ -9,7 +9,7 @@ use alw_mesh::Machine;
 use alw_sched::finish;
 use std::alloc::Global;
 
-/// Runs the image that bytes spell by the schedule of a seed, up to an end.
+/// RunsBySeed the image that bytes spell by the schedule of a seed, up to an end.
 pub fn run_bytes(
     alloc: Global,
     seed: u64,
@@ -17,7 +17,7 @@ pub fn run_bytes(
     form: Form,
     bytes: &[u8],
 ) -> Result<Output, Refusal>
-    ensures { Gives (Runs seed (parameters_in params.now bytes.now) form bytes.now) (IsNoRun (parameters_in params.now bytes.now) bytes.now) result }
+    ensures { Gives (RunsBySeed seed (parameters_in params.now bytes.now) form bytes.now) (IsNoRun (parameters_in params.now bytes.now) bytes.now) result }
 {
     let image = read_image(alloc, bytes)?;
     let _allowed = params.limit(); // for its clause

@@ -49,11 +49,11 @@ ready_is Halted is = absurd (cc)
 ready_is (Trapped pc tt) is = absurd (cc)
 
 -- the slot that runs exists, and is Ready
-record Runs (slots : List Slot) (slot : ℕ) : Type 0 where
+record SlotIsReady (slots : List Slot) (slot : ℕ) : Type 0 where
   ready : (slot_at slots slot).status ≡ Ready
   within : slot < length slots
 
-runs : (slots : List Slot) (current slot : ℕ) → running slots current ≡ Some slot → Runs slots slot
+runs : (slots : List Slot) (current slot : ℕ) → running slots current ≡ Some slot → SlotIsReady slots slot
 runs slots current slot found = record { ready = ready_is (slot_at slots slot).status passes; within = go (cases_lt slot (length slots)) }
   where
     passes : is_ready (slot_at slots slot).status ≡ true
@@ -73,7 +73,7 @@ abbrev is_live : Status → Bool
 is_live status = not (is_halted status)
 
 -- a slot that ran
-ran_counts : (test : Status → Bool) (slots : List Slot) (slot : ℕ) (regs : Regs) (status : Status) → Runs slots slot
+ran_counts : (test : Status → Bool) (slots : List Slot) (slot : ℕ) (regs : Regs) (status : Status) → SlotIsReady slots slot
     → counted test (ran slots slot regs status) + digit (test Ready) ≡ counted test slots + digit (test status)
 ran_counts test slots slot regs status is =
     ap (λ s. counted test (ran slots slot regs status) + digit (test s)) (sym is.ready) ∙ weigh_set (λ (s : Slot). digit (test s.status)) slots slot _ no_slot is.within
@@ -126,7 +126,7 @@ pub record Changes (change : Change) (before after : NodeState) : Type 0 where
   pub packets : packets_in after + change.goes ≡ packets_in before + change.comes
 
 module _ (parts : Parts) (parameters : Parameters) (number stamp : ℕ) (node : NodeState) where
-  turn_changes : (slot : ℕ) (cache : Cache) (regs : Regs) (outcome : Outcome) → Runs node.slots slot → let s = take_turn parts parameters number node slot cache regs outcome in Changes (change_by s.did) node s.node
+  turn_changes : (slot : ℕ) (cache : Cache) (regs : Regs) (outcome : Outcome) → SlotIsReady node.slots slot → let s = take_turn parts parameters number node slot cache regs outcome in Changes (change_by s.did) node s.node
   turn_changes slot cache regs outcome is = go outcome
       (ran_counts is_live node.slots slot regs (status_after regs outcome) is) (ran_counts has_trapped node.slots slot regs (status_after regs outcome) is)
     where
@@ -139,18 +139,18 @@ module _ (parts : Parts) (parameters : Parameters) (number stamp : ℕ) (node : 
       go (Miss line mode) live trapped = record { live = omega arith; trapped = omega arith; packets = omega arith }
       go (Out word) live trapped = record { live = omega arith; trapped = omega arith; packets = omega arith }
 
-  miss_changes : (slot line : ℕ) (mode : Mode) → Runs node.slots slot → let s = miss parts parameters number stamp node slot line mode in Changes (change_by s.did) node s.node
+  miss_changes : (slot line : ℕ) (mode : Mode) → SlotIsReady node.slots slot → let s = miss parts parameters number stamp node slot line mode in Changes (change_by s.did) node s.node
   miss_changes slot line mode is =
       let waits = Waiting (record { 0 = line }) in
       let live = ran_counts is_live node.slots slot (slot_at node.slots slot).regs waits is in
       let trapped = ran_counts has_trapped node.slots slot (slot_at node.slots slot).regs waits is in
       record { live = omega arith; trapped = omega arith; packets = omega arith }
 
-  copy_changes : (slot line : ℕ) (mode : Mode) (o : Option Copy) → Runs node.slots slot → let s = access parts parameters number stamp node slot line mode o in Changes (change_by s.did) node s.node
+  copy_changes : (slot line : ℕ) (mode : Mode) (o : Option Copy) → SlotIsReady node.slots slot → let s = access parts parameters number stamp node slot line mode o in Changes (change_by s.did) node s.node
   copy_changes slot line mode None is = miss_changes slot line mode is
   copy_changes slot line mode (Some copy) is = turn_changes slot _ _ _ is
 
-  need_changes : (slot : ℕ) (need : Need) → Runs node.slots slot → let s = instr_by parts parameters number stamp node slot need in Changes (change_by s.did) node s.node
+  need_changes : (slot : ℕ) (need : Need) → SlotIsReady node.slots slot → let s = instr_by parts parameters number stamp node slot need in Changes (change_by s.did) node s.node
   need_changes slot (needs.Copy line mode) is = copy_changes slot line.0 mode (granted_copy parameters.sets node.cache line.0 mode) is
   need_changes slot needs.Nothing is = turn_changes slot _ _ _ is
   need_changes slot (needs.Trap type) is = turn_changes slot _ _ _ is

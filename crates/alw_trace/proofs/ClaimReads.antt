@@ -6,7 +6,7 @@ use Rattle.alw_trace.specs.declared.faults.TextErr.{TextErr}
 use Rattle.alw_trace.specs.declared.faults.TextErr.TheVariants.{Syntax, Image, Range, NoMemory}
 use Rattle.alw_trace.specs.declared.pairs.ListKind.TheVariants.{Runs, Prints, Memory}
 use Rattle.alw_trace.specs.Texts.{image_text, claim_title}
-use Rattle.alw_trace.specs.Lines.{IsNumber, IsRun, IsPrint, IsMemoryWord, AreBytes, IsFaultInImage, IsFaultInList, IsFaultAtEnd, IsClaimFault, ClaimLines, AreClaimLines, claim_lines, behind_image, title_of_claim, image_of_claim, runs_of_claim, prints_of_claim, memory_of_claim, end_of_claim}
+use Rattle.alw_trace.specs.Lines.{IsNumber, IsStretch, IsPrint, IsMemoryWord, AreBytes, IsFaultInImage, IsFaultInList, IsFaultAtEnd, IsClaimFault, ClaimLines, AreClaimLines, claim_lines, behind_image, title_of_claim, image_of_claim, runs_of_claim, prints_of_claim, memory_of_claim, end_of_claim}
 use Rattle.alw_trace.specs.Lists.{IsListRead, IsOfClaim}
 use Rattle.alw_trace.specs.Raw.{IsSyntaxFault, IsImageRead}
 
@@ -14,13 +14,13 @@ use Rattle.alw_trace.specs.Raw.{IsSyntaxFault, IsImageRead}
 
 pub record IsRunsFront (text image : List ℕ) (runs : List (ℕ × ℕ)) (rest : List ℕ) : Type 0 where
   pub bytes : AreBytes image
-  pub each : AllByRecursion IsRun runs
+  pub each : AllByRecursion IsStretch runs
   pub count : IsNumber (length runs)
   pub parts : text ≡ claim_title ++ (image_text image ++ (runs_text runs ++ rest))
 
 pub record IsPrintsFront (text image : List ℕ) (runs prints : List (ℕ × ℕ)) (rest : List ℕ) : Type 0 where
   pub before : AreBytes image
-  pub runs_are : AllByRecursion IsRun runs
+  pub runs_are : AllByRecursion IsStretch runs
   pub run_count : IsNumber (length runs)
   pub each : AllByRecursion IsPrint prints
   pub count : IsNumber (length prints)
@@ -87,11 +87,11 @@ image_lacks text rest NoMemory e is = tt
 
 pub runs_lack : (text one image two : List ℕ) (line : ℕ) (fault : TextErr) → text ≡ codes "ALEWIFE CLAIM 1\n" ++ one → IsImageRead one image two
     → line ≡ behind_image image
-    → IsSyntaxFault (IsFaultInList IsRun run_line (codes "runs") line two) fault → IsSyntaxFault (IsClaimFault text) fault
+    → IsSyntaxFault (IsFaultInList IsStretch run_line (codes "runs") line two) fault → IsSyntaxFault (IsClaimFault text) fault
 unfolding claim_title
 runs_lack text one image two line (Syntax at) e read here is =
     runs_of_claim image two read.bytes (e ∙ ap (λ (t : List ℕ). claim_title ++ t) read.parts)
-    (subst (λ (n : ℕ). IsFaultInList IsRun run_line (codes "runs") n two at) here is)
+    (subst (λ (n : ℕ). IsFaultInList IsStretch run_line (codes "runs") n two at) here is)
 runs_lack text one image two line (Image f) e read here is = is
 runs_lack text one image two line (Range at) e read here is = is
 runs_lack text one image two line NoMemory e read here is = tt

@@ -7,7 +7,7 @@ use Rattle.alw_text.proofs.Numerals.{length-hex_digits, hex_digits-is}
 use Rattle.alw_image.specs.Numbers.{IsWord}
 use Rattle.alw_report.specs.Reports.{heading, run_line, print_line, word_line, runs_text, prints_text, memory_text}
 use Rattle.alw_trace.specs.Texts.{image_text, claim_title}
-use Rattle.alw_trace.specs.Lines.{IsNumber, AreBytes, IsRun, IsPrint, IsMemoryWord, ClaimLines, AreClaimLines, claim_lines, behind_image, IsFaultInList, IsFaultAtEnd, IsFaultInImage, IsClaimFault, title_of_claim, image_of_claim, runs_of_claim, prints_of_claim, memory_of_claim, end_of_claim}
+use Rattle.alw_trace.specs.Lines.{IsNumber, AreBytes, IsStretch, IsPrint, IsMemoryWord, ClaimLines, AreClaimLines, claim_lines, behind_image, IsFaultInList, IsFaultAtEnd, IsFaultInImage, IsClaimFault, title_of_claim, image_of_claim, runs_of_claim, prints_of_claim, memory_of_claim, end_of_claim}
 use Rattle.alw_trace.proofs.Numbers.{one_number}
 use Rattle.alw_trace.proofs.LineTexts.{pair-is}
 use Rattle.alw_trace.proofs.PairReads.{print-is, word-is}
@@ -45,7 +45,7 @@ one_word n m stop u v l k e =
 
 -- ---- lines
 
-pub one_run : OneLine IsRun run_line
+pub one_run : OneLine IsStretch run_line
 one_run a b u v l k e =
     let first = one_number a.0 b.0 32 _ _ l.0 k.0 (omega arith) (sym (pair-is a.0 a.1 u) ∙ e ∙ pair-is b.0 b.1 v) in
     let second = one_number a.1 b.1 10 u v l.1 k.1 (omega arith) first.1 in
@@ -73,10 +73,10 @@ one_text IsX line name one xs ys u v are all small few e =
     (sym (append_assoc (heading name (length xs)) (flat_map line xs) u) ∙ e ∙ append_assoc (heading name (length ys)) (flat_map line ys) v) in
     one_list IsX line one xs ys u v are all head.0 head.1
 
-pub one_runs : (xs ys : List (ℕ × ℕ)) (u v : List ℕ) → AllByRecursion IsRun xs → AllByRecursion IsRun ys → IsNumber (length xs) → IsNumber (length ys)
+pub one_runs : (xs ys : List (ℕ × ℕ)) (u v : List ℕ) → AllByRecursion IsStretch xs → AllByRecursion IsStretch ys → IsNumber (length xs) → IsNumber (length ys)
     → runs_text xs ++ u ≡ runs_text ys ++ v → (xs ≡ ys) × (u ≡ v)
 unfolding runs_text
-one_runs xs ys u v are all small few e = one_text IsRun run_line (codes "runs") one_run xs ys u v are all small few e
+one_runs xs ys u v are all small few e = one_text IsStretch run_line (codes "runs") one_run xs ys u v are all small few e
 
 pub one_prints : (xs ys : List (ℕ × ℕ)) (u v : List ℕ) → AllByRecursion IsPrint xs → AllByRecursion IsPrint ys → IsNumber (length xs) → IsNumber (length ys)
     → prints_text xs ++ u ≡ prints_text ys ++ v → (xs ≡ ys) × (u ≡ v)
@@ -88,11 +88,11 @@ pub one_memory : (xs ys : List (ℕ × ℕ)) (u v : List ℕ) → AllByRecursion
 unfolding memory_text
 one_memory xs ys u v are all small few e = one_text IsMemoryWord word_line (codes "memory") one_memory_word xs ys u v are all small few e
 
-pub no_fault_in_runs : (xs : List (ℕ × ℕ)) (u : List ℕ) (first fault : ℕ) → AllByRecursion IsRun xs → IsNumber (length xs)
-    → ¬ IsFaultInList IsRun run_line (codes "runs") first (runs_text xs ++ u) fault
+pub no_fault_in_runs : (xs : List (ℕ × ℕ)) (u : List ℕ) (first fault : ℕ) → AllByRecursion IsStretch xs → IsNumber (length xs)
+    → ¬ IsFaultInList IsStretch run_line (codes "runs") first (runs_text xs ++ u) fault
 unfolding runs_text
-no_fault_in_runs xs u first fault all small is = no_fault_in_list IsRun run_line (codes "runs") first fault xs u one_run all small
-    (subst (λ (t : List ℕ). IsFaultInList IsRun run_line (codes "runs") first t fault)
+no_fault_in_runs xs u first fault all small is = no_fault_in_list IsStretch run_line (codes "runs") first fault xs u one_run all small
+    (subst (λ (t : List ℕ). IsFaultInList IsStretch run_line (codes "runs") first t fault)
     (append_assoc (heading (codes "runs") (length xs)) (flat_map run_line xs) u) is)
 
 pub no_fault_in_prints : (xs : List (ℕ × ℕ)) (u : List ℕ) (first fault : ℕ) → AllByRecursion IsPrint xs → IsNumber (length xs)
@@ -131,13 +131,13 @@ image_cut : (c : ClaimLines) (image rest : List ℕ) → AreClaimLines c → Are
 image_cut c image rest are bytes e =
     one_image c.image image (behind_bytes c) rest (are.bytes, are.size) bytes (append_cancel_left claim_title (behind_title c) (image_text image ++ rest) e)
 
-runs_cut : (c : ClaimLines) (image : List ℕ) (runs : List (ℕ × ℕ)) (rest : List ℕ) → AreClaimLines c → AreBytes image → AllByRecursion IsRun runs
+runs_cut : (c : ClaimLines) (image : List ℕ) (runs : List (ℕ × ℕ)) (rest : List ℕ) → AreClaimLines c → AreBytes image → AllByRecursion IsStretch runs
     → IsNumber (length runs)
     → claim_title ++ behind_title c ≡ claim_title ++ (image_text image ++ (runs_text runs ++ rest)) → (c.runs ≡ runs) × (behind_runs c ≡ rest)
 runs_cut c image runs rest are bytes each few e =
     one_runs c.runs runs (behind_runs c) rest are.runs each are.run_count few (image_cut c image (runs_text runs ++ rest) are bytes e).1
 
-prints_cut : (c : ClaimLines) (image : List ℕ) (runs prints : List (ℕ × ℕ)) (rest : List ℕ) → AreClaimLines c → AreBytes image → AllByRecursion IsRun runs
+prints_cut : (c : ClaimLines) (image : List ℕ) (runs prints : List (ℕ × ℕ)) (rest : List ℕ) → AreClaimLines c → AreBytes image → AllByRecursion IsStretch runs
     → IsNumber (length runs) → AllByRecursion IsPrint prints → IsNumber (length prints)
     → claim_title ++ behind_title c ≡ claim_title ++ (image_text image ++ (runs_text runs ++ (prints_text prints ++ rest)))
     → (c.prints ≡ prints) × (behind_prints c ≡ rest)
@@ -163,7 +163,7 @@ no_fault c fault are (image_of_claim rest e is) =
     (subst (λ (r : List ℕ). IsFaultInImage r fault) (sym (append_cancel_left claim_title (behind_title c) rest e)) is)
 no_fault c fault are (runs_of_claim image rest bytes e is) =
     no_fault_in_runs c.runs (behind_runs c) (behind_image image) fault are.runs are.run_count
-    (subst (λ (r : List ℕ). IsFaultInList IsRun run_line (codes "runs") (behind_image image) r fault) (sym (image_cut c image rest are bytes e).1) is)
+    (subst (λ (r : List ℕ). IsFaultInList IsStretch run_line (codes "runs") (behind_image image) r fault) (sym (image_cut c image rest are bytes e).1) is)
 no_fault c fault are (prints_of_claim image runs rest bytes each few e is) =
     no_fault_in_prints c.prints (behind_prints c) (behind_image image + 1 + length runs) fault are.prints are.print_count
     (subst (λ (r : List ℕ). IsFaultInList IsPrint print_line (codes "prints") (behind_image image + 1 + length runs) r fault)

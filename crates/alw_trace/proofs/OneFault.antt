@@ -6,7 +6,7 @@ use Rattle.std.proofs.lemmas.List.{append_cancel_left, length-take}
 use Rattle.alw_msg.specs.declared.events.Entry.{Entry}
 use Rattle.alw_report.specs.Reports.{params_line, run_line, print_line, word_line, runs_text, prints_text, memory_text}
 use Rattle.alw_trace.specs.Texts.{hex_line, hex_lines, image_text, entry_line, entries_text, trace_title, claim_title}
-use Rattle.alw_trace.specs.Lines.{IsNumber, IsByte, IsRow, AreBytes, HasThree, IsEntry, IsRun, IsPrint, IsMemoryWord, Lacks, LacksThis, behind_image, IsFaultInLines, IsFaultInRows, IsFaultInList, IsFaultInImage, IsFaultAtEnd, IsTraceFault, IsClaimFault, list_heading, list_line, image_heading, image_row, lacks_end, goes_on, title_of_front, image_of_front, params_of_front, entries_of_front, front_of_trace, end_of_trace, title_of_claim, image_of_claim, runs_of_claim, prints_of_claim, memory_of_claim, end_of_claim}
+use Rattle.alw_trace.specs.Lines.{IsNumber, IsByte, IsRow, AreBytes, HasThree, IsEntry, IsStretch, IsPrint, IsMemoryWord, Lacks, LacksThis, behind_image, IsFaultInLines, IsFaultInRows, IsFaultInList, IsFaultInImage, IsFaultAtEnd, IsTraceFault, IsClaimFault, list_heading, list_line, image_heading, image_row, lacks_end, goes_on, title_of_front, image_of_front, params_of_front, entries_of_front, front_of_trace, end_of_trace, title_of_claim, image_of_claim, runs_of_claim, prints_of_claim, memory_of_claim, end_of_claim}
 use Rattle.alw_trace.proofs.OneLine.{OneLine, not_lacking, one_heading, one_row, all_take, all_drop, one_image, no_fault_in_image, one_params, one_entry, no_fault_in_list}
 use Rattle.alw_trace.proofs.OneFront.{one_journal, entries-is}
 use Rattle.alw_trace.proofs.OneClaim.{one_run, one_print, one_memory_word, one_runs, one_prints, one_memory, no_fault_in_runs, no_fault_in_prints, no_fault_in_memory}
@@ -203,7 +203,7 @@ FromPrints image runs = Stage (IsList IsPrint) prints_text (IsFaultInList IsPrin
     (FromMemory image runs)
 
 abbrev FromRuns : List ℕ → List ℕ → ℕ → Type 0
-FromRuns image = Stage (IsList IsRun) runs_text (IsFaultInList IsRun run_line (codes "runs") (behind_image image)) (FromPrints image)
+FromRuns image = Stage (IsList IsStretch) runs_text (IsFaultInList IsStretch run_line (codes "runs") (behind_image image)) (FromPrints image)
 
 abbrev FromBytes : List ℕ → ℕ → Type 0
 FromBytes = Stage AreBytes image_text IsFaultInImage FromRuns
@@ -258,8 +258,8 @@ from_prints image runs =
     (λ a b u v is has e. one_prints a b u v is.0 has.0 is.1 has.1 e) (from_memory image runs)
 
 from_runs : (image : List ℕ) → Unique (FromRuns image)
-from_runs image = one_stage (IsList IsRun) runs_text (IsFaultInList IsRun run_line (codes "runs") (behind_image image)) (FromPrints image)
-    (one_in_list IsRun run_line (codes "runs") one_run (behind_image image)) (λ runs rest f is. no_fault_in_runs runs rest (behind_image image) f is.0 is.1)
+from_runs image = one_stage (IsList IsStretch) runs_text (IsFaultInList IsStretch run_line (codes "runs") (behind_image image)) (FromPrints image)
+    (one_in_list IsStretch run_line (codes "runs") one_run (behind_image image)) (λ runs rest f is. no_fault_in_runs runs rest (behind_image image) f is.0 is.1)
     (λ a b u v is has e. one_runs a b u v is.0 has.0 is.1 has.1 e) (from_prints image)
 
 from_bytes : Unique FromBytes

@@ -11,7 +11,7 @@ use Rattle.alw_trace.specs.declared.faults.TextErr.{TextErr}
 use Rattle.alw_trace.specs.declared.faults.TextErr.TheVariants.{Syntax, Image, Range, NoMemory}
 use Rattle.alw_trace.specs.declared.pairs.ListKind.{ListKind}
 use Rattle.alw_trace.specs.declared.pairs.ListKind.TheVariants.{Runs, Prints, Memory}
-use Rattle.alw_trace.specs.Lines.{IsNumber, IsRun, IsPrint, IsMemoryWord, Lacks, IsFaultInLines, IsFaultInList, list_line}
+use Rattle.alw_trace.specs.Lines.{IsNumber, IsStretch, IsPrint, IsMemoryWord, Lacks, IsFaultInLines, IsFaultInList, list_line}
 use Rattle.alw_trace.specs.Lists.{name_of, line_of, IsLineOf, list_text, IsListRead, ArePairsRead}
 use Rattle.alw_trace.specs.Raw.{IsSyntaxFault}
 use Rattle.alw_trace.proofs.Numbers.{rest_is}
@@ -49,7 +49,7 @@ pub word-is : (a b : ℕ) (rest : List ℕ) → word_line (a, b) ++ rest ≡ hex
 word-is a b rest = append_assoc (hex_word a) (32 ∷ (hex_word b ++ 10 ∷ [])) rest ∙ ap (λ (t : List ℕ). hex_word a ++ 32 ∷ t) (last_word b rest)
 
 pub no_count : (text one : List ℕ) (n : ℕ) → n < 2 ^ 64 → text ≡ decimal n ++ 32 ∷ one
-    → ((m : ℕ) → (rest : List ℕ) → m < 2 ^ 64 → one ≢ decimal m ++ 10 ∷ rest) → Lacks IsRun run_line text
+    → ((m : ℕ) → (rest : List ℕ) → m < 2 ^ 64 → one ≢ decimal m ++ 10 ∷ rest) → Lacks IsStretch run_line text
 no_count text one n l e none run behind fits is =
     none run.1 behind fits.1 (rest_is n run.0 32 one (decimal run.1 ++ 10 ∷ behind) l fits.0 (omega arith) (sym e ∙ is ∙ pair-is run.0 run.1 behind))
 

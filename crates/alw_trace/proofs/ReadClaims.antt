@@ -19,7 +19,7 @@ use Rattle.alw_trace.specs.declared.values.Claim.{Claim}
 use Rattle.alw_trace.specs.declared.faults.TextErr.{TextErr}
 use Rattle.alw_trace.specs.declared.faults.TextErr.TheVariants.{Syntax, Image, Range, NoMemory}
 use Rattle.alw_trace.specs.Texts.{image_text, claim_title, lists_text, claim_text}
-use Rattle.alw_trace.specs.Lines.{IsNumber, IsRun, IsPrint, IsMemoryWord, ClaimLines, AreClaimLines, claim_lines, behind_image, IsClaimFault}
+use Rattle.alw_trace.specs.Lines.{IsNumber, IsStretch, IsPrint, IsMemoryWord, ClaimLines, AreClaimLines, claim_lines, behind_image, IsClaimFault}
 use Rattle.alw_trace.specs.Readings.{is_short, is_other, fits_run, run_tests, runs_tests, tested, fits_print, prints_tests, is_shared, fits_word, word_tests, memory_tests, claim_tests, most_turns, IsSharedAddress, IsClaim, HasClaimTypes, ReadsClaim}
 use Rattle.alw_trace.proofs.ClaimLists.{starts_other, other_than, length-same, tail_longest, first_passed}
 use Rattle.alw_trace.proofs.OneTrace.{few_nodes, spelling_bytes, short_spelling, image_back}
@@ -63,7 +63,7 @@ runs_pass contexts line turns before (run ∷ rest) all are apart few =
     (omega (arith, few, size)))
 
 runs_are : (contexts : ℕ) (runs : List (ℕ × ℕ)) → contexts ≤ 1024 → AllByRecursion (λ c. c < contexts) (turns_in runs) → AreLongest runs
-    → length (turns_in runs) ≤ most_turns → AllByRecursion IsRun runs × (length runs ≤ length (turns_in runs))
+    → length (turns_in runs) ≤ most_turns → AllByRecursion IsStretch runs × (length runs ≤ length (turns_in runs))
 runs_are contexts [] few all are most = (tt, omega arith)
 runs_are contexts (run ∷ rest) few all are most =
     let t = tail_longest run rest are in
@@ -73,7 +73,7 @@ runs_are contexts (run ∷ rest) few all are most =
     let more = runs_are contexts rest few (all_behind (λ c. c < contexts) (replicate run.1 run.0) (turns_in rest) all) t.1.0 (omega (arith, most, size)) in
     let some = t.0 in
     let fewer = more.1 in
-    let numbers : IsRun run = (omega arith, omega (arith, most, size)) in
+    let numbers : IsStretch run = (omega arith, omega (arith, most, size)) in
     ((numbers, more.0), omega (arith, size))
 
 -- ---- prints and words

@@ -36,8 +36,8 @@ abbrev pub IsEntry : Entry → Type 0
 IsEntry entry = IsNumber entry.stamp × HasNumbers entry.event
 
 -- a run, a print, and a word of memory
-abbrev pub IsRun : ℕ × ℕ → Type 0
-IsRun run = IsNumber run.0 × IsNumber run.1
+abbrev pub IsStretch : ℕ × ℕ → Type 0
+IsStretch run = IsNumber run.0 × IsNumber run.1
 
 abbrev pub IsPrint : ℕ × ℕ → Type 0
 IsPrint print = IsNumber print.0 × IsWord print.1
@@ -73,7 +73,7 @@ pub record ClaimLines : Type 0 where
 pub record AreClaimLines (c : ClaimLines) : Type 0 where
   pub bytes : AllByRecursion IsByte c.image
   pub size : IsNumber (length c.image)
-  pub runs : AllByRecursion IsRun c.runs
+  pub runs : AllByRecursion IsStretch c.runs
   pub run_count : IsNumber (length c.runs)
   pub prints : AllByRecursion IsPrint c.prints
   pub print_count : IsNumber (length c.prints)
@@ -174,11 +174,11 @@ pub data IsClaimFault (text : List ℕ) (fault : ℕ) : Type 0 where
   title_of_claim : LacksThis claim_title text → fault ≡ 1 → IsClaimFault text fault
   image_of_claim : (rest : List ℕ) → text ≡ claim_title ++ rest → IsFaultInImage rest fault → IsClaimFault text fault
   runs_of_claim : (image rest : List ℕ) → AreBytes image → text ≡ claim_title ++ (image_text image ++ rest)
-      → IsFaultInList IsRun run_line (codes "runs") (behind_image image) rest fault → IsClaimFault text fault
-  prints_of_claim : (image : List ℕ) → (runs : List (ℕ × ℕ)) → (rest : List ℕ) → AreBytes image → AllByRecursion IsRun runs → IsNumber (length runs)
+      → IsFaultInList IsStretch run_line (codes "runs") (behind_image image) rest fault → IsClaimFault text fault
+  prints_of_claim : (image : List ℕ) → (runs : List (ℕ × ℕ)) → (rest : List ℕ) → AreBytes image → AllByRecursion IsStretch runs → IsNumber (length runs)
       → text ≡ claim_title ++ (image_text image ++ (runs_text runs ++ rest))
       → IsFaultInList IsPrint print_line (codes "prints") (behind_image image + 1 + length runs) rest fault → IsClaimFault text fault
-  memory_of_claim : (image : List ℕ) → (runs prints : List (ℕ × ℕ)) → (rest : List ℕ) → AreBytes image → AllByRecursion IsRun runs → IsNumber (length runs)
+  memory_of_claim : (image : List ℕ) → (runs prints : List (ℕ × ℕ)) → (rest : List ℕ) → AreBytes image → AllByRecursion IsStretch runs → IsNumber (length runs)
       → AllByRecursion IsPrint prints → IsNumber (length prints)
       → text ≡ claim_title ++ (image_text image ++ (runs_text runs ++ (prints_text prints ++ rest)))
       → IsFaultInList IsMemoryWord word_line (codes "memory") (behind_image image + 2 + length runs + length prints) rest fault → IsClaimFault text fault

@@ -12,7 +12,7 @@ use Rattle.alw_trace.specs.declared.faults.TextErr.{TextErr}
 use Rattle.alw_trace.specs.declared.faults.TextErr.TheVariants.{Syntax, Image, Range, NoMemory}
 use Rattle.alw_trace.specs.Readings.{runs_tests, prints_tests, memory_tests, claim_tests, IsClaim}
 use Rattle.alw_trace.specs.Raw.{IsImageOf}
-use Rattle.alw_trace.specs.Lines.{IsNumber, IsRun, IsPrint, IsMemoryWord, ClaimLines, AreClaimLines, claim_lines}
+use Rattle.alw_trace.specs.Lines.{IsNumber, IsStretch, IsPrint, IsMemoryWord, ClaimLines, AreClaimLines, claim_lines}
 
 abbrev pub name_of : ListKind → List ℕ
 name_of Runs = codes "runs"
@@ -25,7 +25,7 @@ line_of Prints pair = print_line pair
 line_of Memory pair = word_line pair
 
 abbrev pub IsLineOf : ListKind → ℕ × ℕ → Type 0
-IsLineOf Runs pair = IsRun pair
+IsLineOf Runs pair = IsStretch pair
 IsLineOf Prints pair = IsPrint pair
 IsLineOf Memory pair = IsMemoryWord pair
 

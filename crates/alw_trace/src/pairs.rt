@@ -1,6 +1,6 @@
 ghost use Rattle.std.specs.Prelude.{◌≡◌, ◌≢◌, ◌++◌, ◌∷◌, List, ℕ, codes, IfSome, IfNone};
 ghost use Rattle.alw_report.specs.Reports.{print_line, run_line, word_line};
-ghost use Rattle.alw_trace.specs.Lines.{IsMemoryWord, IsPrint, IsRun, Lacks};
+ghost use Rattle.alw_trace.specs.Lines.{IsMemoryWord, IsPrint, IsStretch, Lacks};
 ghost use Rattle.alw_trace.specs.Lists.{IsLineOf, line_of, name_of};
 
 use crate::readers::{number_before, word_before};
@@ -43,8 +43,8 @@ pub fn pair_at(text: &[u8], kind: ListKind) -> Option<((u64, u64), &[u8])>
 // A context, and how many turns it takes.
 fn run_at(text: &[u8]) -> Option<((u64, u64), &[u8])>
     ensures found { IfSome result (λ read. text.now ≡ run_line read.0 ++ read.1.now) }
-    ensures range { IfSome result (λ read. IsRun read.0) }
-    ensures none { IfNone result (Lacks IsRun run_line text.now) }
+    ensures range { IfSome result (λ read. IsStretch read.0) }
+    ensures none { IfNone result (Lacks IsStretch run_line text.now) }
 {
     let (context, rest) = number_before(text, b' ')?;
     let (count, rest) = number_before(rest, b'\n')?;

@@ -47,13 +47,13 @@ pub record Turns (pick : ℕ) (before after : Seat) (result : Result Bool NoMemo
   pub gives : IsSameButGiven stepped after.cell
 
 -- each number picks an instruction of a cell
-abbrev pub IsAlone : Cell → Type 0
-IsAlone cell = (pick : ℕ) → picked_event cell pick ≡ Some (Instr (record { 0 = cell.node.number }))
+abbrev pub PicksNoOther : Cell → Type 0
+PicksNoOther cell = (pick : ℕ) → picked_event cell pick ≡ Some (Instr (record { 0 = cell.node.number }))
 
 -- the cell behind a lock took so many steps in a row, each of an instruction that every number picks, and each was taken
 abbrev pub ActsAlone : ℕ → Seat → Seat → Type 0
 ActsAlone zero before after = after ≡ before
-ActsAlone (suc steps) before after = (between : Seat) × (ActsAlone steps before between × IsAlone between.cell × Acts 0 between after (Ok true))
+ActsAlone (suc steps) before after = (between : Seat) × (ActsAlone steps before between × PicksNoOther between.cell × Acts 0 between after (Ok true))
 
 -- what a run tells behind its last step: how many there were, and nothing else happened; or memory was refused to one more, and all is as it was
 abbrev pub EndsRun : ℕ → Seat → Seat → Result ℕ NoMemory → Type 0
@@ -61,7 +61,7 @@ EndsRun steps last after (Ok count) = (count ≡ steps) × (after ≡ last)
 EndsRun steps last after (Err refused) = (after.number ≡ last.number) × (after.cell ≡ last.cell) × (after.trapped ≡ last.trapped)
 
 -- a run: at most so many such steps, and what it tells behind the last
-pub record Runs (most : ℕ) (before after : Seat) (result : Result ℕ NoMemory) : Type 0 where
+pub record TakesSteps (most : ℕ) (before after : Seat) (result : Result ℕ NoMemory) : Type 0 where
   pub steps : ℕ
   pub few : steps ≤ most
   pub last : Seat

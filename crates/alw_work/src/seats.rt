@@ -3,7 +3,7 @@ ghost use Rattle.alw_image.specs.Images.{node_count};
 ghost use Rattle.alw_work.specs.Works as works;
 ghost use Rattle.alw_work.specs.Seats.{IsCellOf, StandsAt, TrapIsMarked, CellIsOfNode, Works};
 ghost use Rattle.alw_work.specs.Ties.{AreTiedOuts, AreTiedIns, IsSameButCome, IsSameButGiven};
-ghost use Rattle.alw_work.specs.Turns.{StepsOnce, IsSameButCell, Acts, Turns, IsAlone, Runs};
+ghost use Rattle.alw_work.specs.Turns.{StepsOnce, IsSameButCell, Acts, Turns, PicksNoOther, TakesSteps};
 
 use crate::ends::{In, Out};
 use crate::moves::{fetch, offer};
@@ -121,7 +121,7 @@ impl<I: Naming> Locked<I> {
     /// behind it.
     #[inline(always)]
     pub fn run(&mut self, most: u32) -> Result<u32, NoMemory>
-        ensures { Runs most self.old self.new result }
+        ensures { TakesSteps most self.old self.new result }
     {
         let mut steps = 0;
         while steps < most && self.may_run() {
@@ -134,7 +134,7 @@ impl<I: Naming> Locked<I> {
     // The node may take one event, an instruction, and nothing that was sent waits to be given out.
     #[inline(always)]
     fn may_run(&self) -> bool
-        ensures { IsTrue result → IsAlone self.now.cell }
+        ensures { IsTrue result → PicksNoOther self.now.cell }
     {
         !self.trapped && self.cell.first_out().is_none() && self.cell.is_alone()
     }

@@ -1,5 +1,5 @@
 ghost use Rattle.std.specs.Prelude.{◌≡◌, ◌<◌, ◌^◌};
-ghost use Rattle.alw_work.specs.Turns.{Turns, Runs};
+ghost use Rattle.alw_work.specs.Turns.{Turns, TakesSteps};
 
 use crate::gates::Gate;
 use crate::paces::Pace;
@@ -191,7 +191,7 @@ fn visit<I: Naming, R: Wait, G: Gate>(
 // At most so many instructions in a row at a node. Answers how many. Want of memory stops all workers.
 #[inline(always)]
 fn run<I: Naming>(seat: &mut Locked<I>, signs: &Signs, most: u32) -> Result<u32, NoMemory>
-    ensures { Runs most seat.old seat.new result }
+    ensures { TakesSteps most seat.old seat.new result }
 {
     let ran = seat.run(most);
     if ran.is_err() {

@@ -6,7 +6,7 @@ use Rattle.std.proofs.lemmas.Option.{same_Some}
 use Rattle.alw_num.specs.NodeSets.{Nodes}
 use Rattle.alw_num.specs.Maps.{value_at, with_value, without_value}
 use Rattle.alw_num.proofs.MapLaws.{value-empty, value-with, value-without, same_maps}
-use Rattle.dir_soft.specs.declared.places.Place.{Place}
+use Rattle.dir_soft.specs.declared.places.PoolPlace.{PoolPlace}
 use Rattle.dir_soft.specs.Chains.{line_at, with_next}
 use Rattle.dir_soft.specs.Pools.{Entry, entry_of, contents, is_free, map_of, first_of, PlacesAreSingle, chain_of, chain_at}
 use Rattle.alw_num.proofs.MapLengths.{length-empty, length-with_new}
@@ -152,26 +152,26 @@ chain-beyond buckets (entry ∷ rest) (suc k) l = chain-beyond buckets rest k (o
 
 -- ---- what stands at the places
 
-pub length-contents : (places : List Place) → length (contents places) ≡ length places
+pub length-contents : (places : List PoolPlace) → length (contents places) ≡ length places
 length-contents [] = refl
 length-contents (place ∷ rest) = omega (arith, length-contents rest)
 
-pub contents-set : (places : List Place) (k : ℕ) (p : Place) → contents (slice_set places k p) ≡ slice_set (contents places) k (entry_of p)
+pub contents-set : (places : List PoolPlace) (k : ℕ) (p : PoolPlace) → contents (slice_set places k p) ≡ slice_set (contents places) k (entry_of p)
 contents-set [] k p = refl
 contents-set (place ∷ rest) zero p = refl
 contents-set (place ∷ rest) (suc k) p = ap (λ (es : List Entry). entry_of place ∷ es) (contents-set rest k p)
 
-pub contents-with_next : (places : List Place) (k next : ℕ) → contents (with_next places k next) ≡ contents places
+pub contents-with_next : (places : List PoolPlace) (k next : ℕ) → contents (with_next places k next) ≡ contents places
 contents-with_next [] k next = refl
 contents-with_next (place ∷ rest) zero next = refl
 contents-with_next (place ∷ rest) (suc k) next = ap (λ (es : List Entry). entry_of place ∷ es) (contents-with_next rest k next)
 
-pub contents-get : (places : List Place) (k : ℕ) (seen : Place) → k < length places → seen ≡ get_or places k seen → slice_get (contents places) k ≡ Some (entry_of seen)
+pub contents-get : (places : List PoolPlace) (k : ℕ) (seen : PoolPlace) → k < length places → seen ≡ get_or places k seen → slice_get (contents places) k ≡ Some (entry_of seen)
 contents-get [] k seen l e = absurd (omega arith)
-contents-get (place ∷ rest) zero seen l e = ap (λ (p : Place). Some (entry_of p)) (sym e)
+contents-get (place ∷ rest) zero seen l e = ap (λ (p : PoolPlace). Some (entry_of p)) (sym e)
 contents-get (place ∷ rest) (suc k) seen l e = contents-get rest k seen (omega arith) e
 
-pub line-contents : (places : List Place) (k : ℕ) (e : Entry) → slice_get (contents places) k ≡ Some e → line_at places k ≡ e.line
+pub line-contents : (places : List PoolPlace) (k : ℕ) (e : Entry) → slice_get (contents places) k ≡ Some e → line_at places k ≡ e.line
 line-contents [] k e at = absurd (cc)
 line-contents (place ∷ rest) zero e at = ap (λ (x : Entry). x.line) (same_Some (entry_of place) e at)
 line-contents (place ∷ rest) (suc k) e at = line-contents rest k e at

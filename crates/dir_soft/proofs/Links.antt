@@ -5,7 +5,7 @@ use Rattle.std.proofs.lemmas.List.{length-set}
 use Rattle.std.proofs.lemmas.Bool.{eq-eqb, ne_eqb, eqb-true}
 use Rattle.alw_num.specs.Weights.{digit, times}
 use Rattle.alw_num.proofs.Weigh.{weigh-append, digit_other, digit_same, digit_le, true_of_digit}
-use Rattle.dir_soft.specs.declared.places.Place.{Place}
+use Rattle.dir_soft.specs.declared.places.PoolPlace.{PoolPlace}
 use Rattle.dir_soft.specs.declared.places.Spot.{Spot}
 use Rattle.dir_soft.specs.Chains.{next_at, head_at, with_next, unlinked, IsPath, IsPlaceBefore, PlacesAreLinked, IsSpot}
 
@@ -24,28 +24,28 @@ set-back [] t v = refl
 set-back (head ∷ rest) zero v = refl
 set-back (head ∷ rest) (suc t) v = ap (λ (hs : List ℕ). head ∷ hs) (set-back rest t v)
 
-pub next-set : (places : List Place) (k : ℕ) (p : Place) (j : ℕ) → k < length places → next_at (slice_set places k p) j ≡ cond (j == k) p.next (next_at places j)
+pub next-set : (places : List PoolPlace) (k : ℕ) (p : PoolPlace) (j : ℕ) → k < length places → next_at (slice_set places k p) j ≡ cond (j == k) p.next (next_at places j)
 next-set [] k p j l = absurd (omega arith)
 next-set (place ∷ rest) zero p zero l = refl
 next-set (place ∷ rest) zero p (suc j) l = grind (arith, nat_tests)
 next-set (place ∷ rest) (suc k) p zero l = grind (arith, nat_tests)
 next-set (place ∷ rest) (suc k) p (suc j) l = grind (arith, nat_tests, next-set rest k p j)
 
-pub next-with : (places : List Place) (k next j : ℕ) → k < length places → next_at (with_next places k next) j ≡ cond (j == k) next (next_at places j)
+pub next-with : (places : List PoolPlace) (k next j : ℕ) → k < length places → next_at (with_next places k next) j ≡ cond (j == k) next (next_at places j)
 next-with [] k next j l = absurd (omega arith)
 next-with (place ∷ rest) zero next zero l = refl
 next-with (place ∷ rest) zero next (suc j) l = grind (arith, nat_tests)
 next-with (place ∷ rest) (suc k) next zero l = grind (arith, nat_tests)
 next-with (place ∷ rest) (suc k) next (suc j) l = grind (arith, nat_tests, next-with rest k next j)
 
-pub length-with_next : (places : List Place) (k next : ℕ) → length (with_next places k next) ≡ length places
+pub length-with_next : (places : List PoolPlace) (k next : ℕ) → length (with_next places k next) ≡ length places
 length-with_next [] k next = refl
 length-with_next (place ∷ rest) zero next = refl
 length-with_next (place ∷ rest) (suc k) next = omega (arith, length-with_next rest k next)
 
 -- ---- a path stays where its places do
 
-pub kept : (places after : List Place) (k : ℕ) (chain : List ℕ) → length after ≡ length places → ((j : ℕ) → 1 ≤ times j chain → next_at after j ≡ next_at places j) → IsPath places k chain → IsPath after k chain
+pub kept : (places after : List PoolPlace) (k : ℕ) (chain : List ℕ) → length after ≡ length places → ((j : ℕ) → 1 ≤ times j chain → next_at after j ≡ next_at places j) → IsPath places k chain → IsPath after k chain
 kept places after k [] long same path = path
 kept places after k (j ∷ js) long same path = (
   path.0,
@@ -54,7 +54,7 @@ kept places after k (j ∷ js) long same path = (
 )
 
 -- a place that isn't on a path changes
-pub kept_beside : (places after : List Place) (i next k : ℕ) (chain : List ℕ) → length after ≡ length places → ((j : ℕ) → next_at after j ≡ cond (j == i) next (next_at places j)) → times i chain ≡ 0
+pub kept_beside : (places after : List PoolPlace) (i next k : ℕ) (chain : List ℕ) → length after ≡ length places → ((j : ℕ) → next_at after j ≡ cond (j == i) next (next_at places j)) → times i chain ≡ 0
     → IsPath places k chain → IsPath after k chain
 kept_beside places after i next k chain long is beside path = kept places after k chain long (λ j l. is j ∙ go j l (j == i) refl) path
   where
@@ -63,7 +63,7 @@ kept_beside places after i next k chain long is beside path = kept places after 
     go j l false e = refl
 
 -- place `at` is cut out of a path, behind place i
-pub cut : (places after : List Place) (i at first : ℕ) (front rest : List ℕ) → length after ≡ length places → ((j : ℕ) → next_at after j ≡ cond (j == i) (next_at places at) (next_at places j))
+pub cut : (places after : List PoolPlace) (i at first : ℕ) (front rest : List ℕ) → length after ≡ length places → ((j : ℕ) → next_at after j ≡ cond (j == i) (next_at places at) (next_at places j))
     → times i front ≡ 0 → times i rest ≡ 0 → IsPath places first (front ++ i ∷ at ∷ rest) → IsPath after first (front ++ i ∷ rest)
 cut places after i at first [] rest long is out later path =
     let now : next_at after i ≡ next_at places at = is i ∙ rw (eq-eqb i i refl) refl in
@@ -74,7 +74,7 @@ cut places after i at first (j ∷ js) rest long is out later path =
     (path.0, omega (arith, long, path.1), rw now (cut places after i at (next_at places j) js rest long is (omega arith) later path.2))
 
 -- what stands on a path stands in the pool
-pub on_path : (places : List Place) (k : ℕ) (front : List ℕ) (i : ℕ) (rest : List ℕ) → IsPath places k (front ++ i ∷ rest) → i < length places
+pub on_path : (places : List PoolPlace) (k : ℕ) (front : List ℕ) (i : ℕ) (rest : List ℕ) → IsPath places k (front ++ i ∷ rest) → i < length places
 on_path places k [] i rest path = path.1
 on_path places k (j ∷ js) i rest path = on_path places (next_at places j) js i rest path.2
 
@@ -94,7 +94,7 @@ put_same f k j v e = go (j == k) refl
 -- ---- the chains
 
 -- a place that is on no chain is put at the front of one
-pub linked : (tag : ℕ → ℕ) (heads heads' : List ℕ) (places after : List Place) (t k : ℕ) → PlacesAreLinked tag heads places
+pub linked : (tag : ℕ → ℕ) (heads heads' : List ℕ) (places after : List PoolPlace) (t k : ℕ) → PlacesAreLinked tag heads places
     → length heads' ≡ length heads → ((u : ℕ) → head_at heads' u ≡ cond (u == t) k (head_at heads u))
     → length after ≡ length places → ((j : ℕ) → next_at after j ≡ cond (j == k) (head_at heads t) (next_at places j))
     → t < length heads → k < length places → length heads ≤ tag k → PlacesAreLinked (put k t tag) heads' after
@@ -138,7 +138,7 @@ linked tag heads heads' places after t k before h heads_are p next_is here withi
     each u j l = counts u j (omega (arith, h, l)) (u == t) refl (j == k) refl
 
 -- the first place of a chain is taken off
-pub unlinked_front : (tag : ℕ → ℕ) (heads heads' : List ℕ) (places : List Place) (t k : ℕ) (rest : List ℕ) (before : PlacesAreLinked tag heads places)
+pub unlinked_front : (tag : ℕ → ℕ) (heads heads' : List ℕ) (places : List PoolPlace) (t k : ℕ) (rest : List ℕ) (before : PlacesAreLinked tag heads places)
     → length heads' ≡ length heads → ((u : ℕ) → head_at heads' u ≡ cond (u == t) (next_at places k) (head_at heads u))
     → t < length heads → before.chains t ≡ k ∷ rest → PlacesAreLinked (put k (length heads) tag) heads' places
 unlinked_front tag heads heads' places t k rest before h heads_are here whole = record {
@@ -174,7 +174,7 @@ unlinked_front tag heads heads' places t k rest before h heads_are here whole = 
     counts u j l false e false f = before.each u j l
 
 -- a place is taken out from behind place i
-pub unlinked_behind : (tag : ℕ → ℕ) (heads : List ℕ) (places after : List Place) (t i k : ℕ) (front rest : List ℕ) (before : PlacesAreLinked tag heads places)
+pub unlinked_behind : (tag : ℕ → ℕ) (heads : List ℕ) (places after : List PoolPlace) (t i k : ℕ) (front rest : List ℕ) (before : PlacesAreLinked tag heads places)
     → length after ≡ length places → ((j : ℕ) → next_at after j ≡ cond (j == i) (next_at places k) (next_at places j))
     → t < length heads → before.chains t ≡ front ++ i ∷ k ∷ rest → PlacesAreLinked (put k (length heads) tag) heads after
 unlinked_behind tag heads places after t i k front rest before long next_is here whole = record {
@@ -219,7 +219,7 @@ unlinked_behind tag heads places after t i k front rest before long next_is here
     counts u j l false e false f = before.each u j l
 
 -- a place is taken out of its chain
-pub unlinked_at : (tag : ℕ → ℕ) (heads : List ℕ) (places : List Place) (t : ℕ) (spot : Spot) (before : PlacesAreLinked tag heads places) → t < length heads → IsSpot places (before.chains t) spot
+pub unlinked_at : (tag : ℕ → ℕ) (heads : List ℕ) (places : List PoolPlace) (t : ℕ) (spot : Spot) (before : PlacesAreLinked tag heads places) → t < length heads → IsSpot places (before.chains t) spot
     → let after = unlinked t heads places spot.at spot.before in PlacesAreLinked (put spot.at (length heads) tag) after.0 after.1
 unlinked_at tag heads places t spot before here is = go spot.before is.before
   where

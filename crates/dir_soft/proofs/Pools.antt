@@ -9,7 +9,7 @@ use Rattle.alw_num.specs.Maps.{Map, value_at, with_value}
 use Rattle.alw_num.specs.Weights.{digit, times}
 use Rattle.alw_num.proofs.Sets.{has-add, has-none, none_of_count}
 use Rattle.alw_num.proofs.Weigh.{sum_times, sum_le, sum_ones, digit_same, digit_other, digit_le, true_of_digit, weigh-append}
-use Rattle.dir_soft.specs.declared.places.Place.{Place}
+use Rattle.dir_soft.specs.declared.places.PoolPlace.{PoolPlace}
 use Rattle.dir_soft.specs.declared.places.Spot.{Spot}
 use Rattle.dir_soft.specs.Tables.{set_or_none, table_of}
 use Rattle.dir_soft.specs.Chains.{next_at, line_at, head_at, IsPath, IsChain, PlacesAreLinked, LineIsMissing, IsSpot}
@@ -23,14 +23,14 @@ use Rattle.dir_soft.proofs.Walks
 -- ---- look-ups
 
 -- a chain has no more places than the pool
-short : (tag : ℕ → ℕ) (heads : List ℕ) (places : List Place) (t : ℕ) (before : PlacesAreLinked tag heads places) → t < length heads → ((k : ℕ) → length places ≤ k → length heads ≤ tag k) → length (before.chains t) ≤ length places
+short : (tag : ℕ → ℕ) (heads : List ℕ) (places : List PoolPlace) (t : ℕ) (before : PlacesAreLinked tag heads places) → t < length heads → ((k : ℕ) → length places ≤ k → length heads ≤ tag k) → length (before.chains t) ≤ length places
 short tag heads places t before here beyond =
     let all = sum_times (length places) (before.chains t) (λ k l. before.each t k here ∙ digit_other (tag k) t (λ e. omega (arith, e, here, beyond k l))) in
     let most = sum_le (length places) (λ k. times k (before.chains t)) (λ k. 1) (λ k l. omega (arith, before.each t k here, digit_le (tag k == t))) in
     omega (arith, all, most, sum_ones (length places))
 
 -- there is a chain from each head on
-pub chain_is : (lines buckets used : ℕ) (heads : List ℕ) (places : List Place) (t seen : ℕ) → IsTable lines buckets used heads places → t ≤ buckets → seen ≡ get_or heads t seen → IsChain places seen
+pub chain_is : (lines buckets used : ℕ) (heads : List ℕ) (places : List PoolPlace) (t seen : ℕ) → IsTable lines buckets used heads places → t ≤ buckets → seen ≡ get_or heads t seen → IsChain places seen
 chain_is lines buckets used heads places t seen is l e =
     let here : t < length heads = omega (arith, is.heads_are, l) in
     rw (e ∙ head-read heads t seen here) (record {
@@ -44,13 +44,13 @@ pub bucket-lt : (line buckets : ℕ) → 1 ≤ buckets → line % buckets < buck
 bucket-lt line buckets some = mod-lt line (omega (arith, some))
 
 -- what a look-up of a line tells
-pub record IsLookUp (places : List Place) (head line : ℕ) (spot : Spot) : Type 0 where
+pub record IsLookUp (places : List PoolPlace) (head line : ℕ) (spot : Spot) : Type 0 where
   pub found : (chain : List ℕ) → IsPath places head chain → IsSpot places chain spot
   pub line_is : line_at places spot.at ≡ line
   pub within : spot.at < length places
 
 -- ... and of the pool: the place has the line, is in use, and stands on the line's chain
-pub record IsLines (lines buckets used : ℕ) (heads : List ℕ) (places : List Place) (is : IsTable lines buckets used heads places) (line : ℕ) (spot : Spot) (seen : Place) : Type 0 where
+pub record IsLines (lines buckets used : ℕ) (heads : List ℕ) (places : List PoolPlace) (is : IsTable lines buckets used heads places) (line : ℕ) (spot : Spot) (seen : PoolPlace) : Type 0 where
   pub here : slice_get (contents places) spot.at ≡ Some (entry_of seen)
   pub same : seen.line ≡ line
   pub used_place : is_free (entry_of seen) ≡ false
@@ -58,7 +58,7 @@ pub record IsLines (lines buckets used : ℕ) (heads : List ℕ) (places : List 
   pub bucket : line % buckets < length heads
   pub within : spot.at < length places
 
-pub finds : (lines buckets used : ℕ) (heads : List ℕ) (places : List Place) (is : IsTable lines buckets used heads places) (line head : ℕ) (spot : Spot) (seen : Place)
+pub finds : (lines buckets used : ℕ) (heads : List ℕ) (places : List PoolPlace) (is : IsTable lines buckets used heads places) (line head : ℕ) (spot : Spot) (seen : PoolPlace)
     → head ≡ get_or heads (line % buckets) head → IsLookUp places head line spot → seen ≡ get_or places spot.at seen → IsLines lines buckets used heads places is line spot seen
 finds lines buckets used heads places is line head spot seen h look read =
     let below = bucket-lt line buckets is.some in
@@ -83,7 +83,7 @@ finds lines buckets used heads places is line head spot seen h look read =
     go false e c l = e
 
 -- a line that isn't on its chain has no place
-pub misses : (lines buckets used : ℕ) (heads : List ℕ) (places : List Place) (is : IsTable lines buckets used heads places) (line head : ℕ) → head ≡ get_or heads (line % buckets) head
+pub misses : (lines buckets used : ℕ) (heads : List ℕ) (places : List PoolPlace) (is : IsTable lines buckets used heads places) (line head : ℕ) → head ≡ get_or heads (line % buckets) head
     → ((chain : List ℕ) → IsPath places head chain → LineIsMissing places chain line) → first_of (contents places) line ≡ None
 misses lines buckets used heads places is line head h missing =
     let below = bucket-lt line buckets is.some in
@@ -97,7 +97,7 @@ misses lines buckets used heads places is line head h missing =
 -- ---- changes
 
 -- the chains where the pool's places name the same next ones and belong on the same chains
-pub relinked : (tag other : ℕ → ℕ) (heads : List ℕ) (places after : List Place) → PlacesAreLinked tag heads places → length after ≡ length places → ((j : ℕ) → next_at after j ≡ next_at places j) → ((j : ℕ) → other j ≡ tag j) → PlacesAreLinked other heads after
+pub relinked : (tag other : ℕ → ℕ) (heads : List ℕ) (places after : List PoolPlace) → PlacesAreLinked tag heads places → length after ≡ length places → ((j : ℕ) → next_at after j ≡ next_at places j) → ((j : ℕ) → other j ≡ tag j) → PlacesAreLinked other heads after
 relinked tag other heads places after before long same tags = record {
   chains = before.chains;
   paths = λ t l. kept places after (head_at heads t) (before.chains t) long (λ j k. same j) (before.paths t l);
@@ -110,16 +110,16 @@ some_free P n = ne_eqb (count_nodes (add_node P n)) 0 (λ e.
     true≢false (sym here ∙ ap (λ (Q : Nodes). has_node Q n) (none_of_count (add_node P n) e) ∙ has-none n))
 
 -- a table where a line's set has changed
-pub record IsChanged (lines buckets used : ℕ) (heads : List ℕ) (places after : List Place) (line : ℕ) (nodes : Nodes) : Type 0 where
+pub record IsChanged (lines buckets used : ℕ) (heads : List ℕ) (places after : List PoolPlace) (line : ℕ) (nodes : Nodes) : Type 0 where
   pub table_is : IsTable lines buckets used heads after
   pub map_is : map_of (contents after) ≡ with_value (map_of (contents places)) line nodes
 
 -- a node joins a line's set, at the line's place
-pub joins : (lines buckets used : ℕ) (heads : List ℕ) (places : List Place) (is : IsTable lines buckets used heads places) (line node : ℕ) (spot : Spot) (seen : Place) (nodes : NodeSet)
+pub joins : (lines buckets used : ℕ) (heads : List ℕ) (places : List PoolPlace) (is : IsTable lines buckets used heads places) (line node : ℕ) (spot : Spot) (seen : PoolPlace) (nodes : NodeSet)
     → IsLines lines buckets used heads places is line spot seen → nodes_of nodes ≡ add_node (nodes_of seen.nodes) node → seen ≡ get_or places spot.at seen
     → IsChanged lines buckets used heads places (slice_set places spot.at (record { line = seen.line; nodes = nodes; next = seen.next })) line (add_node (set_or_none (value_at (map_of (contents places)) line)) node)
 joins lines buckets used heads places is line node spot seen nodes at grown read =
-    let p : Place = record { line = seen.line; nodes = nodes; next = seen.next } in
+    let p : PoolPlace = record { line = seen.line; nodes = nodes; next = seen.next } in
     let q : Entry = entry_of p in
     let still : is_free q ≡ false = ap (λ (P : Nodes). count_nodes P == 0) grown ∙ some_free (nodes_of seen.nodes) node in
     let before = Entries.set_at (contents places) spot.at (entry_of seen) is.pool.single at.here at.used_place in
@@ -148,31 +148,31 @@ joins lines buckets used heads places is line node spot seen nodes at grown read
 -- ---- what the readers answer
 
 -- a place in use has a member
-pub has_member : (place : Place) → is_free (entry_of place) ≡ false → 1 ≤ count_nodes (nodes_of place.nodes)
+pub has_member : (place : PoolPlace) → is_free (entry_of place) ≡ false → 1 ≤ count_nodes (nodes_of place.nodes)
 has_member place used_place = let some = eqb-false (count_nodes (nodes_of place.nodes)) 0 used_place in omega arith
 
 -- ... and its set is the line's
-pub value_seen : (lines buckets used : ℕ) (heads : List ℕ) (places : List Place) (is : IsTable lines buckets used heads places) (line : ℕ) (spot : Spot) (seen : Place)
+pub value_seen : (lines buckets used : ℕ) (heads : List ℕ) (places : List PoolPlace) (is : IsTable lines buckets used heads places) (line : ℕ) (spot : Spot) (seen : PoolPlace)
     → IsLines lines buckets used heads places is line spot seen → Some (nodes_of seen.nodes) ≡ value_at (map_of (contents places)) line
 value_seen lines buckets used heads places is line spot seen at =
     sym (ap (value_at (map_of (contents places))) (sym at.same) ∙ Entries.set_at (contents places) spot.at (entry_of seen) is.pool.single at.here at.used_place)
 
-pub value_missing : (places : List Place) (line : ℕ) → first_of (contents places) line ≡ None → None ≡ value_at (map_of (contents places)) line
+pub value_missing : (places : List PoolPlace) (line : ℕ) → first_of (contents places) line ≡ None → None ≡ value_at (map_of (contents places)) line
 value_missing places line none = sym (Entries.none_at (contents places) line none)
 
-pub set_seen : (lines buckets used : ℕ) (heads : List ℕ) (places : List Place) (is : IsTable lines buckets used heads places) (line : ℕ) (spot : Spot) (seen : Place) → IsLines lines buckets used heads places is line spot seen
+pub set_seen : (lines buckets used : ℕ) (heads : List ℕ) (places : List PoolPlace) (is : IsTable lines buckets used heads places) (line : ℕ) (spot : Spot) (seen : PoolPlace) → IsLines lines buckets used heads places is line spot seen
     → nodes_of seen.nodes ≡ set_or_none (value_at (map_of (contents places)) line)
 set_seen lines buckets used heads places is line spot seen at = ap set_or_none (value_seen lines buckets used heads places is line spot seen at)
 
 -- in a table without a set, each line's is empty
-pub none_used : (lines buckets used : ℕ) (heads : List ℕ) (places : List Place) (is : IsTable lines buckets used heads places) (line : ℕ) (empty : Nodes) → used ≡ 0 → empty ≡ no_nodes → empty ≡ set_or_none (value_at (map_of (contents places)) line)
+pub none_used : (lines buckets used : ℕ) (heads : List ℕ) (places : List PoolPlace) (is : IsTable lines buckets used heads places) (line : ℕ) (empty : Nodes) → used ≡ 0 → empty ≡ no_nodes → empty ≡ set_or_none (value_at (map_of (contents places)) line)
 none_used lines buckets used heads places is line empty none nobody = go (value_at (map_of (contents places)) line) refl
   where
     go : (o : Option Nodes) → value_at (map_of (contents places)) line ≡ o → empty ≡ set_or_none o
     go None e = nobody
     go (Some old) e = absurd (omega (arith, length-without (map_of (contents places)) line old e, is.pool.counted, none))
 
-pub set_missing : (places : List Place) (line : ℕ) (empty : Nodes) → first_of (contents places) line ≡ None → empty ≡ no_nodes → empty ≡ set_or_none (value_at (map_of (contents places)) line)
+pub set_missing : (places : List PoolPlace) (line : ℕ) (empty : Nodes) → first_of (contents places) line ≡ None → empty ≡ no_nodes → empty ≡ set_or_none (value_at (map_of (contents places)) line)
 set_missing places line empty none nobody = nobody ∙ ap set_or_none (value_missing places line none)
 
 -- two tables with the same map
@@ -180,5 +180,5 @@ pub same_table : (lines buckets : ℕ) (one other : Map Nodes) → one ≡ other
 same_table lines buckets one other e = ap (table_of lines buckets) e
 
 -- no more lines have a set than there are places
-pub used_fits : (lines buckets used : ℕ) (heads : List ℕ) (places : List Place) → IsTable lines buckets used heads places → used ≤ lines
+pub used_fits : (lines buckets used : ℕ) (heads : List ℕ) (places : List PoolPlace) → IsTable lines buckets used heads places → used ≤ lines
 used_fits lines buckets used heads places is = omega (arith, is.pool.counted, Entries.used_le (contents places) is.pool.single, Entries.length-contents places, is.fits)

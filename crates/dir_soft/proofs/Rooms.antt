@@ -8,7 +8,7 @@ use Rattle.alw_num.specs.Maps.{Map, with_value}
 use Rattle.alw_num.proofs.MapLengths.{length-empty}
 use Rattle.alw_num.proofs.Sets.{count-none}
 use Rattle.alw_num.proofs.Weigh.{digit_other}
-use Rattle.dir_soft.specs.declared.places.Place.{Place}
+use Rattle.dir_soft.specs.declared.places.PoolPlace.{PoolPlace}
 use Rattle.dir_soft.specs.declared.places.TheConstants.{END}
 use Rattle.dir_soft.specs.Chains.{next_at, head_at, IsPath, PlacesAreLinked, IsLonger}
 use Rattle.dir_soft.specs.Pools.{Entry, entry_of, contents, is_free, map_of, first_of, PlacesAreSingle, IsTable, chain_of, chain_at}
@@ -23,7 +23,7 @@ head-replicate zero t = refl
 head-replicate (suc n) zero = refl
 head-replicate (suc n) (suc t) = head-replicate n t
 
-pub new_table : (lines buckets : ℕ) (heads : List ℕ) (places : List Place) → places ≡ [] → heads ≡ replicate (buckets + 1) END → lines ≤ END → 1 ≤ buckets → IsTable lines buckets 0 heads places
+pub new_table : (lines buckets : ℕ) (heads : List ℕ) (places : List PoolPlace) → places ≡ [] → heads ≡ replicate (buckets + 1) END → lines ≤ END → 1 ≤ buckets → IsTable lines buckets 0 heads places
 new_table lines buckets heads places none heads_are few some = rw (none, heads_are) (record {
   pool = record { single = tt; counted = length-empty Nodes };
   linked = record {
@@ -57,34 +57,34 @@ chain-push buckets [] e (suc j) = grind (arith, nat_tests)
 chain-push buckets (entry ∷ rest) e zero = grind (arith, nat_tests)
 chain-push buckets (entry ∷ rest) e (suc j) = grind (arith, nat_tests, chain-push buckets rest e j)
 
-contents-push : (places : List Place) (p : Place) → contents (places ++ p ∷ []) ≡ contents places ++ entry_of p ∷ []
+contents-push : (places : List PoolPlace) (p : PoolPlace) → contents (places ++ p ∷ []) ≡ contents places ++ entry_of p ∷ []
 contents-push [] p = refl
 contents-push (place ∷ rest) p = ap (λ (es : List Entry). entry_of place ∷ es) (contents-push rest p)
 
-next-push : (places : List Place) (p : Place) (j : ℕ) → j < length places → next_at (places ++ p ∷ []) j ≡ next_at places j
+next-push : (places : List PoolPlace) (p : PoolPlace) (j : ℕ) → j < length places → next_at (places ++ p ∷ []) j ≡ next_at places j
 next-push [] p j l = absurd (omega arith)
 next-push (place ∷ rest) p zero l = refl
 next-push (place ∷ rest) p (suc j) l = next-push rest p j (omega arith)
 
-next-pushed : (places : List Place) (p : Place) → next_at (places ++ p ∷ []) (length places) ≡ p.next
+next-pushed : (places : List PoolPlace) (p : PoolPlace) → next_at (places ++ p ∷ []) (length places) ≡ p.next
 next-pushed [] p = refl
 next-pushed (place ∷ rest) p = next-pushed rest p
 
-path-push : (places : List Place) (p : Place) (k : ℕ) (chain : List ℕ) → IsPath places k chain → IsPath (places ++ p ∷ []) k chain
+path-push : (places : List PoolPlace) (p : PoolPlace) (k : ℕ) (chain : List ℕ) → IsPath places k chain → IsPath (places ++ p ∷ []) k chain
 path-push places p k [] path = path
 path-push places p k (j ∷ js) path = (path.0, omega (arith, path.1, length-append places (p ∷ [])), rw (next-push places p j path.1) (path-push places p (next_at places j) js path.2))
 
 -- ---- a table where no place is free
 
 -- a table with one place more, which is the free one
-pub record IsWider (lines buckets used : ℕ) (heads : List ℕ) (places after : List Place) : Type 0 where
+pub record IsWider (lines buckets used : ℕ) (heads : List ℕ) (places after : List PoolPlace) : Type 0 where
   pub table_is : IsTable lines buckets used (slice_set heads buckets (length places)) after
   pub map_is : map_of (contents after) ≡ map_of (contents places)
   pub first_is : (line : ℕ) → first_of (contents after) line ≡ first_of (contents places) line
   pub head_is : head_at (slice_set heads buckets (length places)) buckets ≡ length places
   pub next_is : next_at after (length places) ≡ head_at heads buckets
 
-pub widens : (lines buckets used : ℕ) (heads : List ℕ) (places after : List Place) → IsTable lines buckets used heads places → head_at heads buckets ≡ END → length places < lines → IsLonger places after → IsWider lines buckets used heads places after
+pub widens : (lines buckets used : ℕ) (heads : List ℕ) (places after : List PoolPlace) → IsTable lines buckets used heads places → head_at heads buckets ≡ END → length places < lines → IsLonger places after → IsWider lines buckets used heads places after
 widens lines buckets used heads places after is none room more =
     let p = more.place in
     let e : Entry = entry_of p in
@@ -95,12 +95,12 @@ widens lines buckets used heads places after is none room more =
     let long : length after ≡ at + 1 = ap length more.whole ∙ length-append places (p ∷ []) in
     let contents_are : contents after ≡ contents places ++ e ∷ [] = ap contents more.whole ∙ contents-push places p in
     let same : map_of (contents after) ≡ map_of (contents places) = ap map_of contents_are ∙ map-push (contents places) e free in
-    let last : next_at after at ≡ head_at heads buckets = ap (λ (ps : List Place). next_at ps at) more.whole ∙ (next-pushed places p ∙ (more.ends ∙ sym none)) in
+    let last : next_at after at ≡ head_at heads buckets = ap (λ (ps : List PoolPlace). next_at ps at) more.whole ∙ (next-pushed places p ∙ (more.ends ∙ sym none)) in
     let here : buckets < length heads = omega (arith, is.heads_are) in
     let head : (t : ℕ) → head_at heads' t ≡ cond (t == buckets) at (head_at heads t) = λ t. head-set heads buckets at t here in
     let wide : PlacesAreLinked tag heads after = record {
       chains = is.linked.chains;
-      paths = λ t l. subst (λ (ps : List Place). IsPath ps (head_at heads t) (is.linked.chains t)) (sym more.whole) (path-push places p (head_at heads t) (is.linked.chains t) (is.linked.paths t l));
+      paths = λ t l. subst (λ (ps : List PoolPlace). IsPath ps (head_at heads t) (is.linked.chains t)) (sym more.whole) (path-push places p (head_at heads t) (is.linked.chains t) (is.linked.paths t l));
       each = is.linked.each;
     } in
     let back = linked tag heads heads' after after buckets at wide (length-set heads buckets at) head refl (λ j. sym (put_same (next_at after) at j (head_at heads buckets) last))

@@ -2,7 +2,7 @@
 use Rattle.std.specs.Prelude.{◌≡◌, ◌≤◌, ℕ, zero, suc, ◌+◌, ◌%◌, Bool, false, cond, ◌==◌, Option, Some, None, List, [], ◌∷◌, length}
 use Rattle.alw_num.specs.NodeSets.{Nodes, nodes_of, count_nodes}
 use Rattle.alw_num.specs.Maps.{Map, empty_map, with_value}
-use Rattle.dir_soft.specs.declared.places.Place.{Place}
+use Rattle.dir_soft.specs.declared.places.PoolPlace.{PoolPlace}
 use Rattle.dir_soft.specs.Chains.{no_index, PlacesAreLinked}
 
 -- what stands at a place: a line and its set
@@ -10,10 +10,10 @@ pub record Entry : Type 0 where
   pub line : ℕ
   pub nodes : Nodes
 
-abbrev pub entry_of : Place → Entry
+abbrev pub entry_of : PoolPlace → Entry
 entry_of place = record { line = place.line; nodes = nodes_of place.nodes }
 
-abbrev pub contents : List Place → List Entry
+abbrev pub contents : List PoolPlace → List Entry
 contents [] = []
 contents (place ∷ rest) = entry_of place ∷ contents rest
 
@@ -53,7 +53,7 @@ pub record IsPool (entries : List Entry) (used : ℕ) : Type 0 where
 
 -- A pool with its chains, of no more places than lines: each place in use is on the chain of its line, the line modulo the number of
 -- buckets, each free place on the last chain, and each on its chain once.
-pub record IsTable (lines buckets used : ℕ) (heads : List ℕ) (places : List Place) : Type 0 where
+pub record IsTable (lines buckets used : ℕ) (heads : List ℕ) (places : List PoolPlace) : Type 0 where
   pub pool : IsPool (contents places) used
   pub linked : PlacesAreLinked (chain_at buckets (contents places)) heads places
   pub heads_are : length heads ≡ buckets + 1

@@ -9,7 +9,7 @@ pub const END: u32 = 0xffff_ffff;
 /// A place of the pool: a line with its set of nodes, and the index of the next place of its chain.
 /// A place whose set is empty is free.
 #[derive(Clone, Copy, PartialEq, Eq)]
-pub struct Place {
+pub struct PoolPlace {
     pub line: u32,
     pub next: u32,
     pub nodes: NodeSet,
@@ -23,7 +23,7 @@ pub struct Spot {
 }
 
 /// The place of a line on the chain that starts at `first`.
-pub fn find(places: &[Place], first: u32, line: u32) -> Option<Spot>
+pub fn find(places: &[PoolPlace], first: u32, line: u32) -> Option<Spot>
     requires { IsChain places.now first }
     ensures found { IfSome result (λ spot. (chain : List ℕ) → IsPath places.now first chain → IsSpot places.now chain spot) }
     ensures line { IfSome result (λ spot. line_at places.now spot.at ≡ line) }
@@ -44,7 +44,7 @@ pub fn find(places: &[Place], first: u32, line: u32) -> Option<Spot>
 }
 
 /// Takes the place at a spot out of its chain.
-pub fn unlink(heads: &mut Vec<u32>, places: &mut Vec<Place>, chain: usize, spot: Spot)
+pub fn unlink(heads: &mut Vec<u32>, places: &mut Vec<PoolPlace>, chain: usize, spot: Spot)
     requires chain { chain < length heads.old.items }
     requires at { spot.at < length places.old.items }
     requires before { IsBeforeWithin spot.before (length places.old.items) }
@@ -61,7 +61,7 @@ pub fn unlink(heads: &mut Vec<u32>, places: &mut Vec<Place>, chain: usize, spot:
 /// Puts a place at the front of a chain, with this line and set.
 pub fn link(
     heads: &mut Vec<u32>,
-    places: &mut Vec<Place>,
+    places: &mut Vec<PoolPlace>,
     chain: usize,
     at: u32,
     line: u32,
@@ -73,7 +73,7 @@ pub fn link(
     ensures places { places.new.items ≡ slice_set places.old.items at (record { line = line; nodes = nodes; next = head_at heads.old.items chain }) }
     ensures memory { vec_capacity places.new ≡ vec_capacity places.old }
 {
-    places[at as usize] = Place {
+    places[at as usize] = PoolPlace {
         line,
         next: heads[chain],
         nodes,
@@ -83,7 +83,7 @@ pub fn link(
 
 /// A place that is on no chain: the first of the free ones, which is taken off their chain, or, where
 /// none is free, one more at the pool's end.
-pub fn free_place(heads: &mut Vec<u32>, places: &mut Vec<Place>, free: usize) -> u32
+pub fn free_place(heads: &mut Vec<u32>, places: &mut Vec<PoolPlace>, free: usize) -> u32
     requires chain { free < length heads.old.items }
     requires first { head_at heads.old.items free ≢ no_index → head_at heads.old.items free < length places.old.items }
     requires room { head_at heads.old.items free ≡ no_index → length places.old.items < vec_capacity places.old }
@@ -101,7 +101,7 @@ pub fn free_place(heads: &mut Vec<u32>, places: &mut Vec<Place>, free: usize) ->
         return first;
     }
     let at = places.len() as u32;
-    places.push_reserved(Place {
+    places.push_reserved(PoolPlace {
         line: 0,
         next: END,
         nodes: NodeSet::empty(),

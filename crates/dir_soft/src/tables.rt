@@ -3,7 +3,7 @@ ghost use Rattle.alw_num.specs.NodeSets.{nodes_of, has_node, add_node, count_nod
 ghost use Rattle.alw_num.specs.Maps.{empty_map, value_at, with_value, without_value};
 ghost use Rattle.dir_soft.specs.Tables.{set_of_line, used_lines};
 
-use crate::places::{END, Place, find, free_place, link, unlink};
+use crate::places::{END, PoolPlace, find, free_place, link, unlink};
 use alw_num::{LineNo, MOST_NODES, NoMemory, NodeNo, NodeSet};
 use std::alloc::Global;
 use std::marker::Model;
@@ -21,7 +21,7 @@ pub struct SoftDir {
     buckets: u32,
     used: u32,
     heads: Vec<u32>,
-    places: Vec<Place>,
+    places: Vec<PoolPlace>,
 }
 
 impl Model for SoftDir {
@@ -65,7 +65,7 @@ impl SoftDir {
         match find(&self.places, self.heads[bucket], line.0) {
             Some(spot) => {
                 let place = self.places[spot.at as usize];
-                self.places[spot.at as usize] = Place {
+                self.places[spot.at as usize] = PoolPlace {
                     nodes: place.nodes.with(node),
                     ..place
                 };

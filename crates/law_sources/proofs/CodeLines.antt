@@ -14,7 +14,7 @@ use Rattle.sparc_asm.specs.declared.statements.Line.{Line}
 use Rattle.sparc_asm.specs.Values.{above, below, modulo}
 use Rattle.sparc_asm.specs.Encoding.{coded}
 use Rattle.sparc_asm.specs.Words.{coded_words}
-use Rattle.sparc_place.specs.declared.cursors.Place.{Place}
+use Rattle.sparc_place.specs.declared.cursors.Position.{Position}
 use Rattle.sparc_place.specs.Places.{Layout, here_of, is_unknown, statement_again, fits, is_aligned, overlaps, laid, code_behind, place_of, labelled}
 use Rattle.sparc_assemble.specs.Assembly.{Names, Filled, is_datum, value_fault, coded_fault, with_code, filled}
 use Rattle.law_sources.specs.Parsed.{number, line_of, word_read, statement_read, code_read}
@@ -48,9 +48,9 @@ record IsCode (s : Statement) : Type 0 where
   aligned : (l : Layout) → is_aligned l s ≡ true
   apart : (l : Layout) → overlaps l s ≡ false
   laid : (l m : Layout) → laid l s m ≡ code_behind 1 m
-  place : (l : Layout) → place_of l (Some s) ≡ (let p : Place = record { here = here_of l; in_data = l.in_data; node = 0; slot = 0 } in p)
-  valued : (names : Names) (count : ℕ) (p : Place) → value_fault names count p s ≡ coded_fault (coded names p.here s)
-  filled : (names : Names) (n : ℕ) (p : Place) (f : Filled) → filled names n p s f ≡ with_code n (coded_words (coded names p.here s)) f
+  place : (l : Layout) → place_of l (Some s) ≡ (let p : Position = record { here = here_of l; in_data = l.in_data; node = 0; slot = 0 } in p)
+  valued : (names : Names) (count : ℕ) (p : Position) → value_fault names count p s ≡ coded_fault (coded names p.here s)
+  filled : (names : Names) (n : ℕ) (p : Position) (f : Filled) → filled names n p s f ≡ with_code n (coded_words (coded names p.here s)) f
 
 is_code : (s : Statement) → is_plain s ≡ true → IsCode s
 is_code (statement.Arith op3 rs1 o rd) h = record { known = λ l. refl; once = λ l. refl; fits = λ l. refl; aligned = λ l. refl; apart = λ l. refl; laid = λ l m. refl; place = λ l. refl; valued = λ names count p. refl; filled = λ names n p f. refl }
@@ -80,13 +80,13 @@ module _ (p : Parts) (written : ℕ → Bool) (started : ℕ → ℕ → Bool) (
   instr_step count n c word begun f s room e =
       let is = is_code s e.plain in
       let l : Layout = in_code begun c in
-      let at : Place = record { here = 4 * c; in_data = false; node = 0; slot = 0 } in
+      let at : Position = record { here = 4 * c; in_data = false; node = 0; slot = 0 } in
       let inside : fits l s ≡ true = is.fits l ∙ le-leb _ _ room in
       record {
         placed = no_fault l s (is.known l) (is.once l) inside (is.aligned l) (is.apart l);
-        valued = ap (λ (q : Place). value_fault no_names count q s) (is.place l) ∙ (is.valued no_names count at ∙ ap coded_fault e.coded);
+        valued = ap (λ (q : Position). value_fault no_names count q s) (is.place l) ∙ (is.valued no_names count at ∙ ap coded_fault e.coded);
         laid = is.laid l (labelled None l);
-        filled = ap (λ (q : Place). filled no_names n q s f) (is.place l) ∙ (is.filled no_names n at f ∙ (ap (λ r. with_code n (coded_words r) f) e.coded ∙ ap (λ w. with_code n (w ∷ []) f) e.word_is));
+        filled = ap (λ (q : Position). filled no_names n q s f) (is.place l) ∙ (is.filled no_names n at f ∙ (ap (λ r. with_code n (coded_words r) f) e.coded ∙ ap (λ w. with_code n (w ∷ []) f) e.word_is));
       }
 
   -- the word as data

@@ -10,13 +10,13 @@ use Rattle.law_machine.proofs.MachineFacts.{always_invariant, always_small}
 use Rattle.alw_trace.specs.Lines.{IsNumber}
 use Rattle.law_texts.proofs.Journals.{always_words}
 use Rattle.alw_save.specs.States.{state_text}
-use Rattle.law_texts.proofs.States.{IsTold, states_told}
+use Rattle.law_texts.proofs.States.{IsMachineTold, states_told}
 use Rattle.law_texts.proofs.Told.{few_nodes, machine_told}
 
 module _ (parts : Parts) (image : IsImage parts) (words : HasWords parts) where
   -- what every machine has is told without loss
   always_told : (parameters : Parameters) → AreParameters parameters → (journal : List Entry) → IsLegal parts parameters journal
-      → IsTold parts (state parts parameters journal)
+      → IsMachineTold parts (state parts parameters journal)
   always_told parameters are journal legal =
       machine_told parts image parameters (state parts parameters journal) (always_invariant parts image parameters are journal legal)
       (always_words parts image parameters are journal legal words) (always_small parts image parameters are journal legal)

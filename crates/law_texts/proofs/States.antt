@@ -21,7 +21,7 @@ use Rattle.law_texts.proofs.NodeTexts.{IsNode, nodes_read}
 use Rattle.law_texts.proofs.MessageLines.{IsMessage, IsSent, sent_line, one_sent, sent-ranks}
 
 -- what a machine has is told without loss
-pub record IsTold (parts : Parts) (machine : MachineState) : Type 0 where
+pub record IsMachineTold (parts : Parts) (machine : MachineState) : Type 0 where
   pub node_size : length machine.nodes ≡ node_count parts
   pub link_size : length machine.links ≡ node_count parts * node_count parts
   pub each : (n : ℕ) → n < node_count parts → IsNode parts machine n
@@ -46,7 +46,7 @@ module _ (parts : Parts) (few : IsNumber (node_count parts)) where
       (λ from. rows_text (link_at parts machine from) (link_line from) 0 (node_count parts)) (range_with_len 0 (node_count parts))
       ∙ rows_text (sent_from machine) (λ from (row : ℕ × Msg). link_line from row.0 row.1) 0 (node_count parts)
 
-  sent_fit : (machine : MachineState) → IsTold parts machine → AllByRecursion IsSent (all_sent machine)
+  sent_fit : (machine : MachineState) → IsMachineTold parts machine → AllByRecursion IsSent (all_sent machine)
   sent_fit machine is =
       each_row (sent_from machine) IsSent 0 (node_count parts) (λ from l m.
       each_row (link_at parts machine from) (λ (row : ℕ × Msg). IsSent (from, row)) 0 (node_count parts) (λ to p q.
@@ -57,7 +57,7 @@ module _ (parts : Parts) (few : IsNumber (node_count parts)) where
       go from to f t [] all = tt
       go from to f t (msg ∷ rest) all = ((omega (arith, f, few), (omega (arith, t, few), all.0)), go from to f t rest all.1)
 
-  module _ (one other : MachineState) (is : IsTold parts one) (also : IsTold parts other) where
+  module _ (one other : MachineState) (is : IsMachineTold parts one) (also : IsMachineTold parts other) where
     links_read : links_text one ++ [] ≡ links_text other ++ [] → one.links ≡ other.links
     links_read e =
         let run = one_run IsSent sent_line 5 sent-ranks one_sent (all_sent one) (all_sent other) [] []

@@ -31,7 +31,7 @@ use Rattle.alw_trace.specs.Lines.{IsNumber}
 use Rattle.law_texts.specs.Words.{HasWords, AreWords}
 use Rattle.law_texts.proofs.Homes.{IsHomeLine}
 use Rattle.law_texts.proofs.NodeTexts.{IsNode}
-use Rattle.law_texts.proofs.States.{IsTold}
+use Rattle.law_texts.proofs.States.{IsMachineTold}
 use Rattle.law_texts.proofs.Doings.{Stands}
 use Rattle.law_texts.proofs.NodeLines.{IsSlot, IsPending, IsCopy}
 use Rattle.law_texts.proofs.MessageLines.{IsMessage}
@@ -187,7 +187,7 @@ module _ (parts : Parts) (image : IsImage parts) where
         let stamp : IsTrue (nat_lt msg.stamp (2 ^ 32 - 1)) = s.0 in
         record { line = below msg.line.0 r.0; src = omega (arith, src, f, few_nodes); stamp = grind (arith, nat_tests); body = words }
 
-    pub machine_told : IsTold parts machine
+    pub machine_told : IsMachineTold parts machine
     machine_told =
         let sizes = and_parts (length machine.nodes == node_count parts) _ invariant.sizes in
         record {

@@ -9,7 +9,7 @@ use Rattle.sparc_asm.specs.declared.statements.Signed.{Signed}
 use Rattle.sparc_asm.specs.declared.statements.Statement.{Statement}
 use Rattle.sparc_asm.specs.declared.statements.Statement.TheVariants as statement
 use Rattle.sparc_asm.specs.Words.{coded_words}
-use Rattle.sparc_place.specs.declared.cursors.Place.{Place}
+use Rattle.sparc_place.specs.declared.cursors.Position.{Position}
 use Rattle.sparc_asm.specs.Encoding.{coded}
 use Rattle.sparc_asm.specs.Ranges.{StatementFits}
 use Rattle.sparc_asm.proofs.CodedRanges.{Holds, CodedFits, coded_fits}
@@ -27,13 +27,13 @@ one_fits names here s first found fits e is = subst CodedFits is (found_fits nam
 pub two_fit : (names : Names) (here : ℕ) (s : Statement) (first second : Instr) (found : Coded) → StatementFits s → Ok found ≡ coded names here s → found ≡ Two first second → Fits first × Fits second
 two_fit names here s first second found fits e is = subst CodedFits is (found_fits names here s found fits e)
 
-by_result : (names : Names) (count number : ℕ) (p : Place) (s : Statement) (before after : Filled) (result : Result (Unit {0}) Refusal) → value_fault names count p s ≡ coded_fault (coded names p.here s) → filled names number p s before ≡ with_code number (coded_words (coded names p.here s)) before → FillsCode (coded names p.here s) number before after result → Fills names count number p s before after result
+by_result : (names : Names) (count number : ℕ) (p : Position) (s : Statement) (before after : Filled) (result : Result (Unit {0}) Refusal) → value_fault names count p s ≡ coded_fault (coded names p.here s) → filled names number p s before ≡ with_code number (coded_words (coded names p.here s)) before → FillsCode (coded names p.here s) number before after result → Fills names count number p s before after result
 by_result names count number p s before after (Err refusal.NoMemory) same alike h = tt
 by_result names count number p s before after (Err (refusal.Fault fault)) same alike h = same ∙ h
 by_result names count number p s before after (Ok done) same alike h = (same ∙ h.0, h.1 ∙ sym alike)
 
 -- a statement that is neither data nor a start
-pub otherwise : (names : Names) (count number : ℕ) (p : Place) (s : Statement) (before after : Filled) (result : Result (Unit {0}) Refusal) → ((width : Width) (values : List (List Signed)) → s ≡ statement.Data width values → ⊥) → ((node slot address : List Signed) → s ≡ statement.Start node slot address → ⊥) → FillsCode (coded names p.here s) number before after result → Fills names count number p s before after result
+pub otherwise : (names : Names) (count number : ℕ) (p : Position) (s : Statement) (before after : Filled) (result : Result (Unit {0}) Refusal) → ((width : Width) (values : List (List Signed)) → s ≡ statement.Data width values → ⊥) → ((node slot address : List Signed) → s ≡ statement.Start node slot address → ⊥) → FillsCode (coded names p.here s) number before after result → Fills names count number p s before after result
 otherwise names count number p (statement.Arith op3 rs1 o rd) before after result other begins h = by_result names count number p (statement.Arith op3 rs1 o rd) before after result refl refl h
 otherwise names count number p (statement.Shift op3 rs1 o rd) before after result other begins h = by_result names count number p (statement.Shift op3 rs1 o rd) before after result refl refl h
 otherwise names count number p (statement.ReadY rd) before after result other begins h = by_result names count number p (statement.ReadY rd) before after result refl refl h

@@ -6,7 +6,7 @@ use Rattle.sparc_asm.specs.declared.statements.Line.{Line}
 use Rattle.sparc_asm.specs.Ranges.{EachFits}
 use Rattle.sparc_asm.specs.Sources.{read_source}
 use Rattle.sparc_asm.proofs.LineRanges.{lines_fit}
-use Rattle.sparc_place.specs.declared.cursors.Place.{Place}
+use Rattle.sparc_place.specs.declared.cursors.Position.{Position}
 use Rattle.sparc_place.specs.Places.{Layout, nothing_laid, places, places_of}
 use Rattle.sparc_assemble.specs.declared.assembling.Assembled.{Assembled}
 use Rattle.sparc_assemble.specs.Assembly.{Filled, nothing_filled, all_filled, parts_of, whole_of, values_fault, after_values, after_places, after_lines, assembled}
@@ -30,7 +30,7 @@ module _ (P : Assembled → Type 0) (a : Assembled) where
   past_values None rest is = is
   past_values (Some e) rest is = absurd (let w : ◌≡◌ {A = Result Assembled AsmErr} (Err e) (Ok a) = is in cc)
 
-  past_places : (ps : List Place) (lines : List Line) (found : Result Layout AsmErr) →
+  past_places : (ps : List Position) (lines : List Line) (found : Result Layout AsmErr) →
       ((l : Layout) → P (made l (all_filled l.names 1 ps lines nothing_filled))) → after_places ps lines found ≡ Ok a → P a
   past_places ps lines (Err e) holds is = absurd (let w : ◌≡◌ {A = Result Assembled AsmErr} (Err e) (Ok a) = is in cc)
   past_places ps lines (Ok l) holds is =
@@ -38,7 +38,7 @@ module _ (P : Assembled → Type 0) (a : Assembled) where
       past_whole l f (holds l) (past_values (values_fault l.names l.code 1 ps lines) (whole_of l f) is)
 
   past_lines : (read : Result (List Line) AsmErr) → ((lines : List Line) → read ≡ Ok lines → EachFits lines) →
-      ((l : Layout) (ps : List Place) (lines : List Line) → EachFits lines → P (made l (all_filled l.names 1 ps lines nothing_filled))) →
+      ((l : Layout) (ps : List Position) (lines : List Line) → EachFits lines → P (made l (all_filled l.names 1 ps lines nothing_filled))) →
       after_lines read ≡ Ok a → P a
   past_lines (Err e) fits holds is = absurd (let w : ◌≡◌ {A = Result Assembled AsmErr} (Err e) (Ok a) = is in cc)
   past_lines (Ok lines) fits holds is =
@@ -47,7 +47,7 @@ module _ (P : Assembled → Type 0) (a : Assembled) where
 
 -- what holds of whatever lines within their ranges are made into
 pub holds_of_all : (P : Assembled → Type 0) (source : List ℕ) (a : Assembled) →
-    ((l : Layout) (ps : List Place) (lines : List Line) → EachFits lines → P (made l (all_filled l.names 1 ps lines nothing_filled))) →
+    ((l : Layout) (ps : List Position) (lines : List Line) → EachFits lines → P (made l (all_filled l.names 1 ps lines nothing_filled))) →
     assembled source ≡ Ok a → P a
 unfolding assembled
 holds_of_all P source a holds is = past_lines P a (read_source source) (lines_fit source) holds is

@@ -11,7 +11,7 @@ use Rattle.sparc_asm.specs.declared.statements.Statement.{Statement}
 use Rattle.sparc_asm.specs.declared.statements.Statement.TheVariants as statement
 use Rattle.sparc_asm.specs.declared.statements.Line.{Line}
 use Rattle.sparc_asm.specs.Values.{value_of, above, below, modulo}
-use Rattle.sparc_place.specs.declared.cursors.Place.{Place}
+use Rattle.sparc_place.specs.declared.cursors.Position.{Position}
 use Rattle.sparc_assemble.specs.Assembly.{Names, Filled, nothing_filled, start_fault, value_fault, value_fault_in, first_of, values_fault, datum, put_start, with_values, filled, filled_in, all_filled}
 use Rattle.sparc_assemble.proofs.Allowed.{AreAddresses}
 
@@ -43,14 +43,14 @@ put_sound count node slot address starts here before n s a e = go ((n == node) &
     go true is = let same : address ≡ a = cc in rw (sym same) here
     go false is = before n s a is
 
-values_sound : (count number : ℕ) (p : Place) (width : Width) (values : List ℕ) (f : Filled) → AreAddresses count f.starts → AreAddresses count (with_values number p width values f).starts
+values_sound : (count number : ℕ) (p : Position) (width : Width) (values : List ℕ) (f : Filled) → AreAddresses count f.starts → AreAddresses count (with_values number p width values f).starts
 values_sound count number p width values f before = go p.in_data refl
   where
     go : (b : Bool) → p.in_data ≡ b → AreAddresses count (with_values number p width values f).starts
     go true e = rw e before
     go false e = rw e before
 
-statement_sound : (count number : ℕ) (names : Names) (p : Place) (s : Statement) (f : Filled) → count ≤ 65536 → value_fault names count p s ≡ None → AreAddresses count f.starts → AreAddresses count (filled names number p s f).starts
+statement_sound : (count number : ℕ) (names : Names) (p : Position) (s : Statement) (f : Filled) → count ≤ 65536 → value_fault names count p s ≡ None → AreAddresses count f.starts → AreAddresses count (filled names number p s f).starts
 statement_sound count number names p (statement.Arith op3 rs1 o rd) f few none before = before
 statement_sound count number names p (statement.Shift op3 rs1 o rd) f few none before = before
 statement_sound count number names p (statement.ReadY rd) f few none before = before
@@ -75,7 +75,7 @@ statement_sound count number names p (statement.Equ name value) f few none befor
 statement_sound count number names p (statement.Start node slot address) f few none before = put_sound count p.node p.slot _ f.starts (sound_address count names p.here address few none) before
 statement_sound count number names p (statement.Always line) f few none before = before
 
-line_sound : (count number : ℕ) (names : Names) (p : Place) (s : Option Statement) (f : Filled) → count ≤ 65536 → value_fault_in names count p s ≡ None → AreAddresses count f.starts → AreAddresses count (filled_in names number p s f).starts
+line_sound : (count number : ℕ) (names : Names) (p : Position) (s : Option Statement) (f : Filled) → count ≤ 65536 → value_fault_in names count p s ≡ None → AreAddresses count f.starts → AreAddresses count (filled_in names number p s f).starts
 line_sound count number names p None f few none before = before
 line_sound count number names p (Some s) f few none before = statement_sound count number names p s f few none before
 
@@ -83,12 +83,12 @@ both_none : (number : ℕ) (fault : Option Fault) (rest : Option AsmErr) → fir
 both_none number None rest e = (refl, e)
 both_none number (Some fault) rest e = absurd cc
 
-lines_sound : (count number : ℕ) (names : Names) (ps : List Place) (lines : List Line) (f : Filled) → count ≤ 65536 → values_fault names count number ps lines ≡ None → AreAddresses count f.starts → AreAddresses count (all_filled names number ps lines f).starts
+lines_sound : (count number : ℕ) (names : Names) (ps : List Position) (lines : List Line) (f : Filled) → count ≤ 65536 → values_fault names count number ps lines ≡ None → AreAddresses count f.starts → AreAddresses count (all_filled names number ps lines f).starts
 lines_sound count number names [] lines f few none before = before
 lines_sound count number names (p ∷ ps) [] f few none before = before
 lines_sound count number names (p ∷ ps) (line ∷ lines) f few none before =
     let parts = both_none number (value_fault_in names count p line.statement) (values_fault names count (number + 1) ps lines) none in
     lines_sound count (number + 1) names ps lines (filled_in names number p line.statement f) few parts.1 (line_sound count number names p line.statement f few parts.0 before)
 
-pub all_sound : (count : ℕ) (names : Names) (ps : List Place) (lines : List Line) → count ≤ 65536 → values_fault names count 1 ps lines ≡ None → AreAddresses count (all_filled names 1 ps lines nothing_filled).starts
+pub all_sound : (count : ℕ) (names : Names) (ps : List Position) (lines : List Line) → count ≤ 65536 → values_fault names count 1 ps lines ≡ None → AreAddresses count (all_filled names 1 ps lines nothing_filled).starts
 all_sound count names ps lines few none = lines_sound count 1 names ps lines nothing_filled few none (λ node slot address e. absurd cc)

@@ -19,7 +19,7 @@ use Rattle.sparc_asm.specs.Values.{value_of, modulo}
 use Rattle.sparc_asm.specs.Words.{coded_words}
 use Rattle.sparc_asm.proofs.CodedRanges.{Holds, CodedFits, coded_fits}
 use Rattle.sparc_asm.proofs.InstrWords.{spelled}
-use Rattle.sparc_place.specs.declared.cursors.Place.{Place}
+use Rattle.sparc_place.specs.declared.cursors.Position.{Position}
 use Rattle.sparc_place.specs.Places.{Layout, line_count}
 use Rattle.sparc_assemble.specs.declared.assembling.Assembled.{Assembled}
 use Rattle.sparc_assemble.specs.Assembly.{Names, Filled, nothing_filled, datum, modulus_of, spelled_as, with_code, with_bytes, with_values, filled, filled_in, all_filled, gathered, word_in, body_at, is_zero, data_line, parts_of, assembled}
@@ -88,7 +88,7 @@ filled-bytes from bytes f all is = record { words = is.words; bytes = λ place. 
     by_test place true = byte-at bytes (place - from) all
     by_test place false = is.bytes place
 
-filled-values : (number : ℕ) (p : Place) (width : Width) (values : List ℕ) (f : Filled) → AllByRecursion IsWord values → IsFilled f →
+filled-values : (number : ℕ) (p : Position) (width : Width) (values : List ℕ) (f : Filled) → AllByRecursion IsWord values → IsFilled f →
     IsFilled (with_values number p width values f)
 filled-values number p width values f all is = by_test p.in_data
   where
@@ -98,7 +98,7 @@ filled-values number p width values f all is = by_test p.in_data
 
 -- ---- lines
 
-filled-statement : (names : Names) (number : ℕ) (p : Place) (s : Statement) (f : Filled) → StatementFits s → IsFilled f → IsFilled (filled names number p s f)
+filled-statement : (names : Names) (number : ℕ) (p : Position) (s : Statement) (f : Filled) → StatementFits s → IsFilled f → IsFilled (filled names number p s f)
 filled-statement names number p (statement.Data width values) f fits is =
     filled-values number p width (map (datum names p.here (modulus_of width)) values) f
     (all-of IsWord (datum names p.here (modulus_of width)) values (datum-word names p.here width)) is
@@ -106,11 +106,11 @@ filled-statement names number p (statement.Start node slot address) f fits is = 
 filled-statement names number p s f fits is =
     filled-code number (coded_words (coded names p.here s)) f (coded-words (coded names p.here s) (coded_fits names p.here s fits)) is
 
-filled-line : (names : Names) (number : ℕ) (p : Place) (s : Option Statement) (f : Filled) → FitsIn s → IsFilled f → IsFilled (filled_in names number p s f)
+filled-line : (names : Names) (number : ℕ) (p : Position) (s : Option Statement) (f : Filled) → FitsIn s → IsFilled f → IsFilled (filled_in names number p s f)
 filled-line names number p None f fits is = is
 filled-line names number p (Some s) f fits is = filled-statement names number p s f fits is
 
-filled-lines : (names : Names) (number : ℕ) (ps : List Place) (lines : List Line) (f : Filled) → EachFits lines → IsFilled f →
+filled-lines : (names : Names) (number : ℕ) (ps : List Position) (lines : List Line) (f : Filled) → EachFits lines → IsFilled f →
     IsFilled (all_filled names number ps lines f)
 filled-lines names number [] lines f all is = is
 filled-lines names number (p ∷ ps) [] f all is = is
@@ -153,5 +153,5 @@ assembled_words source a is = holds_of_all (λ (b : Assembled). HasWords b.image
     at_first : IsFilled nothing_filled
     at_first = record { words = tt; bytes = λ place. omega arith }
 
-    made : (l : Layout) (ps : List Place) (lines : List Line) → EachFits lines → HasWords (parts_of l (all_filled l.names 1 ps lines nothing_filled))
+    made : (l : Layout) (ps : List Position) (lines : List Line) → EachFits lines → HasWords (parts_of l (all_filled l.names 1 ps lines nothing_filled))
     made l ps lines fits = have-words l (all_filled l.names 1 ps lines nothing_filled) (filled-lines l.names 1 ps lines nothing_filled fits at_first)

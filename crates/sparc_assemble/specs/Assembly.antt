@@ -24,7 +24,7 @@ use Rattle.sparc_asm.specs.Values.{value_of, above, below, is_between, modulo}
 use Rattle.sparc_asm.specs.Encoding.{coded}
 use Rattle.sparc_asm.specs.Sources.{read_source}
 use Rattle.sparc_asm.specs.Words.{coded_words}
-use Rattle.sparc_place.specs.declared.cursors.Place.{Place}
+use Rattle.sparc_place.specs.declared.cursors.Position.{Position}
 use Rattle.sparc_assemble.specs.declared.assembling.Assembled.{Assembled}
 use Rattle.sparc_place.specs.Sizes.{size_of}
 use Rattle.sparc_place.specs.Places.{Layout, nothing_laid, node_count, line_count, fault_at, places, places_of}
@@ -63,12 +63,12 @@ coded_fault (Ok found) = None
 coded_fault (Err fault) = Some fault
 
 -- the fault of a statement at a place, where a source has so many code words
-abbrev pub value_fault : Names → ℕ → Place → Statement → Option Fault
+abbrev pub value_fault : Names → ℕ → Position → Statement → Option Fault
 value_fault names count p (Data width values) = data_fault names p.here width values
 value_fault names count p (Start node slot address) = start_fault count (value_of names p.here address)
 value_fault names count p s = coded_fault (coded names p.here s)
 
-abbrev pub value_fault_in : Names → ℕ → Place → Option Statement → Option Fault
+abbrev pub value_fault_in : Names → ℕ → Position → Option Statement → Option Fault
 value_fault_in names count p None = None
 value_fault_in names count p (Some s) = value_fault names count p s
 
@@ -77,7 +77,7 @@ first_of number None rest = rest
 first_of number (Some fault) rest = Some (fault_at fault number)
 
 -- the first fault of lines at their places
-abbrev pub values_fault : Names → ℕ → ℕ → List Place → List Line → Option AsmErr
+abbrev pub values_fault : Names → ℕ → ℕ → List Position → List Line → Option AsmErr
 values_fault names count number (p ∷ ps) (line ∷ lines) = first_of number (value_fault_in names count p line.statement) (values_fault names count (number + 1) ps lines)
 values_fault names count number _ _ = None
 
@@ -122,7 +122,7 @@ abbrev pub with_bytes : ℕ → List ℕ → Filled → Filled
 with_bytes from bytes f = record f { memory = written_over from bytes f.memory }
 
 -- values of data, in shared data or in code
-abbrev pub with_values : ℕ → Place → Width → List ℕ → Filled → Filled
+abbrev pub with_values : ℕ → Position → Width → List ℕ → Filled → Filled
 with_values number p width values f =
     if p.in_data then with_bytes (p.here - 0x40000000) (flat_map (spelled_as width) values) f
     else with_code number values f
@@ -132,21 +132,21 @@ abbrev pub put_start : ℕ → ℕ → ℕ → (ℕ → ℕ → Option ℕ) → 
 put_start node slot address starts n s = if (n == node) && (s == slot) then Some address else starts n s
 
 -- the context of a place starts at an address
-abbrev pub with_address : Place → ℕ → Filled → Filled
+abbrev pub with_address : Position → ℕ → Filled → Filled
 with_address p address f = record f { starts = put_start p.node p.slot address f.starts }
 
 -- what a statement without a fault fills in
-abbrev pub filled : Names → ℕ → Place → Statement → Filled → Filled
+abbrev pub filled : Names → ℕ → Position → Statement → Filled → Filled
 filled names number p (Data width values) f = with_values number p width (map (datum names p.here (modulus_of width)) values) f
 filled names number p (Start node slot address) f = with_address p (datum names p.here (2 ^ 32) address) f
 filled names number p s f = with_code number (coded_words (coded names p.here s)) f
 
-abbrev pub filled_in : Names → ℕ → Place → Option Statement → Filled → Filled
+abbrev pub filled_in : Names → ℕ → Position → Option Statement → Filled → Filled
 filled_in names number p None f = f
 filled_in names number p (Some s) f = filled names number p s f
 
 -- what lines at their places fill in, the first of which has a number
-abbrev pub all_filled : Names → ℕ → List Place → List Line → Filled → Filled
+abbrev pub all_filled : Names → ℕ → List Position → List Line → Filled → Filled
 all_filled names number (p ∷ ps) (line ∷ lines) f = all_filled names (number + 1) ps lines (filled_in names number p line.statement f)
 all_filled names number _ _ f = f
 
@@ -212,7 +212,7 @@ after_values None found = found
 after_values (Some e) found = Err e
 
 -- what follows the second pass, with the places that it gives the lines
-abbrev pub after_places : List Place → List Line → Result Layout AsmErr → Result Assembled AsmErr
+abbrev pub after_places : List Position → List Line → Result Layout AsmErr → Result Assembled AsmErr
 after_places ps lines (Err e) = Err e
 after_places ps lines (Ok l) = after_values (values_fault l.names l.code 1 ps lines) (whole_of l (all_filled l.names 1 ps lines nothing_filled))
 

@@ -6,7 +6,7 @@ use Rattle.sparc_asm.specs.declared.faults.AsmErr.{AsmErr}
 use Rattle.sparc_asm.specs.declared.faults.AsmErr.TheVariants.{NoMemory}
 use Rattle.sparc_asm.specs.declared.encoding.Coded.{Coded}
 use Rattle.sparc_asm.specs.Words.{coded_words}
-use Rattle.sparc_place.specs.declared.cursors.Place.{Place}
+use Rattle.sparc_place.specs.declared.cursors.Position.{Position}
 use Rattle.sparc_place.specs.Places.{fault_at}
 use Rattle.sparc_assemble.specs.declared.refusals.Refusal.{Refusal}
 use Rattle.sparc_assemble.specs.declared.refusals.Refusal.TheVariants as refusal
@@ -36,13 +36,13 @@ FillsCode found number before after (Err (refusal.Fault fault)) = coded_fault fo
 FillsCode found number before after (Ok done) = (coded_fault found ≡ None) × (after ≡ with_code number (coded_words found) before)
 
 -- from one filling to the next by a statement, or its fault; or memory was refused
-abbrev pub Fills : Names → ℕ → ℕ → Place → Statement → Filled → Filled → Result (Unit {0}) Refusal → Type 0
+abbrev pub Fills : Names → ℕ → ℕ → Position → Statement → Filled → Filled → Result (Unit {0}) Refusal → Type 0
 Fills names count number p s before after (Err refusal.NoMemory) = ⊤
 Fills names count number p s before after (Err (refusal.Fault fault)) = value_fault names count p s ≡ Some fault
 Fills names count number p s before after (Ok done) = (value_fault names count p s ≡ None) × (after ≡ filled names number p s before)
 
 -- the same by a line
-abbrev pub FillsLine : Names → ℕ → ℕ → Place → Option Statement → Filled → Filled → Result (Unit {0}) Refusal → Type 0
+abbrev pub FillsLine : Names → ℕ → ℕ → Position → Option Statement → Filled → Filled → Result (Unit {0}) Refusal → Type 0
 FillsLine names count number p s before after (Err refusal.NoMemory) = ⊤
 FillsLine names count number p s before after (Err (refusal.Fault fault)) = value_fault_in names count p s ≡ Some fault
 FillsLine names count number p s before after (Ok done) = (value_fault_in names count p s ≡ None) × (after ≡ filled_in names number p s before)

@@ -15,7 +15,7 @@ use crate::memory::Memory;
 use crate::refusals::Refusal;
 use alw_num::{NoMemory, Sequence, Width};
 use sparc_asm::{AsmErr, Coded, Expression, Lines, Names, Statement, encode, instr_word};
-use sparc_place::{Laid, Place, fault_at};
+use sparc_place::{Laid, Position, fault_at};
 use std::alloc::Global;
 
 /// What the lines so far have filled in: code words with the source line of each, the bytes of shared data, and where
@@ -69,7 +69,7 @@ impl Filling {
     }
 
     // A context starts at an address.
-    fn start(&mut self, place: &Place, address: u32) -> Result<(), NoMemory>
+    fn start(&mut self, place: &Position, address: u32) -> Result<(), NoMemory>
         ensures { OnOk result (filled_of self.new ≡ with_address place.now address (filled_of self.old)) }
     {
         self.starts.put(place.node, place.slot, address)?;
@@ -81,7 +81,7 @@ impl Filling {
         &mut self,
         alloc: Global,
         names: &Names,
-        place: &Place,
+        place: &Position,
         width: Width,
         values: &Sequence<Expression>,
         number: u32,
@@ -103,7 +103,7 @@ impl Filling {
     fn fill_code(
         &mut self,
         names: &Names,
-        place: &Place,
+        place: &Position,
         statement: &Statement,
         number: u32,
     ) -> Result<(), Refusal>
@@ -132,7 +132,7 @@ impl Filling {
         alloc: Global,
         names: &Names,
         count: u32,
-        place: &Place,
+        place: &Position,
         statement: &Statement,
         number: u32,
     ) -> Result<(), Refusal>
@@ -167,7 +167,7 @@ impl Filling {
         alloc: Global,
         names: &Names,
         count: u32,
-        place: &Place,
+        place: &Position,
         statement: &Option<Statement>,
         number: u32,
     ) -> Result<(), Refusal>

@@ -13,7 +13,7 @@ use Rattle.sparc_table.specs.declared.outcomes.Need.TheVariants as needs
 use Rattle.sparc_table.specs.declared.outcomes.Outcome.{Outcome}
 use Rattle.sparc_table.specs.declared.outcomes.Outcome.TheVariants as ends
 use Rattle.sparc_exec.specs.Ports.{Copies, granted, with_copy}
-use Rattle.sparc_exec.specs.Runs.{Seen, Same, Completed, IsRunOn, IsRun, CopyIsMissing}
+use Rattle.sparc_exec.specs.Runs.{Seen, Same, Completed, IsRunOn, IsRunWith, CopyIsMissing}
 
 -- ---- copies
 
@@ -63,7 +63,7 @@ still_beside effect before after outcome o h s =
     sym (ap (λ (a : Regs × Line × Outcome). a.0) e) ∙ ((o nowhere).still (subst OutcomeIsStill (sym (ap (λ (a : Regs × Line × Outcome). a.2) e)) s)).0
 
 pub still_is : (need : Need) (effect : Effect) (before after : Seen) (outcome : Outcome)
-    → AreOrderly before.regs effect → IsRun need effect before after outcome → OutcomeIsStill outcome → ChangesNothing before after
+    → AreOrderly before.regs effect → IsRunWith need effect before after outcome → OutcomeIsStill outcome → ChangesNothing before after
 still_is (needs.Copy line mode) effect before after outcome o h s = still_on _ line mode effect before after outcome o refl h s
 still_is needs.Nothing effect before after outcome o h s = (still_beside effect before after outcome o h.0 s, h.1)
 still_is (needs.Trap type) effect before after outcome o h s = (still_beside effect before after outcome o h.0 s, h.1)
@@ -83,18 +83,18 @@ no_miss : (effect : Effect) (before after : Seen) (outcome : Outcome) → AreOrd
 no_miss effect before after outcome o h line mode e = (o nowhere).found line mode (ap (λ (a : Regs × Line × Outcome). a.2) (h nowhere) ∙ e)
 
 missed_from : (need : Need) (effect : Effect) (before after : Seen) (outcome : Outcome)
-    → AreOrderly before.regs effect → IsRun need effect before after outcome → (line : LineNo) (mode : Mode) → outcome ≡ ends.Miss line mode → CopyIsMissing need before.copies line mode
+    → AreOrderly before.regs effect → IsRunWith need effect before after outcome → (line : LineNo) (mode : Mode) → outcome ≡ ends.Miss line mode → CopyIsMissing need before.copies line mode
 missed_from (needs.Copy l m) effect before after outcome o h line mode e = missed_on _ l line m mode effect before after outcome o refl h e
 missed_from needs.Nothing effect before after outcome o h line mode e = absurd (no_miss effect before after outcome o h.0 line mode e)
 missed_from (needs.Trap type) effect before after outcome o h line mode e = absurd (no_miss effect before after outcome o h.0 line mode e)
 
 missed_to : (need : Need) (effect : Effect) (before after : Seen) (outcome : Outcome)
-    → IsRun need effect before after outcome → (line : LineNo) (mode : Mode) → CopyIsMissing need before.copies line mode → outcome ≡ ends.Miss line mode
+    → IsRunWith need effect before after outcome → (line : LineNo) (mode : Mode) → CopyIsMissing need before.copies line mode → outcome ≡ ends.Miss line mode
 missed_to need effect before after outcome h line mode missing =
-    let P : Need → Type 0 = λ n. IsRun n effect before after outcome in
+    let P : Need → Type 0 = λ n. IsRunWith n effect before after outcome in
     let Q : Option Line → Type 0 = λ found. IsRunOn found line mode effect before after outcome in
     (subst Q missing.1 (subst P missing.0 h)).0
 
 pub missed_is : (need : Need) (effect : Effect) (before after : Seen) (outcome : Outcome)
-    → AreOrderly before.regs effect → IsRun need effect before after outcome → (line : LineNo) → (mode : Mode) → (outcome ≡ ends.Miss line mode) ↔ CopyIsMissing need before.copies line mode
+    → AreOrderly before.regs effect → IsRunWith need effect before after outcome → (line : LineNo) → (mode : Mode) → (outcome ≡ ends.Miss line mode) ↔ CopyIsMissing need before.copies line mode
 missed_is need effect before after outcome o h line mode = (missed_from need effect before after outcome o h line mode, missed_to need effect before after outcome h line mode)

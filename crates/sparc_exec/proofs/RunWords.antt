@@ -19,7 +19,7 @@ use Rattle.sparc_table.specs.declared.outcomes.Need.{Need}
 use Rattle.sparc_table.specs.declared.outcomes.Need.TheVariants as needs
 use Rattle.sparc_table.specs.declared.outcomes.Outcome.{Outcome}
 use Rattle.sparc_table.specs.declared.outcomes.Outcome.TheVariants as ends
-use Rattle.sparc_exec.specs.Runs.{Seen, seen, IsRun}
+use Rattle.sparc_exec.specs.Runs.{Seen, seen, IsRunWith}
 use Rattle.sparc_exec.specs.Words.{row_of, rows, value_of, IsRunOf, IsRunBeside}
 
 -- ---- a word that reaches no line
@@ -32,7 +32,7 @@ pub outside : (word : ℕ) (before : Regs) → instr_of word ≡ None → IsRunB
 unfolding IsRunOf
 outside word before is lines copies calls =
     let state : Seen = seen before copies calls in
-    let P : Option Instr → Type 0 = λ found. IsRun (need_at (or_illegal found) before lines) (turn_at (or_illegal found) before lines) state state (ends.Trap 2) in
+    let P : Option Instr → Type 0 = λ found. IsRunWith (need_at (or_illegal found) before lines) (turn_at (or_illegal found) before lines) state state (ends.Trap 2) in
     subst P (sym is) ((λ line. refl), (λ l. refl), refl)
 
 quiet : (word : ℕ) (instr : Instr) (before after : Regs) (outcome : Outcome) → instr_of word ≡ Some instr → IsQuiet instr before after outcome → IsRunBeside word before after outcome
@@ -40,8 +40,8 @@ unfolding IsRunOf
 quiet word instr before after outcome is h lines copies calls =
     let start : Seen = seen before copies calls in
     let end : Seen = seen after copies calls in
-    let P : Option Instr → Type 0 = λ found. IsRun (need_at (or_illegal found) before lines) (turn_at (or_illegal found) before lines) start end outcome in
-    let Q : Need → Type 0 = λ needed. IsRun needed (run_at needed instr before) start end outcome in
+    let P : Option Instr → Type 0 = λ found. IsRunWith (need_at (or_illegal found) before lines) (turn_at (or_illegal found) before lines) start end outcome in
+    let Q : Need → Type 0 = λ needed. IsRunWith needed (run_at needed instr before) start end outcome in
     subst P (sym is) (subst Q (sym (h.0 lines)) (h.1, (λ l. refl), refl))
 
 -- a row with an operand, where the word has none
@@ -164,19 +164,19 @@ access_none word op3 lines state op is row h = none word _ state.regs _ (memory_
 -- an access runs as its instruction does with each operand of that value
 spelled : (word y lines : ℕ) (make : Operand → Instr) (before after : Seen) (outcome : Outcome) (found : Option Operand)
     → instr_of word ≡ option_map make found → Some y ≡ value_of found before.regs
-    → ((operand : Operand) → operand_of operand before.regs ≡ y → IsRun (need_at (or_illegal (Some (make operand))) before.regs lines) (turn_at (or_illegal (Some (make operand))) before.regs lines) before after outcome)
+    → ((operand : Operand) → operand_of operand before.regs ≡ y → IsRunWith (need_at (or_illegal (Some (make operand))) before.regs lines) (turn_at (or_illegal (Some (make operand))) before.regs lines) before after outcome)
     → IsRunOf word lines before after outcome
 unfolding IsRunOf
 spelled word y lines make before after outcome None row h each = cc
 spelled word y lines make before after outcome (Some operand) row h each =
     let is : operand_of operand before.regs ≡ y = cc in
-    let P : Option Instr → Type 0 = λ found. IsRun (need_at (or_illegal found) before.regs lines) (turn_at (or_illegal found) before.regs lines) before after outcome in
+    let P : Option Instr → Type 0 = λ found. IsRunWith (need_at (or_illegal found) before.regs lines) (turn_at (or_illegal found) before.regs lines) before after outcome in
     subst P (sym row) (each operand is)
 
 pub access_is : (word op3 y lines address : ℕ) (before after : Seen) (outcome : Outcome) → op_of word ≡ 3 → op3_of word ≡ op3 → is_in accesses op3 ≡ true → Some y ≡ value_of (operand_in word) before.regs
     → address ≡ (register before.regs (rs1_of word) + y) % 2 ^ 32
     → ((operand : Operand) → address ≡ address_of (rs1_of word) operand before.regs
-    → IsRun (need_at (or_illegal (Some (Memory op3 (rd_of word) (rs1_of word) operand))) before.regs lines) (turn_at (or_illegal (Some (Memory op3 (rd_of word) (rs1_of word) operand))) before.regs lines) before after outcome)
+    → IsRunWith (need_at (or_illegal (Some (Memory op3 (rd_of word) (rs1_of word) operand))) before.regs lines) (turn_at (or_illegal (Some (Memory op3 (rd_of word) (rs1_of word) operand))) before.regs lines) before after outcome)
     → IsRunOf word lines before after outcome
 access_is word op3 y lines address before after outcome op is row there sum each =
     spelled word y lines _ before after outcome _ (memory_row word op3 op is row) there (λ operand e. each operand (rw e sum))
@@ -185,28 +185,28 @@ access_is word op3 y lines address before after outcome op is row there sum each
 
 -- the run of a word is that of the instruction that it spells
 pub one_is : (instr : Instr) (word lines : ℕ) (before after : Seen) (outcome : Outcome)
-    → instr_of word ≡ Some instr → IsRunOf word lines before after outcome → IsRun (need instr before.regs lines) (run_of instr before.regs lines) before after outcome
+    → instr_of word ≡ Some instr → IsRunOf word lines before after outcome → IsRunWith (need instr before.regs lines) (run_of instr before.regs lines) before after outcome
 unfolding IsRunOf
 one_is instr word lines before after outcome is run =
-    let P : Option Instr → Type 0 = λ found. IsRun (need_at (or_illegal found) before.regs lines) (turn_at (or_illegal found) before.regs lines) before after outcome in
+    let P : Option Instr → Type 0 = λ found. IsRunWith (need_at (or_illegal found) before.regs lines) (turn_at (or_illegal found) before.regs lines) before after outcome in
     subst P is run
 
 -- the run of the word at PC is the turn
 pub turn_is : (code : List ℕ) (word lines : ℕ) (before after : Seen) (outcome : Outcome)
     → true ≡ nat_lt (before.regs.pc / 4) (length code) → word ≡ slice_index_or code (before.regs.pc / 4) word
-    → IsRunOf word lines before after outcome → IsRun (need_of code before.regs lines) (turn_of code before.regs lines) before after outcome
+    → IsRunOf word lines before after outcome → IsRunWith (need_of code before.regs lines) (turn_of code before.regs lines) before after outcome
 unfolding IsRunOf need_of turn_of fetched
 turn_is code word lines before after outcome within there run =
-    let P : Option ℕ → Type 0 = λ found. IsRun (need_at (or_no_access found) before.regs lines) (turn_at (or_no_access found) before.regs lines) before after outcome in
+    let P : Option ℕ → Type 0 = λ found. IsRunWith (need_at (or_no_access found) before.regs lines) (turn_at (or_no_access found) before.regs lines) before after outcome in
     let look : slice_get code (before.regs.pc / 4) ≡ Some word = slice_get_read code (length code) (before.regs.pc / 4) word refl (ltb-true _ _ (sym within)) there in
     subst P (sym look) run
 
 -- a turn past the end of the code
 pub turn_past : (code : List ℕ) (lines : ℕ) (state : Seen)
-    → false ≡ nat_lt (state.regs.pc / 4) (length code) → IsRun (need_of code state.regs lines) (turn_of code state.regs lines) state state (ends.Trap 1)
+    → false ≡ nat_lt (state.regs.pc / 4) (length code) → IsRunWith (need_of code state.regs lines) (turn_of code state.regs lines) state state (ends.Trap 1)
 unfolding need_of turn_of fetched
 turn_past code lines state past =
-    let P : Option ℕ → Type 0 = λ found. IsRun (need_at (or_no_access found) state.regs lines) (turn_at (or_no_access found) state.regs lines) state state (ends.Trap 1) in
+    let P : Option ℕ → Type 0 = λ found. IsRunWith (need_at (or_no_access found) state.regs lines) (turn_at (or_no_access found) state.regs lines) state state (ends.Trap 1) in
     let look : slice_get code (state.regs.pc / 4) ≡ None = slice_get_past code (state.regs.pc / 4) (ltb-false _ _ (sym past)) in
     subst P (sym look) ((λ line. refl), (λ l. refl), refl)
 

@@ -43,9 +43,9 @@ IsRunOn None line mode effect before after outcome = Missed line mode before aft
 IsRunOn (Some value) line mode effect before after outcome = Completed line mode (effect value) before after outcome
 
 -- an instruction with this need and this effect. Where it needs no copy, its effect is the same on every line and leaves the line
-abbrev pub IsRun : Need → (Line → Regs × Line × Outcome) → Seen → Seen → Outcome → Type 0
-IsRun (needs.Copy line mode) effect before after outcome = IsRunOn (granted mode (before.copies line.0)) line mode effect before after outcome
-IsRun _ effect before after outcome = ((line : Line) → effect line ≡ (after.regs, line, outcome)) × Same before.copies after.copies × (after.calls ≡ before.calls)
+abbrev pub IsRunWith : Need → (Line → Regs × Line × Outcome) → Seen → Seen → Outcome → Type 0
+IsRunWith (needs.Copy line mode) effect before after outcome = IsRunOn (granted mode (before.copies line.0)) line mode effect before after outcome
+IsRunWith _ effect before after outcome = ((line : Line) → effect line ≡ (after.regs, line, outcome)) × Same before.copies after.copies × (after.calls ≡ before.calls)
 
 -- the copy that an instruction needs isn't there
 abbrev pub CopyIsMissing : Need → Copies → LineNo → Mode → Type 0

@@ -8,7 +8,7 @@ use Rattle.sparc_table.specs.declared.registers.Regs.{Regs}
 use Rattle.sparc_table.specs.declared.instructions.Operand.{Operand}
 use Rattle.sparc_table.specs.declared.outcomes.Outcome.{Outcome}
 use Rattle.sparc_exec.specs.Ports.{Copies, Access}
-use Rattle.sparc_exec.specs.Runs.{Seen, seen, IsRun}
+use Rattle.sparc_exec.specs.Runs.{Seen, seen, IsRunWith}
 
 -- a word's row: its op, and then its op3
 abbrev pub row_of : ℕ → ℕ
@@ -24,7 +24,7 @@ value_of found regs = option_map (λ operand. operand_of operand regs) found
 
 -- a word was run
 unfoldable pub IsRunOf : ℕ → ℕ → Seen → Seen → Outcome → Type 0
-IsRunOf word lines before after outcome = IsRun (need_at (or_illegal (instr_of word)) before.regs lines) (turn_at (or_illegal (instr_of word)) before.regs lines) before after outcome
+IsRunOf word lines before after outcome = IsRunWith (need_at (or_illegal (instr_of word)) before.regs lines) (turn_at (or_illegal (instr_of word)) before.regs lines) before after outcome
 
 -- a word was run that reaches no line
 abbrev pub IsRunBeside : ℕ → Regs → Regs → Outcome → Type 0

@@ -3,7 +3,7 @@ ghost use Rattle.alw_num.specs.declared.addresses.LineNo.{LineNo};
 ghost use Rattle.alw_num.specs.declared.states.Mode.{Mode};
 ghost use Rattle.sparc_table.specs.Meaning.{OutcomeIsStill};
 ghost use Rattle.sparc_table.specs.Turns.{need_of, turn_of};
-ghost use Rattle.sparc_exec.specs.Runs.{Same, seen, IsRun, CopyIsMissing};
+ghost use Rattle.sparc_exec.specs.Runs.{Same, seen, IsRunWith, CopyIsMissing};
 
 use crate::ports::Port;
 use crate::turns::turn;
@@ -42,7 +42,7 @@ impl Program {
 
     /// Runs one turn, as `turn` of the words does.
     pub fn turn<P: Port>(&self, regs: &mut Regs, port: &mut P) -> Outcome
-        ensures run { IsRun (need_of self.now regs.old (P.lines port.old)) (turn_of self.now regs.old (P.lines port.old)) (seen regs.old (P.copy port.old) (P.calls port.old)) (seen regs.new (P.copy port.new) (P.calls port.new)) result }
+        ensures run { IsRunWith (need_of self.now regs.old (P.lines port.old)) (turn_of self.now regs.old (P.lines port.old)) (seen regs.old (P.copy port.old) (P.calls port.old)) (seen regs.new (P.copy port.new) (P.calls port.new)) result }
         ensures missed { (line : LineNo) → (mode : Mode) → (result ≡ Outcome.Miss line mode) ↔ CopyIsMissing (need_of self.now regs.old (P.lines port.old)) (P.copy port.old) line mode }
         ensures still { OutcomeIsStill result → (regs.new ≡ regs.old) × Same (P.copy port.old) (P.copy port.new) }
         ensures sizes { (P.lines port.new ≡ P.lines port.old) × (P.places port.new ≡ P.places port.old) }

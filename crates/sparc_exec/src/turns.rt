@@ -5,7 +5,7 @@ ghost use Rattle.sparc_table.specs.Table.{Fits};
 ghost use Rattle.sparc_table.specs.Access.{width_of, mode_of, needed};
 ghost use Rattle.sparc_table.specs.Meaning.{need, OutcomeIsStill};
 ghost use Rattle.sparc_table.specs.Turns.{fetched, run_of, need_of, turn_of};
-ghost use Rattle.sparc_exec.specs.Runs.{Same, seen, IsRun, CopyIsMissing};
+ghost use Rattle.sparc_exec.specs.Runs.{Same, seen, IsRunWith, CopyIsMissing};
 
 use crate::accesses::{is_load, line_at};
 use crate::arithmetic::address;
@@ -19,7 +19,7 @@ use sparc_table::{Instr, Need, Outcome, Regs, decode, encode};
 /// `code` holds the words from address 0 on. A PC at or past the end of the code traps with type 01, a
 /// word outside the instruction table with type 02 (SPARC V8 manual, table 7-1).
 pub fn turn<P: Port>(code: &[u32], regs: &mut Regs, port: &mut P) -> Outcome
-    ensures run { IsRun (need_of code.now regs.old (P.lines port.old)) (turn_of code.now regs.old (P.lines port.old)) (seen regs.old (P.copy port.old) (P.calls port.old)) (seen regs.new (P.copy port.new) (P.calls port.new)) result }
+    ensures run { IsRunWith (need_of code.now regs.old (P.lines port.old)) (turn_of code.now regs.old (P.lines port.old)) (seen regs.old (P.copy port.old) (P.calls port.old)) (seen regs.new (P.copy port.new) (P.calls port.new)) result }
     ensures missed { (line : LineNo) → (mode : Mode) → (result ≡ Outcome.Miss line mode) ↔ CopyIsMissing (need_of code.now regs.old (P.lines port.old)) (P.copy port.old) line mode }
     ensures still { OutcomeIsStill result → (regs.new ≡ regs.old) × Same (P.copy port.old) (P.copy port.new) }
     ensures sizes { (P.lines port.new ≡ P.lines port.old) × (P.places port.new ≡ P.places port.old) }
@@ -91,7 +91,7 @@ pub fn fetch(code: &[u32], pc: u32) -> Result<Instr, u8>
 /// Without that copy the outcome is Miss. On Miss, Halt and Trap the registers and all copies stay.
 pub fn run_one<P: Port>(instr: &Instr, regs: &mut Regs, port: &mut P) -> Outcome
     requires { Fits instr.now }
-    ensures run { IsRun (need instr.now regs.old (P.lines port.old)) (run_of instr.now regs.old (P.lines port.old)) (seen regs.old (P.copy port.old) (P.calls port.old)) (seen regs.new (P.copy port.new) (P.calls port.new)) result }
+    ensures run { IsRunWith (need instr.now regs.old (P.lines port.old)) (run_of instr.now regs.old (P.lines port.old)) (seen regs.old (P.copy port.old) (P.calls port.old)) (seen regs.new (P.copy port.new) (P.calls port.new)) result }
     ensures missed { (line : LineNo) → (mode : Mode) → (result ≡ Outcome.Miss line mode) ↔ CopyIsMissing (need instr.now regs.old (P.lines port.old)) (P.copy port.old) line mode }
     ensures still { OutcomeIsStill result → (regs.new ≡ regs.old) × Same (P.copy port.old) (P.copy port.new) }
     ensures sizes { (P.lines port.new ≡ P.lines port.old) × (P.places port.new ≡ P.places port.old) }

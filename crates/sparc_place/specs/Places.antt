@@ -16,7 +16,7 @@ use Rattle.sparc_asm.specs.declared.statements.Statement.{Statement}
 use Rattle.sparc_asm.specs.declared.statements.Statement.TheVariants.{Set, Mesh, Contexts, Lines, Text, Shared, Data, Skip, Align, Equ, Start, Always}
 use Rattle.sparc_asm.specs.declared.statements.Line.{Line}
 use Rattle.sparc_asm.specs.Values.{value_of, above, below, is_between}
-use Rattle.sparc_place.specs.declared.cursors.Place.{Place}
+use Rattle.sparc_place.specs.declared.cursors.Position.{Position}
 use Rattle.sparc_place.specs.Marks.{any_below}
 use Rattle.sparc_place.specs.Sizes.{size_of}
 
@@ -286,11 +286,11 @@ places number l (line ∷ rest) = place_or number (place_fault l line) (places (
 -- ---- places
 
 -- where a statement stands, and the context that it starts
-abbrev pub place_of : Layout → Option Statement → Place
+abbrev pub place_of : Layout → Option Statement → Position
 place_of l (Some (Start node slot address)) = record { here = here_of l; in_data = l.in_data; node = above (valued l node); slot = above (valued l slot) }
 place_of l _ = record { here = here_of l; in_data = l.in_data; node = 0; slot = 0 }
 
 -- the places of lines that stand behind a layout
-abbrev pub places_of : Layout → List Line → List Place
+abbrev pub places_of : Layout → List Line → List Position
 places_of l [] = []
 places_of l (line ∷ rest) = place_of l line.statement ∷ places_of (behind l line) rest

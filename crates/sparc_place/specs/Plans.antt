@@ -9,7 +9,7 @@ use Rattle.sparc_asm.specs.declared.faults.Fault.TheVariants.{Redefined, Range}
 use Rattle.sparc_asm.specs.declared.faults.AsmErr.{AsmErr}
 use Rattle.sparc_asm.specs.declared.faults.AsmErr.TheVariants.{NoMemory}
 use Rattle.sparc_asm.specs.Names.{value_in}
-use Rattle.sparc_place.specs.declared.cursors.Place.{Place}
+use Rattle.sparc_place.specs.declared.cursors.Position.{Position}
 use Rattle.sparc_place.specs.declared.plans.Plan.{Plan}
 use Rattle.sparc_place.specs.declared.plans.Step.{Step}
 use Rattle.sparc_place.specs.declared.plans.Step.TheVariants.{Sized, Moved, Wrote, Defined, Started, Always}
@@ -47,7 +47,7 @@ stepped (Started node slot) m = with_started node slot m
 stepped (Always line) m = record m { begun = true; always = with_range line (line + 1) m.always }
 
 -- where the statement of a step stands, and the context that it starts
-abbrev pub placed : Layout → Step → Place
+abbrev pub placed : Layout → Step → Position
 placed l (Started node slot) = record { here = here_of l; in_data = l.in_data; node = node; slot = slot }
 placed l _ = record { here = here_of l; in_data = l.in_data; node = 0; slot = 0 }
 
@@ -70,13 +70,13 @@ abbrev pub refused : ℕ → Option Fault → Option AsmErr
 refused number fault = option_map (λ f. fault_at f number) fault
 
 -- from one layout to the next by a line with a number, or its fault; or memory was refused
-abbrev pub LineIsLaid : Layout → Layout → Line → ℕ → Result Place AsmErr → Type 0
+abbrev pub LineIsLaid : Layout → Layout → Line → ℕ → Result Position AsmErr → Type 0
 LineIsLaid l after line number (Err NoMemory) = ⊤
 LineIsLaid l after line number (Err e) = refused number (place_fault l line) ≡ Some e
 LineIsLaid l after line number (Ok place) = (place_fault l line ≡ None) × (after ≡ behind l line) × (place ≡ place_of l line.statement)
 
 -- an answer is the wanted layout with the wanted places, or the wanted fault; or memory was refused
-abbrev pub AnswersPlaces : Result Layout AsmErr → List Place → Result Laid AsmErr → Type 0
+abbrev pub AnswersPlaces : Result Layout AsmErr → List Position → Result Laid AsmErr → Type 0
 AnswersPlaces wanted places (Err NoMemory) = ⊤
 AnswersPlaces wanted places (Err e) = wanted ≡ Err e
 AnswersPlaces wanted places (Ok laid) = (wanted ≡ Ok (layout_of laid.plan)) × (laid.places ≡ places)

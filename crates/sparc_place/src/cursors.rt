@@ -36,7 +36,7 @@ impl Cursor {
 
 /// Where a line stands, and the context that it starts: node 0 and slot 0 where it starts none.
 #[derive(Clone, Copy, PartialEq, Eq)]
-pub struct Place {
+pub struct Position {
     /// The address of its first byte.
     pub here: u32,
     pub in_data: bool,
@@ -45,4 +45,4 @@ pub struct Place {
 }
 
 /// The places of lines, in order.
-pub type Places = Sequence<Place>;
+pub type Places = Sequence<Position>;

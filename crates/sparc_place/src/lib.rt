@@ -9,7 +9,7 @@ mod plans;
 mod sizes;
 mod steps;
 
-pub use cursors::{Place, Places};
+pub use cursors::{Places, Position};
 pub use passes::{Laid, fault_at, lay_out};
 pub use plans::Plan;
 pub use sizes::Sizes;

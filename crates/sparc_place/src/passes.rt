@@ -2,7 +2,7 @@ ghost use Rattle.std.specs.Prelude.{◌≡◌, ◌<◌, ◌+◌, ◌^◌};
 ghost use Rattle.sparc_place.specs.Places.{nothing_laid, fault_at, places, places_of};
 ghost use Rattle.sparc_place.specs.Plans.{layout_of, LineIsLaid, AnswersPlaces};
 
-use crate::cursors::{Place, Places};
+use crate::cursors::{Places, Position};
 use crate::plans::Plan;
 use alw_num::NoMemory;
 use sparc_asm::{AsmErr, Fault, Line, Lines};
@@ -30,7 +30,7 @@ pub fn fault_at(fault: Fault, line: u32) -> AsmErr
 
 impl<'a> Plan<'a> {
     // Lays down a label.
-    fn lay_label(&mut self, line: &Line<'a>, number: u32) -> Result<Place, AsmErr>
+    fn lay_label(&mut self, line: &Line<'a>, number: u32) -> Result<Position, AsmErr>
         requires { line.now.statement ≡ None }
         ensures { LineIsLaid (layout_of self.old) (layout_of self.new) line.now number result }
     {
@@ -45,7 +45,7 @@ impl<'a> Plan<'a> {
     }
 
     // Lays down a line with a number: where it stands, or its fault.
-    fn lay(&mut self, line: &Line<'a>, number: u32) -> Result<Place, AsmErr>
+    fn lay(&mut self, line: &Line<'a>, number: u32) -> Result<Position, AsmErr>
         ensures { LineIsLaid (layout_of self.old) (layout_of self.new) line.now number result }
     {
         let Some(statement) = &line.statement else {

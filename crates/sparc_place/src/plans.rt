@@ -3,7 +3,7 @@ ghost use Rattle.sparc_asm.specs.Names.{value_in};
 ghost use Rattle.sparc_place.specs.Places.{nothing_laid, value_at, is_defined, label_again, labelled, here_of};
 ghost use Rattle.sparc_place.specs.Plans.{layout_of, with_started, stepped, placed};
 
-use crate::cursors::{Cursor, Place};
+use crate::cursors::{Cursor, Position};
 use crate::marks::Marks;
 use crate::sizes::Sizes;
 use alw_num::NoMemory;
@@ -162,10 +162,10 @@ impl<'a> Plan<'a> {
     }
 
     // Where a line stands that starts no context.
-    pub(crate) fn place(&self, node: u16, slot: u8) -> Place
+    pub(crate) fn place(&self, node: u16, slot: u8) -> Position
         ensures { result ≡ record { here = here_of (layout_of self.now); in_data = self.now.cursor.in_data; node = node; slot = slot } }
     {
-        Place {
+        Position {
             here: self.cursor.here(),
             in_data: self.cursor.in_data,
             node,
@@ -174,7 +174,7 @@ impl<'a> Plan<'a> {
     }
 
     // Where the statement of a step stands.
-    pub(crate) fn placed(&self, step: &Step) -> Place
+    pub(crate) fn placed(&self, step: &Step) -> Position
         ensures { result ≡ placed (layout_of self.now) step.now }
     {
         match step {

@@ -5,7 +5,7 @@ use Rattle.alw_num.specs.declared.states.Mode.{Mode}
 use Rattle.sparc_table.specs.Turns.{need_of, turn_of}
 use Rattle.sparc_table.specs.declared.registers.Regs.{Regs}
 use Rattle.sparc_table.specs.declared.outcomes.Outcome.TheVariants as ends
-use Rattle.sparc_exec.specs.Runs.{seen, IsRun, CopyIsMissing}
+use Rattle.sparc_exec.specs.Runs.{seen, IsRunWith, CopyIsMissing}
 use Rattle.alw_model.specs.Contexts.{Slot}
 use Rattle.alw_ctx.specs.Residents.{slots_of}
 use Rattle.alw_ctx.proofs.Slots.{length_slots, of_slot, turned, same_contexts}
@@ -18,7 +18,7 @@ returns-clause-run g c =
     let size = length_slots inside.count inside.places (omega (arith, c.self.invariant.1, c.self.invariant.2)) in
     let within : c.args.slot < length (slots_of inside.count inside.places) = rw (← c.self.view_is) at c.requires in
     let lines = g.P.Port.lines c.args.port.now in
-    let Runs : Regs → Regs → Type 0 = λ r r'. IsRun (need_of c.args.code.now r lines) (turn_of c.args.code.now r lines)
+    let Runs : Regs → Regs → Type 0 = λ r r'. IsRunWith (need_of c.args.code.now r lines) (turn_of c.args.code.now r lines)
     (seen r (g.P.Port.copy c.args.port.now) (g.P.Port.calls c.args.port.now)) (seen r' (g.P.Port.copy c.turn.new.port) (g.P.Port.calls c.turn.new.port)) c.turn.result in
     rw (← c.self.view_is) (of_slot Runs inside.count inside.places c.args.slot _ c.turn.new.self (omega (arith, within, size)) (omega (arith, c.self.invariant.1, c.self.invariant.2)) c.turn.ensures.run)
 
