@@ -20,7 +20,7 @@ What is tested:
 - docs/FORMATS.md: its rules have the words that the definitions of texts spell, and no other, and each a name of its own. What each case writes is of its rule, and what is refused
   for its form isn't. Its tables have each event, message, state, status, trap type, key, field and fault of the definitions, and no other; each line of a
   refusal is that of a case. Each text that tools/words.py names has a rule, which begins as it says, and the table of formats says what reads it.
-- docs/ARCHITECTURE.md has each crate of crates.txt, in that order, and no other.
+- docs/ARCHITECTURE.md has each crate of crates.txt, in that order, and no other. tools/took.csv has each crate that the program is made from, and no other.
 - a crate of crates.txt stands on crates of its own floor and of those that the floor's line names; what it lists else is of the toolchain.
 - cases/README.md names each group of cases, but for those that have the name of a command. Each command is called by a case.
 - docs/REFUSALS.md: each row has calls of its crate, a clause of one of them or a word of it, and tests or cases, these as `group: name`; and each call of these crates that
@@ -29,6 +29,7 @@ What is tested:
 A row's second cell is read like this: parts are parted by ';', and what stands in `code` in a part is a function, method or
 type of the crate, or a clause of one named before it in that part. In brackets stand definitions, or an edit's crate.
 """
+import csv
 import json
 import re
 import sys
@@ -435,6 +436,27 @@ def check_architecture(findings, repository):
         findings.say(file, 0, 'its crates are not in the order of crates.txt')
 
 
+def crates_below(top):
+    """A crate and all that it stands on, by crates.txt."""
+    below = {name: words.split() for name, words in re.findall(r'^(\w+)(?: \w+=?\w*)*:(.*)$', (ROOT / 'crates.txt').read_text(), re.M)}
+    found, left = set(), [top]
+    while left:
+        name = left.pop()
+        if name in below and name not in found:
+            found.add(name)
+            left += below[name]
+    return found
+
+
+def check_took(findings):
+    """tools/took.csv has the seconds of each crate that the program is made from, and of no other."""
+    file = ROOT / 'tools' / 'took.csv'
+    with file.open() as rows:
+        took = {row['crate'] for row in csv.DictReader(rows)}
+    for name in sorted(took ^ crates_below('alw_cli')):
+        findings.say(file, 0, f'{name} has a row or is a crate of the program, and not both')
+
+
 def crates_in_order():
     """The crates of crates.txt."""
     return re.findall(r'^(\w+)(?: \w+=?\w*)*:', (ROOT / 'crates.txt').read_text(), re.M)
@@ -736,6 +758,7 @@ BY_THEMSELVES = {
     check_readme: 'README.md',
     check_words: 'README.md alewife docs/alewife.1 docs/completions/* tools/words.json',
     check_times: 'README.md alewife docs/alewife.1',
+    check_took: 'crates.txt tools/took.csv',
     check_cases: 'cases/*',
     check_examples: 'README.md docs/*.md examples/**/*',
     check_language: 'docs/LANGUAGE.md',
