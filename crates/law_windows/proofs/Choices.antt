@@ -1,12 +1,13 @@
 -- What comes next at a node below a bound is the same in two machines of which the node sees the same.
-use Rattle.std.proofs.Common.{◌≡◌, ◌≢◌, ℕ, ◌+◌, ◌<◌, ◌≤◌, Bool, true, false, not, ◌||◌, Option, List, [], ◌∷◌, ◌++◌, ◌⊎◌, inl, inr, length-append, refl, sym, ap, subst, ◌∙◌, arith}
+use Rattle.std.proofs.Common.{◌≡◌, ◌≢◌, ℕ, ◌+◌, ◌<◌, ◌≤◌, nat_le, Bool, true, false, not, ◌||◌, Option, List, [], ◌∷◌, ◌++◌, ◌⊎◌, inl, inr, length-append, refl, sym, ap, subst, ◌∙◌, arith}
 use Rattle.alw_msg.specs.declared.events.Event.{Event}
 use Rattle.alw_msg.specs.declared.events.Event.TheVariants.{Instr, Handle, Deliver, Evict}
 use Rattle.alw_msg.specs.declared.events.Entry.{Entry}
 use Rattle.alw_msg.specs.Events.{node_of}
 use Rattle.alw_image.specs.Images.{node_count}
-use Rattle.alw_model.specs.Machine.{MachineState, is_enabled, has_halted, step}
+use Rattle.alw_model.specs.Machine.{MachineState, stamp_at, is_enabled, is_within_limit, has_halted, step}
 use Rattle.alw_model.proofs.Journals.{and_parts, legal_push}
+use Rattle.law_order.proofs.Local.{enabled_alike, stamp_alike}
 use Rattle.law_times.proofs.Counted.{runs_within}
 use Rattle.law_times.proofs.Orders.{AreTimesOf}
 use Rattle.alw_mesh.specs.Histories.{History, IsRun, grown, entry_of, state_of, may_be_next}
@@ -16,9 +17,10 @@ use Rattle.alw_due.specs.Due.{times_in, slot_for, is_due_for, rank_of, arrived_a
 use Rattle.alw_due.proofs.Before.{heads_less}
 use Rattle.alw_due.proofs.Left as left
 use Rattle.alw_due.proofs.Timely.{next_is}
-use Rattle.law_windows.specs.Windows.{lookahead, start_next, key_next, IsDueAt, ComesBelow}
+use Rattle.law_windows.specs.Windows.{lookahead, start_next, key_next, IsDueAt, ComesBelow, LiftsNoLimit}
+use Rattle.law_windows.proofs.Limits.{stamp_within}
 use Rattle.law_windows.proofs.Others.{other_sees}
-use Rattle.law_windows.proofs.Sees.{Sees, TakesAlike, sees_itself, takes_alike, may_so, late, start_alike, slot_alike}
+use Rattle.law_windows.proofs.Sees.{Sees, TakesAlike, LimitAlike, sees_itself, takes_alike, alike_so, may_so, late, start_alike, slot_alike}
 use Rattle.law_windows.proofs.Together.{together_sees}
 
 -- a machine of which the journal is another
@@ -51,7 +53,7 @@ module _ (h : History) (costs : Costs) (n bound : ℕ) where
   moved k s s0 t t0 s' s0' t' t0' m times m' times' sees =
       subst (λ (z : (MachineState × Times) × (MachineState × Times)). Sees h.image k bound z.0.0 z.0.1 z.1.0 z.1.1) (λ x. ((sym m x, sym times x), (sym m' x, sym times' x))) sees
 
-  module _ (one other : List Entry) (run : IsRun (with_journal h one)) (also : IsRun (with_journal h other)) (sees : SeesIn one other) where
+  module _ (one other : List Entry) (run : IsRun (with_journal h one)) (also : IsRun (with_journal h other)) (sees : SeesIn one other) (held : LiftsNoLimit (with_journal h one) (with_journal h other)) where
     abbrev a : History
     a = with_journal h one
 
@@ -63,6 +65,20 @@ module _ (h : History) (costs : Costs) (n bound : ℕ) where
 
     are' : AreTimesOf h.image h.parameters costs (times_in b costs) (state_of b)
     are' = left.times_are_of h.image h.parameters costs other also.legal
+
+    -- the limit holds the node back alike
+    limit : (f : Event) → LimitAlike h.image h.parameters bound (state_of a) (times_in a costs) (state_of b) (times_in b costs) f
+    limit f alike enabled = go held
+      where
+        stamps : stamp_at h.image (state_of a) f ≡ stamp_at h.image (state_of b) f
+        stamps = stamp_alike h.image h.parameters (state_of a) (state_of b) f alike
+
+        go : LiftsNoLimit (with_journal h one) (with_journal h other) → is_within_limit h.image h.parameters (state_of a) f ≡ is_within_limit h.image h.parameters (state_of b) f
+        go (inl same) = λ x. nat_le (stamps x) h.parameters.limit || sym same x
+        go (inr none) =
+            let small = stamp_within b also none f (sym (enabled_alike h.image h.parameters (state_of a) (state_of b) f alike) ∙ enabled) in
+            (λ x. nat_le (stamps x) h.parameters.limit || has_halted (state_of a))
+            ∙ (ap (λ t. t || has_halted (state_of a)) small ∙ sym (ap (λ t. t || has_halted (state_of b)) small))
 
     -- what may be next in the second machine may be next in the first, with the same key, and is due alike
     record IsAlike (f : Event) : Type 0 where
@@ -92,7 +108,7 @@ module _ (h : History) (costs : Costs) (n bound : ℕ) where
     due_so : (f : Event) → node_of f ≡ n → may_be_next b f ≡ true → is_due_for a costs (times_in a costs) f ≡ is_due_for b costs (times_in b costs) f
     due_so (Instr at) is might =
         let at_node = sees_at (Instr at) is in
-        let handles : may_be_next a (Handle at) ≡ may_be_next b (Handle at) = may_so h.image h.parameters bound (state_of a) (times_in a costs) (state_of b) (times_in b costs) (Handle at) at_node refl in
+        let handles : may_be_next a (Handle at) ≡ may_be_next b (Handle at) = may_so h.image h.parameters bound (state_of a) (times_in a costs) (state_of b) (times_in b costs) (Handle at) at_node (limit (Handle at)) refl in
         let starts = start_so (Instr at) is might in
         λ x. not (handles x) || is_later (at_node.packets.here x) (starts x)
     due_so (Handle at) is might = refl
@@ -101,7 +117,7 @@ module _ (h : History) (costs : Costs) (n bound : ℕ) where
 
     alike : (f : Event) → node_of f ≡ n → may_be_next b f ≡ true → IsAlike f
     alike f at might = record {
-      may = may_so h.image h.parameters bound (state_of a) (times_in a costs) (state_of b) (times_in b costs) f (sees_at f at) (takes f at might).taken ∙ might;
+      may = may_so h.image h.parameters bound (state_of a) (times_in a costs) (state_of b) (times_in b costs) f (sees_at f at) (limit f) (takes f at might).taken ∙ might;
       key = λ x. start_so f at might x ∷ node_of f ∷ rank_of f ∷ arrived_so f at might x ∷ sender_of f ∷ [];
       due = due_so f at might;
     }
@@ -112,7 +128,7 @@ module _ (h : History) (costs : Costs) (n bound : ℕ) where
       where
         go : (is : Bool) → may_be_next b f ≡ is → (may_be_next b f ≡ true) ⊎ (bound ≤ start_next a costs f)
         go true is = inl is
-        go false is = inr (late h.image h.parameters bound (state_of a) (times_in a costs) (state_of b) (times_in b costs) costs (slot_for a f) f (sees_at f at) are.arrivals are'.arrivals may is)
+        go false is = inr (late h.image h.parameters bound (state_of a) (times_in a costs) (state_of b) (times_in b costs) costs (slot_for a f) f (sees_at f at) (limit f) are.arrivals are'.arrivals may is)
 
     -- ---- what comes
 
@@ -134,6 +150,12 @@ module _ (h : History) (costs : Costs) (n bound : ℕ) where
 
     pub start_same : (f : Event) → ComesBelow a costs n bound f → start_next a costs f ≡ start_next b costs f
     start_same f comes = start_so f comes.due.node (might_too f comes)
+
+    pub stamp_same : (f : Event) → ComesBelow a costs n bound f → (entry_of a f).stamp ≡ (entry_of b f).stamp
+    stamp_same f comes =
+        let at = comes.due.node in
+        stamp_alike h.image h.parameters (state_of a) (state_of b) f
+        (alike_so h.image h.parameters bound (state_of a) (times_in a costs) (state_of b) (times_in b costs) f (sees_at f at) (takes f at (might_too f comes)).taken)
 
     pub comes_in_other : (f : Event) → ComesBelow a costs n bound f → ComesBelow b costs n bound f
     comes_in_other f comes = record {
@@ -167,23 +189,23 @@ module _ (h : History) (costs : Costs) (n bound : ℕ) where
     -- ---- events
 
     -- an event of another node in the first machine
-    pub goes_elsewhere : (event : Event) → n < node_count h.image → n ≢ node_of event → may_be_next a event ≡ true → has_halted (state_of (grown a event)) ≡ has_halted (state_of a) →
+    pub goes_elsewhere : (event : Event) → n < node_count h.image → n ≢ node_of event → may_be_next a event ≡ true →
         bound ≤ start_next a costs event + lookahead costs → SeesIn (and_event h one event) other
-    goes_elsewhere event exists apart may halts low =
+    goes_elsewhere event exists apart may low =
         let enabled = (and_parts (is_enabled h.image h.parameters (state_of a) event) _ may).0 in
         let after : state_of (grown a event) ≡ step h.image h.parameters (state_of a) event = left.after_is a costs event run may in
         let timed = left.times_are a costs event run may in
         subst (λ (m : MachineState). Sees h.image n bound m (times_in (grown a event) costs) (state_of b) (times_in b costs)) (sym after)
         (subst (λ (t : Times). Sees h.image n bound (step h.image h.parameters (state_of a) event) t (state_of b) (times_in b costs)) (sym timed)
-        (other_sees h.image h.parameters costs n bound (state_of a) (times_in a costs) (state_of b) (times_in b costs) event exists apart enabled are (sym (ap has_halted after) ∙ halts) low sees))
+        (other_sees h.image h.parameters costs n bound (state_of a) (times_in a costs) (state_of b) (times_in b costs) event exists apart enabled are low sees))
 
     -- an event of the node in both
-    pub goes_together : (event : Event) → node_of event ≡ n → may_be_next b event ≡ true → may_be_next a event ≡ true → has_halted (state_of (grown a event)) ≡ has_halted (state_of a) →
+    pub goes_together : (event : Event) → node_of event ≡ n → may_be_next b event ≡ true → may_be_next a event ≡ true →
         SeesIn (and_event h one event) (and_event h other event)
-    goes_together event at might may halts =
+    goes_together event at might may =
         let enabled = (and_parts (is_enabled h.image h.parameters (state_of b) event) _ might).0 in
         let after : state_of (grown a event) ≡ step h.image h.parameters (state_of a) event = left.after_is a costs event run may in
         let after_too : state_of (grown b event) ≡ step h.image h.parameters (state_of b) event = left.after_is b costs event also might in
-        let plain = together_sees h.image h.parameters costs bound (state_of a) (times_in a costs) (state_of b) (times_in b costs) event (sees_at event at) enabled are are' (sym (ap has_halted after) ∙ halts) in
+        let plain = together_sees h.image h.parameters costs bound (state_of a) (times_in a costs) (state_of b) (times_in b costs) event (sees_at event at) enabled are are' in
         subst (λ (k : ℕ). Sees h.image k bound (state_of (grown a event)) (times_in (grown a event) costs) (state_of (grown b event)) (times_in (grown b event) costs)) at
         (moved (node_of event) _ _ _ _ _ _ _ _ after (left.times_are a costs event run may) after_too (left.times_are b costs event also might) plain)

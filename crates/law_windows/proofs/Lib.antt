@@ -2,9 +2,11 @@ pub mod Messages
 pub mod Same
 pub mod Sees
 pub mod Halted
+pub mod Limits
 pub mod Others
 pub mod Together
 pub mod Choices
 pub mod Alone
+pub mod Passing
 pub mod Windows
 pub mod Merges

@@ -13,15 +13,14 @@ use Rattle.alw_mesh.specs.Histories.{History, IsRun, grown, may_be_next}
 use Rattle.alw_mesh.specs.Ends.{next_events}
 use Rattle.alw_times.specs.declared.costs.Costs.{Costs}
 use Rattle.alw_due.specs.Due.{times_in, is_due_for, rank_of, arrived_at, sender_of, is_before, EventsAreTimed}
-use Rattle.alw_due.proofs.Ascending.{all_ascend}
 use Rattle.alw_due.proofs.Before.{first_le}
 use Rattle.alw_due.proofs.Mains.{here, in_next}
 use Rattle.alw_due.proofs.Members.{kept}
 use Rattle.alw_due.proofs.Timely.{first_may}
 use Rattle.law_windows.specs.Windows.{lookahead, start_next, key_next, IsWindow, timeline, told_of, NoLater, AreMerged, NothingIsLeft, IsRunAlone, IsMergeOf, IsFrontOf, events_of}
-use Rattle.law_windows.proofs.Alone.{chooses_alike, with_its_key}
+use Rattle.law_windows.proofs.Alone.{comes_timed, first_number, starts_ascend, chooses_alike, with_its_key}
 use Rattle.law_windows.proofs.Choices.{run_grows}
-use Rattle.law_windows.proofs.Windows.{IsWithin, AreWithin, all_within, comes_at, front_of, starts_alone, is_run_alone}
+use Rattle.law_windows.proofs.Windows.{IsWithin, AreWithin, all_within, front_of, starts_alone, is_run_alone}
 
 -- ---- the order
 
@@ -58,17 +57,13 @@ module _ (costs : Costs) (from : ℕ) (g : History) (event other : Event) (rest 
   nodes_ascend same apart =
       let early = within.early in
       let late = within.late in
-      let comes = comes_at costs (start_next g costs event) (grown g event) (node_of other) other refl are.1.0 (omega (arith, same, early, late)) in
+      let comes = comes_timed (grown g event) costs (node_of other) (start_next g costs event + lookahead costs) other refl are.1.0 (omega (arith, same, early, late)) in
       let exists = here (grown g event) other may_then in
-      let before = (chooses_alike g costs event run may within.halts (node_of other) exists apart other).0 comes in
-      let key = with_its_key g costs event run may within.halts (node_of other) exists apart other before in
+      let before = (chooses_alike g costs event run may within.limit (node_of other) exists apart other).0 comes in
+      let key = with_its_key g costs event run may within.limit (node_of other) exists apart other before in
       let there = kept (is_due_for g costs (times_in g costs)) (next_events g) other (in_next g other before.due.main before.due.may) before.due.due in
       by_first (ap first_number key) (are.0.first.first there.place other there.stands)
     where
-      first_number : List ℕ → ℕ
-      first_number [] = 0
-      first_number (number ∷ numbers) = number
-
       by_first : start_next (grown g event) costs other ≡ start_next g costs other → (other ≡ event) ⊎ (is_before (key_next g costs event) (key_next g costs other) ≡ true) → node_of event ≤ node_of other
       by_first starts (inl is) = absurd (apart (ap node_of is))
       by_first starts (inr lt) =
@@ -78,7 +73,7 @@ module _ (costs : Costs) (from : ℕ) (g : History) (event other : Event) (rest 
   one_no_later : NoLater (start_next g costs event, event) (start_next (grown g event) costs other, other)
   one_no_later = cases_lt_then (start_next (grown g event) costs other) (start_next g costs event) (λ lt. inl lt)
       (λ le.
-      let ascends = (all_ascend g costs (event ∷ other ∷ rest) after run are).0 within.halts in
+      let ascends = starts_ascend g costs event other run are.0 are.1.0 within.limit in
       let same : start_next g costs event ≡ start_next (grown g event) costs other = omega (arith, le, ascends) in
       inr (same, is_node (node_of event ≤ node_of other) (node_of other) (node_of event) (λ is. omega (arith, is)) (λ apart. nodes_ascend same apart)))
 

@@ -1,5 +1,5 @@
 -- An event of another node leaves what a node sees, but for messages that arrive a lookahead behind its start, or later.
-use Rattle.std.proofs.Common.{◌≡◌, ◌≢◌, ℕ, ◌+◌, ◌<◌, ◌≤◌, ◌==◌, true, cond, IsTrue, List, [], ◌++◌, length, append-nil, append_assoc, refl, sym, ap, subst, ◌∙◌}
+use Rattle.std.proofs.Common.{◌≡◌, ◌≢◌, ℕ, ◌+◌, ◌<◌, ◌≤◌, ◌==◌, cond, IsTrue, List, [], ◌++◌, length, append-nil, append_assoc, refl, sym, ap, subst, ◌∙◌}
 use Rattle.std.proofs.lemmas.Bool.{ne_eqb}
 use Rattle.std.proofs.lemmas.List.{get_or-set_other, length-set}
 use Rattle.alw_num.proofs.Weigh.{is_node}
@@ -10,10 +10,8 @@ use Rattle.alw_msg.specs.Events.{node_of}
 use Rattle.alw_image.specs.declared.parts.Parts.{Parts}
 use Rattle.alw_image.specs.Images.{node_count}
 use Rattle.alw_image.specs.Parameters.{Parameters}
-use Rattle.alw_model.specs.Contexts.{all_halted}
-use Rattle.alw_model.specs.NodeStates.{NodeState}
 use Rattle.alw_model.specs.NodeSteps.{Stepped}
-use Rattle.alw_model.specs.Machine.{MachineState, node_at, no_node, link_at, link_place, is_enabled, has_halted, links_taken, stepped_by, step}
+use Rattle.alw_model.specs.Machine.{MachineState, node_at, no_node, link_at, link_place, is_enabled, links_taken, stepped_by, step}
 use Rattle.alw_model.specs.Runs.{moment_of}
 use Rattle.law_lines.specs.Links.{GoBelow, msgs_to}
 use Rattle.law_lines.proofs.Steps.{enabled_is}
@@ -29,7 +27,6 @@ use Rattle.law_times.proofs.Changes.{pushes, read_apart}
 use Rattle.law_times.proofs.Effects.{port_by, goes, wakes_by, wakes_of_node, state_by, IsContextOf, processor_changes, controller_changes, draw_changes, packet_changes, Is, processor_at, controller_at, draw_at, packet_at, applied, left_is}
 use Rattle.law_times.proofs.Orders.{AreTimesOf}
 use Rattle.law_windows.specs.Windows.{lookahead, GoOnFrom}
-use Rattle.law_windows.proofs.Halted.{node_halted_stays}
 use Rattle.law_windows.proofs.Messages.{go_then, go_lower, sent_late, others_stay}
 use Rattle.law_windows.proofs.Same.{same_left, all_long}
 use Rattle.law_windows.proofs.Sees.{Sees, LinkGoesOn}
@@ -45,7 +42,7 @@ taken_long parts (Evict at set) arrivals = refl
 taken_long parts (Deliver from to) arrivals = length-set arrivals (link_place parts from.0 to.0) _
 
 module _ (parts : Parts) (parameters : Parameters) (costs : Costs) (n bound : ℕ) (s : MachineState) (t : Times) (s' : MachineState) (t' : Times) (e : Event) (exists : n < node_count parts) (apart : n ≢ node_of e)
-    (enabled : IsTrue (is_enabled parts parameters s e)) (are : AreTimesOf parts parameters costs t s) (halts : has_halted (step parts parameters s e) ≡ has_halted s) where
+    (enabled : IsTrue (is_enabled parts parameters s e)) (are : AreTimesOf parts parameters costs t s) where
   abbrev happened : TimedMoment
   happened = happening parts parameters s e
 
@@ -116,10 +113,6 @@ module _ (parts : Parts) (parameters : Parameters) (costs : Costs) (n bound : �
   pub other_sees : bound ≤ start + lookahead costs → Sees parts n bound s t s' t' → Sees parts n bound s1 t1 s' t'
   other_sees low sees = record {
     nodes = same_left no_node n s.nodes s'.nodes s1.nodes (length-set s.nodes (node_of e) v.node) (kept n apart) sees.nodes;
-    rest = λ k other all. is_node (all_halted (node_at s1 k).slots ≡ true) k (node_of e)
-        (λ same. subst (λ (j : ℕ). all_halted (node_at s j).slots ≡ true → all_halted (node_at s1 j).slots ≡ true) (sym same) (node_halted_stays parts parameters s e are.aimed enabled) (sees.rest k other all))
-        (λ away. ap (λ (node : NodeState). all_halted node.slots) (kept k away) ∙ sees.rest k other all);
-    halts = halts ∙ sees.halts;
     starts = same_left 0 n t.starts t'.starts t1.starts (length-set t.starts (node_of e) start) (get_or-set_other t.starts (node_of e) n start 0 apart) sees.starts;
     processors = same_left 0 n t.processors t'.processors t1.processors
         (ap (λ (x : Times). length x.processors) is ∙ all_long 0 (processor_changes finish e) t.processors)

@@ -1,5 +1,5 @@
 -- A node sees the same of two machines, but for messages that arrive at a bound or later: so it chooses alike below the bound.
-use Rattle.std.proofs.Common.{◌≡◌, ◌≢◌, ℕ, ◌+◌, ◌*◌, ◌<◌, ◌≤◌, nat_lt, nat_le, max, true, false, ◌&&◌, ◌||◌, IsTrue, Option, Some, None, List, [], ◌∷◌, ◌++◌, length, append-nil, refl, sym, ap, subst, ◌∙◌, arith}
+use Rattle.std.proofs.Common.{◌≡◌, ℕ, ◌+◌, ◌*◌, ◌<◌, ◌≤◌, nat_lt, max, Bool, true, false, ◌&&◌, IsTrue, Option, Some, None, List, [], ◌∷◌, ◌++◌, length, append-nil, refl, sym, ap, subst, ◌∙◌, arith}
 use Rattle.std.specs.List.{AllByRecursion}
 use Rattle.std.proofs.lemmas.Bool.{ltb-true}
 use Rattle.std.proofs.lemmas.List.{nil_from_length}
@@ -11,13 +11,13 @@ use Rattle.alw_msg.specs.Lists.{front}
 use Rattle.alw_image.specs.declared.parts.Parts.{Parts}
 use Rattle.alw_image.specs.Images.{node_count}
 use Rattle.alw_image.specs.Parameters.{Parameters}
-use Rattle.alw_model.specs.Contexts.{running, all_halted}
+use Rattle.alw_model.specs.Contexts.{running}
 use Rattle.alw_model.specs.NodeStates.{NodeState}
-use Rattle.alw_model.specs.Machine.{MachineState, node_at, no_node, link_at, link_place, taken_by, is_enabled, has_halted}
+use Rattle.alw_model.specs.Machine.{MachineState, node_at, no_node, link_at, link_place, taken_by, is_enabled, is_within_limit}
 use Rattle.alw_model.proofs.Journals.{and_parts}
 use Rattle.law_lines.proofs.Steps.{enabled_is}
 use Rattle.law_order.specs.Orders.{SeesAlike}
-use Rattle.law_order.proofs.Local.{has_front, enabled_alike, stamp_alike}
+use Rattle.law_order.proofs.Local.{has_front, enabled_alike}
 use Rattle.alw_ready.specs.Fits.{may_happen}
 use Rattle.alw_times.specs.declared.costs.Costs.{Costs}
 use Rattle.alw_times.specs.Times.{Times, queue_at, first_time, woken_at, arrival_of, begin_by, work_before, start_by}
@@ -38,11 +38,9 @@ module _ (parts : Parts) (n bound : ℕ) where
     pub more : List Msg
     pub link : link_at parts s from n ≡ link_at parts s' from n ++ more
 
-  -- The node has the same state and times in both machines, and its links go on in the first. Whom the second has halted the first has too.
+  -- the node has the same state and times in both machines, and its links go on in the first
   pub record Sees (s : MachineState) (t : Times) (s' : MachineState) (t' : Times) : Type 0 where
     pub nodes : SameAt no_node n s.nodes s'.nodes
-    pub rest : (k : ℕ) → k ≢ n → all_halted (node_at s' k).slots ≡ true → all_halted (node_at s k).slots ≡ true
-    pub halts : has_halted s ≡ has_halted s'
     pub starts : SameAt 0 n t.starts t'.starts
     pub processors : SameAt 0 n t.processors t'.processors
     pub controllers : SameAt 0 n t.controllers t'.controllers
@@ -58,8 +56,6 @@ module _ (parts : Parts) (n bound : ℕ) where
   pub sees_itself : (s : MachineState) (t : Times) → Sees s t s t
   sees_itself s t = record {
     nodes = itself no_node n s.nodes;
-    rest = λ k other is. is;
-    halts = refl;
     starts = itself 0 n t.starts;
     processors = itself 0 n t.processors;
     controllers = itself 0 n t.controllers;
@@ -120,18 +116,29 @@ module _ (parts : Parts) (parameters : Parameters) (bound : ℕ) (s : MachineSta
   pub alike_so : (f : Event) → Sees parts (node_of f) bound s t s' t' → taken_by parts s f ≡ taken_by parts s' f → SeesAlike parts f s s'
   alike_so f sees taken = record { node = sees.nodes.here; taken = taken }
 
-  pub may_so : (f : Event) → Sees parts (node_of f) bound s t s' t' → taken_by parts s f ≡ taken_by parts s' f → may_happen parts parameters s f ≡ may_happen parts parameters s' f
-  may_so f sees taken =
-      let alike = alike_so f sees taken in
-      λ x. enabled_alike parts parameters s s' f alike x && (nat_le (stamp_alike parts parameters s s' f alike x) parameters.limit || sees.halts x)
+  -- where it is enabled the limit lets it happen alike
+  abbrev pub LimitAlike : Event → Type 0
+  LimitAlike f = SeesAlike parts f s s' → IsTrue (is_enabled parts parameters s f) → is_within_limit parts parameters s f ≡ is_within_limit parts parameters s' f
+
+  pub may_so : (f : Event) → Sees parts (node_of f) bound s t s' t' → LimitAlike f → taken_by parts s f ≡ taken_by parts s' f → may_happen parts parameters s f ≡ may_happen parts parameters s' f
+  may_so f sees limit taken = go (is_enabled parts parameters s f) refl
+    where
+      alike : SeesAlike parts f s s'
+      alike = alike_so f sees taken
+
+      go : (b : Bool) → is_enabled parts parameters s f ≡ b → may_happen parts parameters s f ≡ may_happen parts parameters s' f
+      go true is = λ x. enabled_alike parts parameters s s' f alike x && limit alike is x
+      go false is =
+          ap (λ b. b && is_within_limit parts parameters s f) is
+          ∙ sym (ap (λ b. b && is_within_limit parts parameters s' f) (sym (enabled_alike parts parameters s s' f alike) ∙ is))
 
   -- what may happen in the first machine alone starts at the bound or later
-  pub late : (costs : Costs) (slot : Option ℕ) (f : Event) → Sees parts (node_of f) bound s t s' t' → Beside AreAsMany t.arrivals s.links → Beside AreAsMany t'.arrivals s'.links →
+  pub late : (costs : Costs) (slot : Option ℕ) (f : Event) → Sees parts (node_of f) bound s t s' t' → LimitAlike f → Beside AreAsMany t.arrivals s.links → Beside AreAsMany t'.arrivals s'.links →
       may_happen parts parameters s f ≡ true → may_happen parts parameters s' f ≡ false → bound ≤ start_by parts costs t slot f
-  late costs slot (Instr at) sees many also might isnt = absurd (let same = may_so (Instr at) sees refl in cc)
-  late costs slot (Handle at) sees many also might isnt = absurd (let same = may_so (Handle at) sees refl in cc)
-  late costs slot (Evict at set) sees many also might isnt = absurd (let same = may_so (Evict at set) sees refl in cc)
-  late costs slot (Deliver from to) sees many also might isnt = go (front (link_at parts s' from.0 to.0)) refl
+  late costs slot (Instr at) sees limit many also might isnt = absurd (let same = may_so (Instr at) sees limit refl in cc)
+  late costs slot (Handle at) sees limit many also might isnt = absurd (let same = may_so (Handle at) sees limit refl in cc)
+  late costs slot (Evict at set) sees limit many also might isnt = absurd (let same = may_so (Evict at set) sees limit refl in cc)
+  late costs slot (Deliver from to) sees limit many also might isnt = go (front (link_at parts s' from.0 to.0)) refl
     where
       event : Event
       event = Deliver from to
@@ -147,7 +154,7 @@ module _ (parts : Parts) (parameters : Parameters) (bound : ℕ) (s : MachineSta
 
       go : (head : Option Msg) → front (link_at parts s' from.0 to.0) ≡ head → bound ≤ start_by parts costs t slot event
       go (Some msg) is =
-          absurd (let same = may_so event sees (ap front on.link ∙ (front_more (link_at parts s' from.0 to.0) on.more msg is ∙ sym is)) in cc)
+          absurd (let same = may_so event sees limit (ap front on.link ∙ (front_more (link_at parts s' from.0 to.0) on.more msg is ∙ sym is)) in cc)
       go None is =
           let none : queue_at t'.arrivals p ≡ [] = nil_from_length (queue_at t'.arrivals p) (beside_at AreAsMany t'.arrivals s'.links p [] [] refl also ∙ nothing_there (link_at parts s' from.0 to.0) is) in
           let all : queue_at t.arrivals p ≡ on.arrivals.more = on.arrivals.after_is ∙ ap (λ (queue : List ℕ). queue ++ on.arrivals.more) none in

@@ -11,17 +11,14 @@ use Rattle.alw_msg.specs.Lists.{front, behind}
 use Rattle.alw_image.specs.declared.parts.Parts.{Parts}
 use Rattle.alw_image.specs.Images.{node_count}
 use Rattle.alw_image.specs.Parameters.{Parameters}
-use Rattle.alw_model.specs.Contexts.{all_halted}
-use Rattle.alw_model.specs.NodeStates.{NodeState}
 use Rattle.alw_model.specs.NodeSteps.{Stepped}
-use Rattle.alw_model.specs.Machine.{MachineState, node_at, no_node, link_at, link_place, is_enabled, has_halted, stepped_by, step}
+use Rattle.alw_model.specs.Machine.{MachineState, no_node, link_at, link_place, is_enabled, stepped_by, step}
 use Rattle.alw_model.proofs.Journals.{and_parts}
 use Rattle.law_lines.specs.Links.{GoBelow, msgs_to}
 use Rattle.law_lines.proofs.Steps.{enabled_is}
 use Rattle.law_order.specs.Orders.{SeesAlike, takes_from}
 use Rattle.law_order.proofs.Aimed.{sends_below}
-use Rattle.law_order.proofs.Halting.{halted_stays}
-use Rattle.law_order.proofs.Local.{HasFront, has_front, node_kept, enabled_alike, stepped_alike}
+use Rattle.law_order.proofs.Local.{HasFront, has_front, enabled_alike, stepped_alike}
 use Rattle.law_order.proofs.LinksAfter.{link_is}
 use Rattle.law_order.proofs.Places.{changed_here, changed_there, fits_where_front}
 use Rattle.alw_times.specs.declared.costs.Costs.{Costs}
@@ -34,7 +31,6 @@ use Rattle.law_times.proofs.Effects.{port_by, goes, wakes_by, state_by, processo
 use Rattle.law_times.proofs.Orders.{AreTimesOf, moment_alike}
 use Rattle.alw_times.specs.Happening.{happened_of}
 use Rattle.law_windows.specs.Windows.{GoOnFrom}
-use Rattle.law_windows.proofs.Halted.{halted_by, each_halted}
 use Rattle.law_windows.proofs.Messages.{unsent, go_none}
 use Rattle.law_windows.proofs.Others.{happening}
 use Rattle.law_windows.proofs.Same.{SameAt, same_changed, same_all}
@@ -103,7 +99,7 @@ module _ (parts : Parts) (bound : ℕ) where
       (has.0, ap (λ k. front (link_at parts s k b.0)) same ∙ has.1)
 
 module _ (parts : Parts) (parameters : Parameters) (costs : Costs) (bound : ℕ) (s : MachineState) (t : Times) (s' : MachineState) (t' : Times) (e : Event) (sees : Sees parts (node_of e) bound s t s' t')
-    (enabled' : IsTrue (is_enabled parts parameters s' e)) (are : AreTimesOf parts parameters costs t s) (are' : AreTimesOf parts parameters costs t' s') (halts : has_halted (step parts parameters s e) ≡ has_halted s) where
+    (enabled' : IsTrue (is_enabled parts parameters s' e)) (are : AreTimesOf parts parameters costs t s) (are' : AreTimesOf parts parameters costs t' s') where
   abbrev n : ℕ
   n = node_of e
 
@@ -179,26 +175,6 @@ module _ (parts : Parts) (parameters : Parameters) (costs : Costs) (bound : ℕ)
   below' : GoBelow (node_count parts) v'.sends
   below' = sends_below parts parameters s' e enabled' are'.aimed
 
-  -- ---- whom it leaves halted
-
-  halted_too : has_halted s1' ≡ true → has_halted s1 ≡ true
-  halted_too all = halted_by s1 (λ k. is_node (all_halted (node_at s1 k).slots ≡ true) k n
-      (λ same. subst (λ (j : ℕ). all_halted (node_at s1 j).slots ≡ true) (sym same)
-      (ap (λ (node : NodeState). all_halted node.slots) nodes_same.here ∙ each_halted s1' all n))
-      (λ other. ap (λ (node : NodeState). all_halted node.slots) (node_kept parts parameters s e v k other)
-      ∙ sees.rest k other (sym (ap (λ (node : NodeState). all_halted node.slots) (node_kept parts parameters s' e v' k other)) ∙ each_halted s1' all k)))
-    where
-      nodes_same : SameAt no_node n s1.nodes s1'.nodes
-      nodes_same = subst (λ (w : Stepped). SameAt no_node n s1.nodes (slice_set s'.nodes n w.node)) stepped (same_changed no_node n n (λ old. v.node) s.nodes s'.nodes sees.nodes)
-
-  halts_same : has_halted s1 ≡ has_halted s1'
-  halts_same = go (has_halted s') refl (has_halted s1') refl
-    where
-      go : (b : Bool) → has_halted s' ≡ b → (c : Bool) → has_halted s1' ≡ c → has_halted s1 ≡ has_halted s1'
-      go true is c also = (halts ∙ (sees.halts ∙ is)) ∙ sym (halted_stays parts parameters s' e enabled' is)
-      go false is false also = (halts ∙ (sees.halts ∙ is)) ∙ sym also
-      go false is true also = halted_too also ∙ sym also
-
   -- ---- its links
 
   abbrev out : List (ℕ × ℕ)
@@ -250,9 +226,6 @@ module _ (parts : Parts) (parameters : Parameters) (costs : Costs) (bound : ℕ)
   applied_sees : Sees parts n bound s1 t1 s1' t1'
   applied_sees = record {
     nodes = subst (λ (w : Stepped). SameAt no_node n s1.nodes (slice_set s'.nodes n w.node)) stepped (same_changed no_node n n (λ old. v.node) s.nodes s'.nodes sees.nodes);
-    rest = λ k other all. ap (λ (node : NodeState). all_halted node.slots) (node_kept parts parameters s e v k other)
-        ∙ sees.rest k other (sym (ap (λ (node : NodeState). all_halted node.slots) (node_kept parts parameters s' e v' k other)) ∙ all);
-    halts = halts_same;
     starts = same_changed 0 n n (λ old. start) t.starts t'.starts sees.starts;
     processors = same_all 0 (processor_changes finish e) n t.processors t'.processors sees.processors;
     controllers = same_all 0 (controller_changes finish e) n t.controllers t'.controllers sees.controllers;

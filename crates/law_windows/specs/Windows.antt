@@ -4,7 +4,7 @@ use Rattle.std.specs.List.{AllByRecursion}
 use Rattle.alw_msg.specs.declared.events.Event.{Event}
 use Rattle.alw_msg.specs.Events.{node_of, is_evict}
 use Rattle.alw_image.specs.Images.{node_count}
-use Rattle.alw_model.specs.Machine.{link_place, has_halted}
+use Rattle.alw_model.specs.Machine.{node_at, link_place, has_halted}
 use Rattle.alw_mesh.specs.Histories.{History, state_of, may_be_next, grown}
 use Rattle.alw_times.specs.declared.costs.Costs.{Costs}
 use Rattle.alw_times.specs.Times.{queue_at}
@@ -70,12 +70,20 @@ abbrev pub StartBelow : History → Costs → ℕ → List Event → Type 0
 StartBelow h costs bound [] = Unit {0}
 StartBelow h costs bound (event ∷ rest) = (start_next h costs event < bound) × StartBelow (grown h event) costs bound rest
 
--- Events of the timed schedule within the lookahead from a time on, before which none would start. That every context has halted doesn't come about among them.
+-- each node has a stamp left: its clock is below the limit
+abbrev pub NoneIsAtLimit : History → Type 0
+NoneIsAtLimit h = (n : ℕ) → n < node_count h.image → (node_at (state_of h) n).clock < h.parameters.limit
+
+-- Once every context has halted the limit holds no longer. From one machine to a later one it is lifted of no node that it holds back: this doesn't come about, or no node is at the limit.
+abbrev pub LiftsNoLimit : History → History → Type 0
+LiftsNoLimit before after = (has_halted (state_of after) ≡ has_halted (state_of before)) ⊎ NoneIsAtLimit after
+
+-- Events of the timed schedule within the lookahead from a time on, before which none would start. They lift the limit of no node that it holds back.
 pub record IsWindow (h : History) (costs : Costs) (from : ℕ) (events : List Event) (after : History) : Type 0 where
   pub timed : EventsAreTimed h costs events after
   pub none_before : (event : Event) → IsFirstDue h costs (times_in h costs) event → from ≤ start_next h costs event
   pub within : StartBelow h costs (from + lookahead costs) events
-  pub halted : has_halted (state_of after) ≡ has_halted (state_of h)
+  pub limit : LiftsNoLimit h after
 
 -- nothing that is due starts below a bound
 abbrev pub NothingIsLeft : History → Costs → ℕ → Type 0

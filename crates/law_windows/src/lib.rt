@@ -6,10 +6,9 @@ ghost use Rattle.std.specs.Prelude.{◌≡◌, ◌≢◌, ◌+◌, ◌<◌, ℕ,
 ghost use Rattle.alw_msg.specs.declared.events.Event.{Event};
 ghost use Rattle.alw_msg.specs.Events.{node_of};
 ghost use Rattle.alw_image.specs.Images.{node_count};
-ghost use Rattle.alw_model.specs.Machine.{has_halted};
-ghost use Rattle.alw_mesh.specs.Histories.{History, IsRun, state_of, may_be_next, grown};
+ghost use Rattle.alw_mesh.specs.Histories.{History, IsRun, may_be_next, grown};
 ghost use Rattle.alw_times.specs.declared.costs.Costs.{Costs};
-ghost use Rattle.law_windows.specs.Windows.{lookahead, arrivals_between, GoOnFrom, start_next, key_next, ComesBelow};
+ghost use Rattle.law_windows.specs.Windows.{lookahead, arrivals_between, GoOnFrom, start_next, key_next, ComesBelow, LiftsNoLimit};
 ghost use Rattle.law_windows.specs.Windows.{RunsAlone, IsRunAlone, IsWindow, NothingIsLeft, events_of, timeline, told_of, AreMerged, IsMergeOf, IsFrontOf};
 
 /// What an event sends to another node arrives no sooner than the lookahead behind the event's start, and
@@ -22,12 +21,12 @@ pub fn messages_take_time()
 {}
 
 /// An event of one node changes nothing of what comes next at another one before the lookahead behind the
-/// event's start, nor the key of it. The last context doesn't halt with the event.
+/// event's start, nor the key of it, where the event lifts the limit of no node that it holds back.
 pub fn nodes_choose_alone()
-    ensures comes { (h : History) → (costs : Costs) → (event : Event) → IsRun h → may_be_next h event ≡ true → has_halted (state_of (grown h event)) ≡ has_halted (state_of h) →
+    ensures comes { (h : History) → (costs : Costs) → (event : Event) → IsRun h → may_be_next h event ≡ true → LiftsNoLimit h (grown h event) →
         (n : ℕ) → n < node_count h.image → n ≢ node_of event → (other : Event) →
         ComesBelow (grown h event) costs n (start_next h costs event + lookahead costs) other ↔ ComesBelow h costs n (start_next h costs event + lookahead costs) other }
-    ensures key { (h : History) → (costs : Costs) → (event : Event) → IsRun h → may_be_next h event ≡ true → has_halted (state_of (grown h event)) ≡ has_halted (state_of h) →
+    ensures key { (h : History) → (costs : Costs) → (event : Event) → IsRun h → may_be_next h event ≡ true → LiftsNoLimit h (grown h event) →
         (n : ℕ) → n < node_count h.image → n ≢ node_of event → (other : Event) →
         ComesBelow h costs n (start_next h costs event + lookahead costs) other → key_next (grown h event) costs other ≡ key_next h costs other }
 {}
