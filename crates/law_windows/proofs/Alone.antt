@@ -1,5 +1,5 @@
 -- An event of another node leaves what comes next at a node before the lookahead.
-use Rattle.std.proofs.Common.{◌≡◌, ◌≢◌, ℕ, ◌+◌, ◌<◌, ◌≤◌, true, List, [], ◌∷◌, inl, ◌↔◌, refl, sym, ap, subst, arith}
+use Rattle.std.proofs.Common.{◌≡◌, ◌≢◌, ℕ, ◌+◌, ◌<◌, ◌≤◌, true, List, [], ◌∷◌, inl, ◌↔◌, refl, sym, ap, subst, ◌∙◌, arith}
 use Rattle.alw_num.proofs.Weigh.{is_node, cases_lt_then}
 use Rattle.alw_msg.specs.declared.events.Event.{Event}
 use Rattle.alw_msg.specs.Events.{node_of}
@@ -12,8 +12,8 @@ use Rattle.alw_due.specs.Due.{times_in, is_due_for, EventIsTimed}
 use Rattle.alw_due.proofs.Mains.{here, in_next}
 use Rattle.alw_due.proofs.Members.{kept, next_main}
 use Rattle.alw_due.proofs.Timely.{in_next_of, first_due, first_may, none_earlier}
-use Rattle.law_windows.specs.Windows.{lookahead, start_next, key_next, ComesBelow, LiftsNoLimit}
-use Rattle.law_windows.proofs.Choices.{SeesIn, and_event, run_grows, begins, comes_in_one, comes_in_other, key_same, goes_elsewhere}
+use Rattle.law_windows.specs.Windows.{lookahead, start_next, key_next, IsDueAt, ComesBelow, LiftsNoLimit, NothingIsLeft}
+use Rattle.law_windows.proofs.Choices.{SeesIn, and_event, run_grows, begins, comes_in_one, comes_in_other, key_same, late_too, goes_elsewhere}
 use Rattle.law_windows.proofs.Limits.{leads_itself, grown_leads, none_between}
 
 -- the event that comes next of all does so at its node
@@ -38,22 +38,40 @@ module _ (h : History) (costs : Costs) (event : Event) (run : IsRun h) (may : ma
       none_between h.image h.parameters (state_of h) (state_of (grown h event)) lifts (state_of (grown h event)) (state_of h)
       (record { since = leads; till = leads_itself (state_of (grown h event)) }) (record { since = leads_itself (state_of h); till = leads })
 
-  module _ (n : ℕ) (exists : n < node_count h.image) (apart : n ≢ node_of event) where
-    abbrev bound : ℕ
-    bound = start_next h costs event + lookahead costs
-
+  module _ (n : ℕ) (exists : n < node_count h.image) (apart : n ≢ node_of event) (bound : ℕ) (low : bound ≤ start_next h costs event + lookahead costs) where
     sees : SeesIn h costs n bound (and_event h h.journal event) h.journal
-    sees = goes_elsewhere h costs n bound h.journal h.journal run run (begins h costs n bound h.journal) (inl refl) event exists apart may (omega arith)
+    sees = goes_elsewhere h costs n bound h.journal h.journal run run (begins h costs n bound h.journal) (inl refl) event exists apart may low
 
-    pub chooses_alike : (other : Event) → ComesBelow (grown h event) costs n bound other ↔ ComesBelow h costs n bound other
-    chooses_alike other = (
+    pub chooses_below : (other : Event) → ComesBelow (grown h event) costs n bound other ↔ ComesBelow h costs n bound other
+    chooses_below other = (
       comes_in_other h costs n bound (and_event h h.journal event) h.journal (run_grows h event run may) run sees held other,
       comes_in_one h costs n bound (and_event h h.journal event) h.journal (run_grows h event run may) run sees held other,
     )
 
-    pub with_its_key : (other : Event) → ComesBelow h costs n bound other → key_next (grown h event) costs other ≡ key_next h costs other
-    with_its_key other comes = key_same h costs n bound (and_event h h.journal event) h.journal (run_grows h event run may) run sees held other
-        ((chooses_alike other).1 comes)
+    key_below : (other : Event) → ComesBelow h costs n bound other → key_next (grown h event) costs other ≡ key_next h costs other
+    key_below other comes = key_same h costs n bound (and_event h h.journal event) h.journal (run_grows h event run may) run sees held other
+        ((chooses_below other).1 comes)
+
+    -- what is due starts no sooner than a time where all did before
+    pub late_below : (from : ℕ) → from ≤ bound → ((other : Event) → IsDueAt h costs n other → from ≤ start_next h costs other) → (other : Event) → IsDueAt (grown h event) costs n other →
+        from ≤ start_next (grown h event) costs other
+    late_below = late_too h costs n bound (and_event h h.journal event) h.journal (run_grows h event run may) run sees held
+
+  module _ (n : ℕ) (exists : n < node_count h.image) (apart : n ≢ node_of event) where
+    pub chooses_alike : (other : Event) → ComesBelow (grown h event) costs n (start_next h costs event + lookahead costs) other ↔ ComesBelow h costs n (start_next h costs event + lookahead costs) other
+    chooses_alike = chooses_below n exists apart (start_next h costs event + lookahead costs) (omega arith)
+
+    pub with_its_key : (other : Event) → ComesBelow h costs n (start_next h costs event + lookahead costs) other → key_next (grown h event) costs other ≡ key_next h costs other
+    with_its_key = key_below n exists apart (start_next h costs event + lookahead costs) (omega arith)
+
+  -- nothing that is due starts before a time where nothing did before, and neither did the event
+  pub late_on : (from : ℕ) → from ≤ start_next h costs event → NothingIsLeft h costs from → NothingIsLeft (grown h event) costs from
+  late_on from late nothing n other is = is_node (from ≤ start_next (grown h event) costs other) n (node_of event)
+      (λ same. let rises = starts_rise h.image h.parameters costs h.journal [] (entry_of h event) (entry_of (grown h event) other) (here h event may) (is.node ∙ same) in omega (arith, late, rises))
+      (λ apart. late_below n exists apart (start_next h costs event + lookahead costs) (omega arith) from (omega (arith, late)) (nothing n) other is)
+    where
+      exists : n < node_count h.image
+      exists = subst (λ (k : ℕ). k < node_count h.image) is.node (here (grown h event) other is.may)
 
 -- ---- two events of the timed schedule
 

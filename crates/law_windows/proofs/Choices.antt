@@ -186,6 +186,14 @@ module _ (h : History) (costs : Costs) (n bound : ℕ) where
         go g is (inl might) = by_first g is might (comes.first g (due_in_other g is might))
         go g is (inr from_bound) = inr (heads_less (start_next a costs f) (start_next a costs g) _ (let below = comes.below in omega (arith, starts, below, from_bound)))
 
+    -- what is due starts no sooner than a time where in the second machine all does
+    pub late_too : (from : ℕ) → from ≤ bound → ((g : Event) → IsDueAt b costs n g → from ≤ start_next b costs g) → (f : Event) → IsDueAt a costs n f → from ≤ start_next a costs f
+    late_too from low all f is = go (alike_or_late f is.node is.may)
+      where
+        go : (may_be_next b f ≡ true) ⊎ (bound ≤ start_next a costs f) → from ≤ start_next a costs f
+        go (inl might) = subst (λ (start : ℕ). from ≤ start) (sym (start_so f is.node might)) (all f (due_in_other f is might))
+        go (inr late) = omega (arith, low, late)
+
     -- ---- events
 
     -- an event of another node in the first machine

@@ -10,3 +10,9 @@ pub mod Alone
 pub mod Passing
 pub mod Windows
 pub mod Merges
+pub mod Firsts
+pub mod Going
+pub mod InTurn
+pub mod InOrder
+pub mod ByNode
+pub mod Sorted

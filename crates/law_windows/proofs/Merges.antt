@@ -91,17 +91,17 @@ windows_ascend h costs from events after run window = ascend costs from h events
 
 -- ---- a merge is one
 
-told_here : (n : ℕ) (one : ℕ × Event) (rest : List (ℕ × Event)) → node_of one.1 ≡ n → told_of n (one ∷ rest) ≡ one ∷ told_of n rest
+pub told_here : (n : ℕ) (one : ℕ × Event) (rest : List (ℕ × Event)) → node_of one.1 ≡ n → told_of n (one ∷ rest) ≡ one ∷ told_of n rest
 told_here n one rest same = ap (λ b. cond b (one ∷ told_of n rest) (told_of n rest)) (eq-eqb (node_of one.1) n same)
 
-told_there : (n : ℕ) (one : ℕ × Event) (rest : List (ℕ × Event)) → node_of one.1 ≢ n → told_of n (one ∷ rest) ≡ told_of n rest
+pub told_there : (n : ℕ) (one : ℕ × Event) (rest : List (ℕ × Event)) → node_of one.1 ≢ n → told_of n (one ∷ rest) ≡ told_of n rest
 told_there n one rest other = ap (λ b. cond b (one ∷ told_of n rest) (told_of n rest)) (ne_eqb (node_of one.1) n other)
 
-some_is : {X : Type 0} (a b : X) → Some a ≡ Some b → a ≡ b
+pub some_is : {X : Type 0} (a b : X) → Some a ≡ Some b → a ≡ b
 some_is a b same = cc
 
 -- the first that is told of a node is one of all
-first_told : (P : ℕ × Event → Type 0) (n : ℕ) (told : List (ℕ × Event)) (one : ℕ × Event) → AllByRecursion P told → front (told_of n told) ≡ Some one → P one
+pub first_told : (P : ℕ × Event → Type 0) (n : ℕ) (told : List (ℕ × Event)) (one : ℕ × Event) → AllByRecursion P told → front (told_of n told) ≡ Some one → P one
 first_told P n [] one all is = absurd (cc)
 first_told P n (first ∷ rest) one all is = is_node (P one) (node_of first.1) n
     (λ same. subst P (some_is first one (sym (ap front (told_here n first rest same)) ∙ is)) all.0)

@@ -32,27 +32,49 @@ grown_journal h (event ∷ rest) =
     grown_journal (grown h event) rest
     ∙ ap (with_journal h) (append_assoc h.journal (entry_of h event ∷ []) (entries_by (grown h event) rest))
 
+-- the limit is of the image and the parameters, which stay
+pub lifts_none : (g : History) (events : List Event) → LiftsNoLimit g (grown_by g events) → LiftsNone g.image g.parameters (state_of g) (state_of (grown_by g events))
+lifts_none g events limit =
+    let is = grown_journal g events in
+    subst (λ (last : History). LiftsNone g.image g.parameters (state_of g) (state_of last)) (sym is) (subst (λ (last : History). LiftsNoLimit g last) is limit)
+
+pub lifts_no_limit : (g : History) (events : List Event) → LiftsNone g.image g.parameters (state_of g) (state_of (grown_by g events)) → LiftsNoLimit g (grown_by g events)
+lifts_no_limit g events none =
+    let is = grown_journal g events in
+    subst (λ (last : History). LiftsNoLimit g last) (sym is) (subst (λ (last : History). LiftsNone g.image g.parameters (state_of g) (state_of last)) is none)
+
 module _ (costs : Costs) (from : ℕ) where
   abbrev pub bound : ℕ
   bound = from + lookahead costs
 
+  -- each comes next at its node
+  abbrev pub AllCome : History → List Event → Type 0
+  AllCome g [] = Unit {0}
+  AllCome g (event ∷ rest) = ComesBelow g costs (node_of event) bound event × AllCome (grown g event) rest
+
+  pub all_run : (g : History) (events : List Event) → IsRun g → AllCome g events → IsRun (grown_by g events)
+  all_run g [] run all = run
+  all_run g (event ∷ rest) run all = all_run (grown g event) rest (run_grows g event run all.0.due.may) all.1
+
+  pub all_lead : (g : History) (events : List Event) → IsRun g → AllCome g events → Leads (state_of g) (state_of (grown_by g events))
+  all_lead g [] run all = leads_itself (state_of g)
+  all_lead g (event ∷ rest) run all =
+      let may = all.0.due.may in
+      leads_then (state_of g) (state_of (grown g event)) (state_of (grown_by (grown g event) rest)) (grown_leads g costs event run may) (all_lead (grown g event) rest (run_grows g event run may) all.1)
+
+  -- and starts no sooner than a time, and lifts no limit
   pub record Passes (g : History) (event : Event) : Type 0 where
     pub comes : ComesBelow g costs (node_of event) bound event
     pub late : from ≤ start_next g costs event
+    pub limit : LiftsNoLimit g (grown g event)
 
   abbrev pub AllPass : History → List Event → Type 0
   AllPass g [] = Unit {0}
   AllPass g (event ∷ rest) = Passes g event × AllPass (grown g event) rest
 
-  pub all_run : (g : History) (events : List Event) → IsRun g → AllPass g events → IsRun (grown_by g events)
-  all_run g [] run all = run
-  all_run g (event ∷ rest) run all = all_run (grown g event) rest (run_grows g event run all.0.comes.due.may) all.1
-
-  pub all_lead : (g : History) (events : List Event) → IsRun g → AllPass g events → Leads (state_of g) (state_of (grown_by g events))
-  all_lead g [] run all = leads_itself (state_of g)
-  all_lead g (event ∷ rest) run all =
-      let may = all.0.comes.due.may in
-      leads_then (state_of g) (state_of (grown g event)) (state_of (grown_by (grown g event) rest)) (grown_leads g costs event run may) (all_lead (grown g event) rest (run_grows g event run may) all.1)
+  pub all_come : (g : History) (events : List Event) → AllPass g events → AllCome g events
+  all_come g [] all = tt
+  all_come g (event ∷ rest) all = (all.0.comes, all_come (grown g event) rest all.1)
 
   -- ---- all nodes go on in one machine, and a node alone in another
 
@@ -85,11 +107,10 @@ module _ (costs : Costs) (from : ℕ) where
     under_way_first run = record { run = run; also = run; sees = begins h costs n bound h.journal; since = leads_itself (state_of h); others = λ k apart. refl }
 
     -- an event of another node
-    pub passes_elsewhere : (one other : List Entry) (event : Event) → AreUnderWay one other → LiftsNoLimit (with_journal h one) (with_journal h other) → n ≢ node_of event → Passes (with_journal h one) event → AreUnderWay (and_event h one event) other
-    passes_elsewhere one other event under limit apart passes =
+    pub passes_elsewhere : (one other : List Entry) (event : Event) → AreUnderWay one other → LiftsNoLimit (with_journal h one) (with_journal h other) → n ≢ node_of event →
+        may_be_next (with_journal h one) event ≡ true → from ≤ start_next (with_journal h one) costs event → AreUnderWay (and_event h one event) other
+    passes_elsewhere one other event under limit apart may late =
         let a = with_journal h one in
-        let may = passes.comes.due.may in
-        let late = passes.late in
         record {
           run = run_grows a event under.run may;
           also = under.also;
@@ -144,7 +165,7 @@ module _ (costs : Costs) (from : ℕ) where
 
         limit : LiftsNoLimit (with_journal h one) (with_journal h other)
         limit = held one other under whole
-            (leads_then (state_of (with_journal h one)) (state_of (grown_by (with_journal h one) (event ∷ rest))) end (all_lead (with_journal h one) (event ∷ rest) under.run passing) till)
+            (leads_then (state_of (with_journal h one)) (state_of (grown_by (with_journal h one) (event ∷ rest))) end (all_lead (with_journal h one) (event ∷ rest) under.run (all_come (with_journal h one) (event ∷ rest) passing)) till)
 
         go : (t : Bool) → (node_of event == n) ≡ t →
             ((next : List Entry) → AreUnderWay (and_event h one event) next → Goes (grown_by (with_journal h (and_event h one event)) rest) next (events_of n rest)
@@ -166,4 +187,4 @@ module _ (costs : Costs) (from : ℕ) where
               last = rests.last;
             }
         go false is more =
-            more other (passes_elsewhere one other event under limit (λ same. eqb-false (node_of event) n is (sym same)) passing.0)
+            more other (passes_elsewhere one other event under limit (λ same. eqb-false (node_of event) n is (sym same)) passing.0.comes.due.may passing.0.late)

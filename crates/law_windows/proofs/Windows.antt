@@ -14,11 +14,11 @@ use Rattle.law_windows.specs.Windows.{lookahead, start_next, key_next, ComesBelo
 use Rattle.law_windows.proofs.Alone.{comes_timed, starts_ascend}
 use Rattle.law_windows.proofs.Choices.{with_journal, and_event, run_grows, comes_in_one}
 use Rattle.law_windows.proofs.Limits.{Leads, LiftsNone, leads_itself, leads_then, grown_leads, none_between}
-use Rattle.law_windows.proofs.Passing.{AllPass, Goes, goes, held, all_lead, under_way_first, grown_journal, entries_by, entries_at}
+use Rattle.law_windows.proofs.Passing.{AllPass, Goes, goes, held, all_lead, all_come, lifts_none, under_way_first, entries_by, entries_at}
 
 -- ---- a run alone is one
 
-same_next : (h : History) (costs : Costs) (n bound : ℕ) (one other : Event) → ComesBelow h costs n bound one → ComesBelow h costs n bound other → one ≡ other
+pub same_next : (h : History) (costs : Costs) (n bound : ℕ) (one other : Event) → ComesBelow h costs n bound one → ComesBelow h costs n bound other → one ≡ other
 same_next h costs n bound one other comes also = go (comes.first other also.due) (also.first one comes.due)
   where
     go : (other ≡ one) ⊎ (is_before (key_next h costs one) (key_next h costs other) ≡ true) → (one ≡ other) ⊎ (is_before (key_next h costs other) (key_next h costs one) ≡ true) → one ≡ other
@@ -50,6 +50,11 @@ timed_leads costs g [] after run are = subst (λ (h : History). Leads (state_of 
 timed_leads costs g (event ∷ rest) after run are =
     let may = timed_may costs g event are.0 in
     leads_then (state_of g) (state_of (grown g event)) (state_of after) (grown_leads g costs event run may) (timed_leads costs (grown g event) rest after (run_grows g event run may) are.1)
+
+window_lifts : (costs : Costs) (from : ℕ) (g : History) (events : List Event) (after : History) → IsWindow g costs from events after → LiftsNone g.image g.parameters (state_of g) (state_of after)
+window_lifts costs from g events after window =
+    let is = timed_after costs g events after window.timed in
+    subst (λ (last : History). LiftsNone g.image g.parameters (state_of g) (state_of last)) is (lifts_none g events (subst (λ (last : History). LiftsNoLimit g last) (sym is) window.limit))
 
 module _ (costs : Costs) (from : ℕ) where
   abbrev bound : ℕ
@@ -94,20 +99,14 @@ module _ (costs : Costs) (from : ℕ) where
   first_late g [] after window = tt
   first_late g (event ∷ rest) after window = window.none_before event window.timed.0.first
 
-  -- the limit is of the image and the parameters, which stay
-  lifts_none : (g : History) (events : List Event) (after : History) → EventsAreTimed g costs events after → LiftsNoLimit g after → LiftsNone g.image g.parameters (state_of g) (state_of after)
-  lifts_none g events after are limit =
-      let is = sym (timed_after costs g events after are) ∙ grown_journal g events in
-      subst (λ (last : History). LiftsNone g.image g.parameters (state_of g) (state_of last)) (sym is) (subst (λ (last : History). LiftsNoLimit g last) is limit)
-
   pub all_within : (g : History) (events : List Event) (after : History) → IsRun g → IsWindow g costs from events after → AreWithin g events
   all_within g events after run window =
-      are_within g after (lifts_none g events after window.timed window.limit) g.journal events run (leads_itself (state_of g)) window.timed window.within (first_late g events after window)
+      are_within g after (window_lifts costs from g events after window) g.journal events run (leads_itself (state_of g)) window.timed window.within (first_late g events after window)
 
   all_pass : (g : History) (events : List Event) (after : History) → EventsAreTimed g costs events after → AreWithin g events → AllPass costs from g events
   all_pass g [] after are within = tt
   all_pass g (event ∷ rest) after are within =
-      (record { comes = comes_timed g costs (node_of event) bound event refl are.0 within.0.early; late = within.0.late }, all_pass (grown g event) rest after are.1 within.1)
+      (record { comes = comes_timed g costs (node_of event) bound event refl are.0 within.0.early; late = within.0.late; limit = within.0.limit }, all_pass (grown g event) rest after are.1 within.1)
 
 -- ---- the laws
 
@@ -116,13 +115,13 @@ module _ (h : History) (costs : Costs) (from : ℕ) (events : List Event) (after
   end = state_of (grown_by h events)
 
   lifts : LiftsNone h.image h.parameters (state_of h) (state_of (grown_by h events))
-  lifts = subst (λ (last : History). LiftsNone h.image h.parameters (state_of h) (state_of last)) (sym (timed_after costs h events after window.timed)) (lifts_none costs from h events after window.timed window.limit)
+  lifts = subst (λ (last : History). LiftsNone h.image h.parameters (state_of h) (state_of last)) (sym (timed_after costs h events after window.timed)) (window_lifts costs from h events after window)
 
   passing : AllPass costs from h events
   passing = all_pass costs from h events after window.timed (all_within costs from h events after run window)
 
   till : Leads (state_of h) (state_of (grown_by h events))
-  till = all_lead costs from h events run passing
+  till = all_lead costs from h events run (all_come costs from h events passing)
 
   all : Goes costs from h end lifts n exists (grown_by h events) h.journal (events_of n events) (told_of n (timeline h costs events)) (entries_at n (entries_by h events))
   all = goes costs from h end lifts n exists h.journal h.journal events (under_way_first costs from h end lifts n exists run) till (leads_itself end) passing
