@@ -64,14 +64,19 @@ module _ (h : History) (costs : Costs) (event : Event) (run : IsRun h) (may : ma
     pub with_its_key : (other : Event) → ComesBelow h costs n (start_next h costs event + lookahead costs) other → key_next (grown h event) costs other ≡ key_next h costs other
     with_its_key = key_below n exists apart (start_next h costs event + lookahead costs) (omega arith)
 
-  -- nothing that is due starts before a time where nothing did before, and neither did the event
-  pub late_on : (from : ℕ) → from ≤ start_next h costs event → NothingIsLeft h costs from → NothingIsLeft (grown h event) costs from
-  late_on from late nothing n other is = is_node (from ≤ start_next (grown h event) costs other) n (node_of event)
-      (λ same. let rises = starts_rise h.image h.parameters costs h.journal [] (entry_of h event) (entry_of (grown h event) other) (here h event may) (is.node ∙ same) in omega (arith, late, rises))
-      (λ apart. late_below n exists apart (start_next h costs event + lookahead costs) (omega arith) from (omega (arith, late)) (nothing n) other is)
+  -- nothing that is due at a node starts before a time where nothing did before, and the event doesn't if it is the node's
+  pub late_at : (time n : ℕ) → time ≤ start_next h costs event + lookahead costs → (node_of event ≡ n → time ≤ start_next h costs event) → ((other : Event) → IsDueAt h costs n other → time ≤ start_next h costs other) →
+      (other : Event) → IsDueAt (grown h event) costs n other → time ≤ start_next (grown h event) costs other
+  late_at time n low own all other is = is_node (time ≤ start_next (grown h event) costs other) n (node_of event)
+      (λ same. let rises = starts_rise h.image h.parameters costs h.journal [] (entry_of h event) (entry_of (grown h event) other) (here h event may) (is.node ∙ same) in let late = own (sym same) in omega (arith, late, rises))
+      (λ apart. late_below n exists apart (start_next h costs event + lookahead costs) (omega arith) time low all other is)
     where
       exists : n < node_count h.image
       exists = subst (λ (k : ℕ). k < node_count h.image) is.node (here (grown h event) other is.may)
+
+  -- nor at any node
+  pub late_on : (from : ℕ) → from ≤ start_next h costs event → NothingIsLeft h costs from → NothingIsLeft (grown h event) costs from
+  late_on from late nothing n = late_at from n (omega (arith, late)) (λ same. late) (nothing n)
 
 -- ---- two events of the timed schedule
 

@@ -16,3 +16,4 @@ pub mod InTurn
 pub mod InOrder
 pub mod ByNode
 pub mod Sorted
+pub mod Sorting

@@ -30,7 +30,7 @@ later_then one other third (inl lt) (inr also) = inl (omega (arith, lt, also.0))
 later_then one other third (inr le) (inl also) = inl (omega (arith, le.0, also))
 later_then one other third (inr le) (inr also) = inr (le.0 ∙ also.0, omega (arith, le.1, also.1))
 
-all_later : (one other : ℕ × Event) (told : List (ℕ × Event)) → NoLater one other → AllByRecursion (NoLater other) told → AllByRecursion (NoLater one) told
+pub all_later : (one other : ℕ × Event) (told : List (ℕ × Event)) → NoLater one other → AllByRecursion (NoLater other) told → AllByRecursion (NoLater one) told
 all_later one other [] le all = tt
 all_later one other (third ∷ rest) le all = (later_then one other third le all.0, all_later one other rest le all.1)
 

@@ -1,7 +1,8 @@
 -- Nodes that go through a window in turn, and what it comes to: the timed schedule once what is told of them is sorted.
-use Rattle.std.specs.Prelude.{◌≡◌, ℕ, ◌+◌, ◌<◌, ◌≤◌, false, List, [], ◌∷◌, ◌++◌, map}
+use Rattle.std.specs.Prelude.{◌==◌, ◌||◌, ◌&&◌, nat_lt, Bool, cond, ◌≡◌, ℕ, ◌+◌, ◌<◌, ◌≤◌, false, List, [], ◌∷◌, ◌++◌, map}
 use Rattle.std.specs.List.{Contains}
 use Rattle.alw_msg.specs.declared.events.Event.{Event}
+use Rattle.alw_msg.specs.Events.{node_of}
 use Rattle.alw_image.specs.Images.{node_count}
 use Rattle.alw_model.specs.Machine.{any_trapped}
 use Rattle.alw_mesh.specs.Histories.{History, IsRun, state_of}
@@ -33,6 +34,20 @@ pub record GoInTurn (h : History) (costs : Costs) (from : ℕ) (nodes : List ℕ
 pub record IsSortOf (sorted told : List (ℕ × Event)) : Type 0 where
   pub merged : AreMerged sorted
   pub same : (n : ℕ) → told_of n sorted ≡ told_of n told
+
+-- one comes before another: by start, and then by node
+abbrev pub starts_before : ℕ × Event → ℕ × Event → Bool
+starts_before one other = nat_lt one.0 other.0 || (one.0 == other.0 && nat_lt (node_of one.1) (node_of other.1))
+
+-- one more among others that are sorted, before all that don't come before it
+abbrev pub put_by_start : ℕ × Event → List (ℕ × Event) → List (ℕ × Event)
+put_by_start one [] = one ∷ []
+put_by_start one (first ∷ rest) = cond (starts_before first one) (first ∷ put_by_start one rest) (one ∷ first ∷ rest)
+
+-- what is told by start and then by node: what ties stays in order
+abbrev pub sort_by_start : List (ℕ × Event) → List (ℕ × Event)
+sort_by_start [] = []
+sort_by_start (one ∷ rest) = put_by_start one (sort_by_start rest)
 
 -- the events of what is told
 abbrev pub events_told : List (ℕ × Event) → List Event

@@ -9,7 +9,7 @@ ghost use Rattle.alw_image.specs.Images.{node_count};
 ghost use Rattle.alw_mesh.specs.Histories.{History, IsRun, may_be_next, grown};
 ghost use Rattle.alw_times.specs.declared.costs.Costs.{Costs};
 ghost use Rattle.law_windows.specs.Windows.{lookahead, arrivals_between, GoOnFrom, start_next, key_next, ComesBelow, LiftsNoLimit};
-ghost use Rattle.law_windows.specs.Turns.{WhereNodesGoInTurn, AreAlike, events_told};
+ghost use Rattle.law_windows.specs.Turns.{in_turn, GoInTurn, IsSortOf, WhereNodesGoInTurn, AreAlike, events_told, sort_by_start};
 ghost use Rattle.law_windows.specs.Windows.{RunsAlone, grown_by, IsRunAlone, IsWindow, NothingIsLeft, events_of, timeline, told_of, AreMerged, IsMergeOf, IsFrontOf};
 
 /// What an event sends to another node arrives no sooner than the lookahead behind the event's start, and
@@ -61,8 +61,10 @@ pub fn windows_merge_by_start()
 
 /// Nodes may go through a window in turn, each by itself in the machine that those before it left. Whatever list
 /// is the sort by start and node of what is told of them is what the timed schedule takes, up to the window's
-/// end, and it leaves the state and the times that they leave. None of them traps.
+/// end, and it leaves the state and the times that they leave. There is such a list. None of them traps.
 pub fn nodes_may_go_in_turn()
+    ensures sort { (h : History) → (costs : Costs) → (from : ℕ) → (nodes : List ℕ) → (parts : List (List Event)) → IsRun h → GoInTurn h costs from nodes parts →
+        IsSortOf (sort_by_start (timeline h costs (in_turn parts))) (timeline h costs (in_turn parts)) }
     ensures timed { WhereNodesGoInTurn (λ h costs from turns sorted. IsWindow h costs from (events_told sorted) (grown_by h (events_told sorted))) }
     ensures told { WhereNodesGoInTurn (λ h costs from turns sorted. timeline h costs (events_told sorted) ≡ sorted) }
     ensures left { WhereNodesGoInTurn (λ h costs from turns sorted. NothingIsLeft (grown_by h (events_told sorted)) costs (from + lookahead costs)) }

@@ -1,6 +1,10 @@
 -- By what each node sees of the machine in which all go on, event after event of the sort.
 use Rattle.law_windows.proofs.Sorted.{is_window, told_again, nothing_left, both_alike}
+use Rattle.law_windows.proofs.Sorting.{is_sorted}
 use Rattle.law_windows.proofs.nodes_may_go_in_turn.Goals as goal
+
+pub returns-clause-sort : goal.returns-clause-sort
+returns-clause-sort c = is_sorted
 
 pub returns-clause-timed : goal.returns-clause-timed
 returns-clause-timed c = λ h costs from nodes parts run turns sorted sort. is_window h costs from nodes parts run turns sorted sort
