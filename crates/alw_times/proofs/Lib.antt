@@ -1,3 +1,4 @@
 pub mod Bounds
 pub mod Rising
+pub mod OneTurn
 pub mod Walks

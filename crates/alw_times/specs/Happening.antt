@@ -1,10 +1,13 @@
 -- What times depend on of an event that happened.
-use Rattle.std.specs.Prelude.{ℕ, Bool, not, ◌&&◌, Option, Some, None, List, map}
+use Rattle.std.specs.Prelude.{◌≡◌, ℕ, Bool, true, not, ◌&&◌, Option, Some, None, List, map}
 use Rattle.std.specs.List.{range_with_len}
+use Rattle.alw_num.specs.declared.addresses.NodeNo.{NodeNo}
+use Rattle.alw_msg.specs.declared.events.Event.TheVariants.{Instr}
 use Rattle.alw_msg.specs.declared.messages.Kind.{Kind}
 use Rattle.alw_msg.specs.declared.messages.Msg.{Msg}
 use Rattle.alw_msg.specs.Statuses.{is_ready}
 use Rattle.alw_model.specs.Contexts.{Slot, slot_at, running}
+use Rattle.alw_model.specs.Counts.{is_turn}
 use Rattle.alw_model.specs.Runs.{Moment}
 use Rattle.alw_times.specs.declared.happenings.TimedMoment.{TimedMoment}
 
@@ -26,3 +29,10 @@ happened_of moment = record {
   did = moment.stepped.did;
   woken = map (becomes_ready moment.before.slots moment.stepped.node.slots) (range_with_len 0 4);
 }
+
+-- what happened was a turn of a node, with the slot that could run and the one that ran last
+pub record IsTurnOf (at : NodeNo) (slot : Option ℕ) (last : ℕ) (happened : TimedMoment) : Type 0 where
+  pub event_is : happened.event ≡ Instr at
+  pub slot_is : happened.slot ≡ slot
+  pub last_is : happened.last ≡ last
+  pub turn_is : is_turn happened.did ≡ true

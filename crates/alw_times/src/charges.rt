@@ -43,8 +43,8 @@ fn writing_cost(costs: &Costs, sends: &Sends) -> u64
     u64::from(costs.inv) * u64::from(sends.len().saturating_sub(1))
 }
 
-// What an instruction takes in a slot, where another one may have run last.
-fn turn_cost(costs: &Costs, last: u8, slot: Option<u8>) -> u64
+/// What an instruction takes in a slot, where another one may have run last.
+pub fn turn_cost(costs: &Costs, last: u8, slot: Option<u8>) -> u64
     ensures cost { result ≡ turn_cost costs.now last slot }
     ensures few { result < 2 ^ 17 }
 {

@@ -11,6 +11,7 @@ mod leaving;
 mod places;
 mod queues;
 mod starting;
+mod turning;
 
 pub use clocks::Clocks;
 pub use costs::Costs;
