@@ -1,5 +1,5 @@
 -- The times of one event more.
-use Rattle.std.proofs.Common.{◌≡◌, ℕ, ◌+◌, ◌*◌, ◌<◌, ◌^◌, true, Option, None, Some, List, [], ◌∷◌, ◌++◌, length, Vec, Global, IfSome, refl, sym, ap, subst, ◌∙◌, arith}
+use Rattle.std.proofs.Common.{◌≡◌, ℕ, ◌+◌, ◌*◌, ◌<◌, ◌^◌, true, false, Option, None, Some, List, [], ◌∷◌, ◌++◌, length, Vec, Global, IfSome, refl, sym, ap, subst, ◌∙◌, arith}
 use Rattle.std.specs.Option.{is_some, option_map}
 use Rattle.std.proofs.lemmas.List.{length-append}
 use Rattle.std.proofs.lemmas.Option.{IfSome_then}
@@ -67,6 +67,11 @@ few_times start h now run kept = wider (length h.journal * 2 ^ 33) (2 ^ 63) (few
 some_map : {A B : Type 0} (f : A → B) (o : Option A) → is_some (option_map f o) ≡ is_some o
 some_map f None = refl
 some_map f (Some a) = refl
+
+-- where no waits are told, none are told more
+pub none_told : (next : WaitsSoFar → WaitsSoFar) (waits : Option WaitsSoFar) → is_some waits ≡ false → waits ≡ option_map next waits
+none_told next None is = refl
+none_told next (Some waits) is = absurd (cc)
 
 more_waits : (P Q : WaitsSoFar → Type 0) (next : WaitsSoFar → WaitsSoFar) (old new : Option WaitsSoFar) → new ≡ option_map next old → IfSome old P
     → (is_some old ≡ true → (waits : WaitsSoFar) → P waits → Q (next waits)) → IfSome new Q

@@ -1,5 +1,5 @@
 -- What is read of a node before an event, and what its moment says.
-use Rattle.std.proofs.Common.{◌≡◌, ℕ, ◌*◌, ◌<◌, ◌≤◌, ◌^◌, false, Option, None, Some, List, length, refl, ap, subst, ◌∙◌, arith}
+use Rattle.std.proofs.Common.{◌≡◌, ℕ, ◌*◌, ◌<◌, ◌≤◌, ◌^◌, true, false, Option, None, Some, List, length, refl, ap, subst, ◌∙◌, arith}
 use Rattle.std.proofs.lemmas.Bool.{ltb-true}
 use Rattle.std.proofs.lemmas.List.{get_or-set_same}
 use Rattle.std.proofs.Math.ListN.{get_or-eq_default}
@@ -11,13 +11,13 @@ use Rattle.alw_msg.specs.Events.{node_of}
 use Rattle.alw_msg.specs.Statuses.{is_ready}
 use Rattle.alw_image.specs.Images.{node_count}
 use Rattle.alw_model.specs.Contexts.{Slot, no_slot, running}
-use Rattle.alw_model.specs.Machine.{MachineState, no_node, node_at, stepped_by, IsNext}
+use Rattle.alw_model.specs.Machine.{MachineState, no_node, node_at, stepped_by, is_enabled, IsNext}
 use Rattle.alw_model.proofs.Journals.{and_parts, state_push}
 use Rattle.alw_proc.proofs.Keeping.{runs_within}
 use Rattle.law_machine.proofs.Bound.{sets_range}
 use Rattle.law_machine.proofs.MachineRuns.{always_kept}
 use Rattle.law_machine.proofs.RunFacts.{always_bounded}
-use Rattle.alw_mesh.specs.Histories.{History, IsRun, state_of, entry_of, grown}
+use Rattle.alw_mesh.specs.Histories.{History, IsRun, state_of, may_be_next, entry_of, grown}
 use Rattle.alw_mesh.specs.Moments.{moment_in}
 use Rattle.alw_mesh.specs.Readings.{node_in}
 use Rattle.alw_mesh.proofs.Journals.{stamps_within}
@@ -82,3 +82,9 @@ pub next_node : (h : History) (entry : Entry) → IsNext h.image h.parameters (s
 next_node h entry next =
     let enabled = and_parts _ _ next.enabled in
     ltb-true (node_of entry.event) (node_count h.image) (and_parts _ _ enabled.1).0
+
+-- and so is one that may be next
+pub may_here : (h : History) (event : Event) → may_be_next h event ≡ true → node_of event < node_count h.image
+may_here h event may =
+    let enabled = and_parts _ _ (and_parts (is_enabled h.image h.parameters (state_of h) event) _ may).0 in
+    ltb-true (node_of event) (node_count h.image) (and_parts _ _ enabled.1).0

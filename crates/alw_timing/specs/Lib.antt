@@ -1,2 +1,3 @@
+pub mod Takes
 pub mod Timing
 pub mod Texts

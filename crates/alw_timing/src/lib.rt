@@ -3,6 +3,7 @@
 
 mod looks;
 mod tables;
+mod taking;
 mod texts;
 mod timing;
 

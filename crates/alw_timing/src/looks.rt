@@ -26,6 +26,7 @@ pub struct Look {
 }
 
 /// Looks at an event that is to happen: at what waits need only where they are told.
+#[inline(always)]
 pub fn look_at(machine: &Machine, clocks: &Clocks, event: Event, told: bool) -> Look
     requires { node_of event < node_count machine.now.image }
     ensures { IsLookAt machine.now clocks.now event told result }
@@ -49,6 +50,7 @@ pub fn look_at(machine: &Machine, clocks: &Clocks, event: Event, told: bool) -> 
 }
 
 // Which slots of its node a delivery finds Ready.
+#[inline(always)]
 fn ready_before(machine: &Machine, event: Event) -> [bool; 4]
     requires { node_of event < node_count machine.now.image }
     ensures { result ≡ for_delivery event (ready_in (node_in machine.now (node_of event)).slots) }
@@ -60,6 +62,7 @@ fn ready_before(machine: &Machine, event: Event) -> [bool; 4]
 }
 
 /// Which slots of its node have become Ready since a delivery looked at them.
+#[inline(always)]
 pub fn woken_since(machine: &Machine, event: Event, ready: &[bool; 4]) -> [bool; 4]
     requires { node_of event < node_count machine.now.image }
     ensures { AreWoken event ready.now (node_in machine.now (node_of event)).slots result }

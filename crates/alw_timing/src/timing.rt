@@ -1,19 +1,17 @@
-ghost use Rattle.std.specs.Prelude.{◌≡◌, ◌++◌, ◌∷◌, [], is_some, option_map, IfSome, IfOk, OnOk};
+ghost use Rattle.std.specs.Prelude.{◌≡◌, [], is_some, IfSome, IfOk};
 ghost use Rattle.alw_image.specs.Parameters.{Parameters};
 ghost use Rattle.alw_mesh.specs.Histories.{begun};
 ghost use Rattle.alw_replay.specs.Replays.{IsReplayed};
-ghost use Rattle.alw_times.specs.Happening.{kind_of};
-ghost use Rattle.alw_waits.specs.Waits.{waits_start, told_by};
+ghost use Rattle.alw_waits.specs.Waits.{waits_start};
 ghost use Rattle.alw_timing.specs.Timing.{TimesAreOf, TimesAreKept, has_waits, has_spans};
 
-use crate::looks::{look_at, woken_since};
 use alw_image::{Image, Params};
 use alw_mesh::{Machine, Watch};
-use alw_msg::{Entry, Journal, Kind, Msg};
+use alw_msg::{Entry, Journal};
 use alw_num::NoMemory;
 use alw_replay::take_all;
-use alw_times::{Clocks, Costs, Span, TimedMoment};
-use alw_waits::{Waited, Waits};
+use alw_times::{Clocks, Costs, Span};
+use alw_waits::Waits;
 use std::alloc::Global;
 
 /// What is told of a run beside its clocks.
@@ -126,75 +124,7 @@ impl Watch for Timekeeper {
     ghost told = { λ start h now. TimesAreKept start h now };
 
     fn event(&mut self, machine: &mut Machine, entry: Entry) -> Result<(), NoMemory> {
-        let _run = machine.journal(); // for its clause
-        let event = entry.event;
-        let waits = self.times.waits.is_some();
-        let before = look_at(machine, &self.times.clocks, event, waits);
-        let moment = machine.take(event)?;
-        let happened = TimedMoment {
-            event,
-            slot: before.slot,
-            last: before.last,
-            taken: kind_of(&moment.taken),
-            did: moment.did,
-            woken: woken_since(machine, event, &before.ready),
-        };
-        let span = self.times.clocks.pass(
-            machine.image(),
-            &self.costs,
-            &happened,
-            machine.last_sent(),
-        )?;
-        let told = Waited {
-            asked: before.asked,
-            taken: moment.taken,
-            arrival: before.arrival,
-            span,
-        };
-        tell(
-            &mut self.times.waits,
-            machine.image(),
-            &self.costs,
-            &happened,
-            &told,
-        )?;
-        keep(&mut self.times.spans, span)?;
+        let _halts = self.happen(machine, entry.event)?;
         Ok(())
-    }
-}
-
-// Waits are told of an event that has happened, where they are.
-fn tell(
-    waits: &mut Option<Waits>,
-    image: &Image,
-    costs: &Costs,
-    happened: &TimedMoment,
-    told: &Waited,
-) -> Result<(), NoMemory>
-    ensures { OnOk result (waits.new ≡ option_map (λ so_far. told_by image.now costs.now so_far happened.now told.now happened.now.event) waits.old) }
-{
-    match waits {
-        Some(waits) => waits.pass(image, costs, happened, told),
-        None => Ok(()),
-    }
-}
-
-// A span more, where they are told.
-fn keep(spans: &mut Option<Vec<Span>>, span: Span) -> Result<(), NoMemory>
-    ensures { OnOk result (option_map (λ spans. spans.items) spans.new ≡ option_map (λ spans. spans.items ++ span ∷ []) spans.old) }
-{
-    if let Some(spans) = spans {
-        spans.push(span)?;
-    }
-    Ok(())
-}
-
-// The kind of a message that was taken.
-fn kind_of(taken: &Option<Msg>) -> Option<Kind>
-    ensures { result ≡ kind_of taken.now }
-{
-    match taken {
-        Some(msg) => Some(msg.kind),
-        None => None,
     }
 }

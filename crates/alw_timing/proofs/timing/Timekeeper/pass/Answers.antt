@@ -1,5 +1,5 @@
 -- The times of an event more are kept.
-use Rattle.std.proofs.Common.{◌≡◌, Bool, refl, ap, subst, ◌∙◌}
+use Rattle.std.proofs.Common.{◌≡◌, refl, ap, ◌∙◌}
 use Rattle.std.specs.Option.{option_map}
 use Rattle.alw_image.specs.declared.parts.Parts.{Parts}
 use Rattle.alw_times.specs.Times.{start_of, finish_of, passed}
@@ -7,26 +7,18 @@ use Rattle.alw_times.specs.declared.happenings.TimedMoment.{TimedMoment}
 use Rattle.alw_waits.specs.declared.waits.Waited.{Waited}
 use Rattle.alw_waits.specs.Waits.{told_by}
 use Rattle.alw_mesh.specs.Histories.{History}
-use Rattle.alw_timing.specs.Timing.{IsLookAt}
-use Rattle.alw_timing.proofs.Looking.{next_node}
-use Rattle.alw_timing.proofs.Keeping.{IsTold, few_times, goes_on}
-use Rattle.alw_timing.proofs.timing.TimekeeperWatch.event.Goals as goal
+use Rattle.alw_timing.proofs.Keeping.{IsTold, goes_on}
+use Rattle.alw_timing.proofs.timing.Timekeeper.pass.Goals as goal
 
-pub pass-requires : goal.pass-requires
-pass-requires c =
-    let (start, so_far) = c.requires.so_far in
-    few_times start c.args.machine.now c.args.self.now c.journal-run.ensures.run so_far
-
-pub returns-clause-told : goal.returns-clause-told
-returns-clause-told c start so_far =
-    let h = c.args.machine.now in
-    let after = c.take.new.self in
-    let event = c.args.entry.event in
+pub returns : goal.returns
+returns c h was start so_far =
+    let after = c.args.machine.now in
+    let event = c.args.event in
     let now = c.args.self.now in
     let costs = now.costs in
     let times = now.times in
-    let look = c.look_at-before.result in
-    let moment = c.in_ok-moment.moment in
+    let look = c.args.look.now in
+    let moment = c.args.moment.now in
     let span = c.in_ok-span.span in
     let sends = c.last_sent.result.now.messages in
     let happened : TimedMoment = record {
@@ -38,21 +30,20 @@ returns-clause-told c start so_far =
       woken = c.woken_since.result;
     } in
     let what : Waited = record { asked = look.asked; taken = moment.taken; arrival = look.arrival; span = span } in
-    let grew = c.in_ok-moment.ensures.0.after_is in
     let told : IsTold h after event times.clocks times.waits look moment.taken happened = record {
-      look_is = subst (λ (waits : Bool). IsLookAt h times.clocks event waits look) c.is_some-waits.ensures c.look_at-before.ensures;
-      message_is = c.in_ok-moment.ensures.1.taken;
-      sends = c.in_ok-moment.ensures.1.sends;
+      look_is = was.look_is;
+      message_is = was.moment_is.taken;
+      sends = was.moment_is.sends;
       event_is = refl;
       slot = refl;
       last = refl;
       taken = c.kind_of.ensures;
-      did = c.in_ok-moment.ensures.1.did;
+      did = was.moment_is.did;
       woken = c.woken_since.ensures;
     } in
-    let image : c.image.result.now ≡ h.image = c.image.ensures ∙ ap (λ (g : History). g.image) grew in
-    let other : c.image-2.result.now ≡ h.image = c.image-2.ensures ∙ ap (λ (g : History). g.image) grew in
-    goes_on h after c.journal-run.ensures.run event (next_node h c.args.entry c.requires.next) grew c.in_ok-moment.ensures.0.run.legal
+    let image : c.image.result.now ≡ h.image = c.image.ensures ∙ ap (λ (g : History). g.image) was.grew in
+    let other : c.image-2.result.now ≡ h.image = c.image-2.ensures ∙ ap (λ (g : History). g.image) was.grew in
+    goes_on h after was.run event was.here was.grew was.legal
     start now _ look moment.taken happened sends span so_far told c.last_sent.ensures
     (c.in_ok-span.ensures.start ∙ ap (λ (parts : Parts). start_of parts costs times.clocks happened) image)
     (c.in_ok-span.ensures.finish ∙ ap (λ (parts : Parts). finish_of parts costs times.clocks happened sends) image)
