@@ -1,6 +1,5 @@
 -- The first of the due events of a node stays where an event of another one happens, and not every context halts with it, but for deliveries of what that event sent.
-use Rattle.std.proofs.Common.{◌≡◌, ◌≢◌, ℕ, zero, suc, ◌<◌, nat_le, Bool, true, false, not, ◌&&◌, ◌||◌, IsTrue, Option, Some, None, List, [], ◌∷◌, slice_set, slice_index_or, inl, inr, refl, sym, ap, subst, ◌∙◌}
-use Rattle.std.specs.List.{list_all}
+use Rattle.std.proofs.Common.{◌≡◌, ◌≢◌, ℕ, ◌<◌, nat_le, Bool, true, false, not, ◌&&◌, ◌||◌, IsTrue, Option, Some, None, List, [], ◌∷◌, inl, inr, refl, sym, ap, subst, ◌∙◌}
 use Rattle.alw_msg.specs.declared.messages.Msg.{Msg}
 use Rattle.alw_msg.specs.declared.events.Event.{Event}
 use Rattle.alw_msg.specs.declared.events.Event.TheVariants.{Instr, Handle, Deliver, Evict}
@@ -10,16 +9,15 @@ use Rattle.alw_image.specs.declared.parts.Parts.{Parts}
 use Rattle.alw_image.specs.Images.{node_count}
 use Rattle.alw_image.specs.Parameters.{Parameters}
 use Rattle.alw_model.specs.declared.steps.Did.TheVariants.{Took}
-use Rattle.alw_model.specs.Contexts.{running, all_halted}
+use Rattle.alw_model.specs.Contexts.{running}
 use Rattle.alw_model.specs.NodeStates.{NodeState}
-use Rattle.alw_model.specs.Machine.{MachineState, machine_start, node_at, no_node, is_enabled, has_halted, stepped_by, step, state, after, AreLegal, IsLegal}
+use Rattle.alw_model.specs.Machine.{MachineState, machine_start, node_at, is_enabled, has_halted, stepped_by, step, state, after, AreLegal, IsLegal}
 use Rattle.alw_model.specs.Runs.{moments, moments_from}
 use Rattle.alw_model.proofs.Journals.{and_parts, state_push}
 use Rattle.law_lines.specs.Links.{GoBelow}
 use Rattle.law_order.specs.Orders.{SeesAlike}
 use Rattle.law_order.proofs.Aimed.{sends_below}
 use Rattle.law_order.proofs.Local.{HasFront, node_kept, taken_kept, has_front, enabled_alike, stamp_alike}
-use Rattle.law_order.proofs.Clocks.{node_stepped}
 use Rattle.law_times.proofs.Apart.{HasTime, start_kept, arrival_kept}
 use Rattle.law_times.proofs.Counted.{has_time, runs_within}
 use Rattle.law_times.proofs.Orders.{AreTimesOf, start_are, step_are, timed_at}
@@ -28,7 +26,6 @@ use Rattle.alw_ready.specs.Changes.{is_fed_for}
 use Rattle.alw_ready.proofs.Leaves.{other_stays}
 use Rattle.alw_mesh.specs.Histories.{History, IsRun, grown, entry_of, state_of, may_be_next, last_sends}
 use Rattle.alw_mesh.specs.Moments.{moment_in}
-use Rattle.alw_mesh.specs.Readings.{node_in}
 use Rattle.alw_mesh.proofs.Journals.{last_push}
 use Rattle.alw_times.specs.declared.costs.Costs.{Costs}
 use Rattle.alw_times.specs.declared.happenings.TimedMoment.{TimedMoment}
@@ -37,6 +34,8 @@ use Rattle.alw_times.specs.Happening.{happened_of}
 use Rattle.alw_times.proofs.Rising.{times_push}
 use Rattle.alw_timing.specs.declared.timing.Timekeeper.{Timekeeper}
 use Rattle.alw_timing.specs.Timing.{TimesAreKept}
+use Rattle.alw_timing.specs.Takes.{halts_with}
+use Rattle.alw_timing.proofs.Halting.{halts_alike}
 use Rattle.alw_due.specs.declared.keys.Due.{Due}
 use Rattle.alw_due.specs.Due.{times_in, slot_for, start_for, is_due_for, rank_of, arrived_at, sender_of, key_for, is_before}
 use Rattle.alw_due.specs.Picks.{IsOneOf, IsFirstOf, IsBestOf}
@@ -56,13 +55,6 @@ module _ (parts : Parts) (parameters : Parameters) (costs : Costs) where
   pub times_are_of : (journal : List Entry) → IsLegal parts parameters journal → AreTimesOf parts parameters costs (times_of parts parameters costs journal) (state parts parameters journal)
   unfolding times_of moments state
   times_are_of journal legal = are_after (times_start parts costs) (machine_start parts) journal (start_are parts parameters costs) legal
-
--- ---- whether every context has halted
-
-all_set : (test : NodeState → Bool) (nodes : List NodeState) (n : ℕ) (node : NodeState) → test node ≡ test (slice_index_or nodes n no_node) → list_all test (slice_set nodes n node) ≡ list_all test nodes
-all_set test [] n node same = refl
-all_set test (first ∷ rest) zero node same = ap (λ b. b && list_all test rest) same
-all_set test (first ∷ rest) (suc n) node same = ap (λ b. test first && b) (all_set test rest n node same)
 
 -- ---- an event
 
@@ -94,13 +86,9 @@ module _ (h : History) (costs : Costs) (event : Event) (run : IsRun h) (may : ma
   pub are : AreTimesOf h.image h.parameters costs times s
   are = times_are_of h.image h.parameters costs h.journal run.legal
 
-  -- where the event's node goes on as before, the machine does
-  pub halts_alike : all_halted (node_in g (node_of event)).slots ≡ all_halted (node_in h (node_of event)).slots → has_halted next ≡ has_halted s
-  halts_alike same =
-      let n = node_of event in
-      let stepped : node_in g n ≡ (stepped_by h.image h.parameters s event).node =
-      ap (λ (m : MachineState). node_at m n) after_is ∙ node_stepped h.image h.parameters s event are.aimed (able event may) in
-      all_set (λ node. all_halted node.slots) s.nodes n (stepped_by h.image h.parameters s event).node (ap (λ (node : NodeState). all_halted node.slots) (sym stepped) ∙ same)
+  -- where no turn halts its context, the machine goes on as before
+  pub goes_alike : halts_with (stepped_by h.image h.parameters s event).did ≡ false → has_halted next ≡ has_halted s
+  goes_alike = halts_alike h.image h.parameters s event are.aimed.nodes (able event may)
 
   -- what it sends goes to nodes
   pub goes_below : GoBelow (node_count h.image) (last_sends g)
@@ -218,23 +206,15 @@ module _ (h : History) (costs : Costs) (event : Event) (run : IsRun h) (may : ma
 
 -- ---- after it
 
-live_alike : (one other a b : Bool) → one ≡ other → one ≡ not a → other ≡ not b → a ≡ b
-live_alike one other true true same is was = refl
-live_alike one other true false same is was = absurd (cc)
-live_alike one other false true same is was = absurd (cc)
-live_alike one other false false same is was = refl
-
-pub left_after : (h : History) (now : Timekeeper) (event : Event) (after : History) (later : Timekeeper) (own : ℕ) (bests : List (Option Due)) (live was_live : Bool) →
+pub left_after : (h : History) (now : Timekeeper) (event : Event) (after : History) (later : Timekeeper) (own : ℕ) (bests : List (Option Due)) (halts : Bool) →
     IsRun h → may_be_next h event ≡ true → TimesAreKept now h now → AreBests h now.costs now.times.clocks bests → after ≡ grown h event → TimesAreKept now after later →
-    own ≡ node_of event → live ≡ was_live → live ≡ not (all_halted (node_in after (node_of event)).slots) → was_live ≡ not (all_halted (node_in h (node_of event)).slots) →
-    AreBestsBut after later.costs later.times.clocks own (last_sends after) bests
-left_after h now event after later own bests live was_live run may kept are after_is more own_is same is was =
+    own ≡ node_of event → halts ≡ false → halts ≡ halts_with (moment_in h event).stepped.did → AreBestsBut after later.costs later.times.clocks own (last_sends after) bests
+left_after h now event after later own bests halts run may kept are after_is more own_is goes is =
     let costs = now.costs in
     let n = node_of event in
-    let alike = live_alike live was_live (all_halted (node_in after n).slots) (all_halted (node_in h n).slots) same is was in
-    let alike_too = subst (λ (g : History). all_halted (node_in g n).slots ≡ all_halted (node_in h n).slots) after_is alike in
+    let alike = goes_alike h costs event run may (sym is ∙ goes) in
     let before = subst (λ (t : Times). AreBests h costs t bests) kept.are.clocks are in
-    let left = bests_left h costs event run may (halts_alike h costs event run may alike_too) bests before in
+    let left = bests_left h costs event run may alike bests before in
     let here_after : AreBestsBut after costs (times_in after costs) n (last_sends after) bests = subst (λ (g : History). AreBestsBut g costs (times_in g costs) n (last_sends g) bests) (sym after_is) left in
     let timed : AreBestsBut after costs later.times.clocks n (last_sends after) bests = subst (λ (t : Times). AreBestsBut after costs t n (last_sends after) bests) (sym more.are.clocks) here_after in
     let costed : AreBestsBut after later.costs later.times.clocks n (last_sends after) bests =

@@ -1,5 +1,7 @@
 -- The events of a node by its row: the handler, deliveries and an instruction.
 use Rattle.std.proofs.Common.{◌≡◌, ℕ, true, false, Option, None, ◌⊎◌, inl, inr, refl, sym, ap, ◌∙◌}
+use Rattle.alw_num.specs.NodeSets.{Nodes, no_nodes, has_node, nodes_of}
+use Rattle.alw_num.proofs.Sets.{has-none}
 use Rattle.alw_msg.specs.declared.events.Event.{Event}
 use Rattle.alw_msg.specs.declared.events.Event.TheVariants.{Instr, Handle, Deliver, Evict}
 use Rattle.alw_msg.specs.Events.{node_of, is_evict}
@@ -13,7 +15,8 @@ use Rattle.alw_times.specs.Times.{Times}
 use Rattle.alw_due.specs.declared.keys.Due.{Due}
 use Rattle.alw_due.specs.Picks.{earlier, IsBestOf}
 use Rattle.alw_due.specs.Bests.{IsOf, IsEvent, IsDeliveryTo}
-use Rattle.alw_due.proofs.Best.{of_none, of_both}
+use Rattle.alw_due.proofs.Best.{of_none, of_both, none_may}
+use Rattle.alw_due.proofs.Deliveries.{no_delivery}
 
 module _ (h : History) (costs : Costs) (times : Times) (n : ℕ) where
   -- a node that isn't in time has none
@@ -47,3 +50,12 @@ module _ (h : History) (costs : Costs) (times : Times) (n : ℕ) where
       let two = of_both h costs times (IsEvent h (handle_at n)) (IsDeliveryTo h n) IsHandlerOrDelivery handler taken (λ e of. (of_two e of).1) (λ e of. inl of) (λ e of. inr of) (λ e of. of) a b in
       of_both h costs times IsHandlerOrDelivery (IsEvent h (instr_at n)) (IsOf h n) (earlier handler taken) instr (λ e of. of.1) of_two
       (λ e of. is_of (instr_at n) e refl refl of.0 of.1) by_kind two c
+
+  -- where no packet waits and no message, it is an instruction or none
+  pub instr_alone : (row : Row) (instr : Option Due) → RowFits h.image h.parameters (state_of h) n row → row.in_time ≡ true → row.handle ≡ false → nodes_of row.senders ≡ no_nodes →
+      IsBestOf h costs times (IsEvent h (instr_at n)) instr → IsBestOf h costs times (IsOf h n) instr
+  instr_alone row instr fits timely idle silent best =
+      let says = fits.events timely in
+      let handler = none_may h costs times (handle_at n) (sym says.handle ∙ idle) in
+      let taken = no_delivery h costs times n (nodes_of row.senders) (λ from. says.senders from refl) (λ from. ap (λ (P : Nodes). has_node P from) silent ∙ has-none from) in
+      of_all None None instr handler taken best

@@ -1,27 +1,18 @@
 -- The timed schedule: one event more, one run, no end before its last entry, and no start earlier than that of the event taken.
-use Rattle.std.proofs.Common.{◌≡◌, ℕ, ◌*◌, ◌≤◌, ◌^◌, true, None, Some, List, [], ◌∷◌, ◌++◌, slice_get, length, ◌⊎◌, inl, inr, refl, sym, ap, subst, ◌∙◌, arith}
-use Rattle.std.proofs.lemmas.Nat.{mul-le}
+use Rattle.std.proofs.Common.{◌≡◌, ℕ, ◌≤◌, true, None, Some, List, [], ◌∷◌, ◌++◌, slice_get, ◌⊎◌, inl, inr, refl, sym, ap, subst, ◌∙◌, arith}
 use Rattle.alw_msg.specs.declared.events.Event.{Event}
 use Rattle.alw_msg.specs.declared.events.Entry.{Entry}
 use Rattle.alw_image.specs.declared.parts.Parts.{Parts}
-use Rattle.alw_image.specs.Images.{node_count}
 use Rattle.alw_image.specs.Parameters.{Parameters}
 use Rattle.alw_model.specs.Headline.{IsScheduled}
 use Rattle.alw_msg.specs.Events.{node_of}
 use Rattle.alw_model.specs.Machine.{is_enabled, stamp_at, IsNext}
 use Rattle.alw_model.proofs.Journals.{and_parts}
 use Rattle.alw_model.proofs.Schedules.{scheduled_none, scheduled_more}
-use Rattle.law_machine.proofs.Bound.{sets_range}
-use Rattle.law_machine.proofs.RunFacts.{always_bounded}
-use Rattle.alw_mesh.specs.Histories.{History, IsRun, begun, grown, entry_of, state_of, may_be_next}
+use Rattle.alw_mesh.specs.Histories.{History, begun, grown, entry_of, state_of, may_be_next}
 use Rattle.alw_mesh.specs.Ends.{next_events}
-use Rattle.alw_mesh.proofs.Journals.{stamps_within}
-use Rattle.alw_mesh.proofs.OneNode.{few_nodes}
 use Rattle.alw_times.specs.declared.costs.Costs.{Costs}
 use Rattle.alw_times.specs.Times.{Times}
-use Rattle.alw_times.specs.Within.{TimesAreWithin}
-use Rattle.alw_times.proofs.Bounds.{wider}
-use Rattle.alw_timing.specs.declared.timing.RunTimes.{RunTimes}
 use Rattle.alw_timing.specs.declared.timing.Timekeeper.{Timekeeper}
 use Rattle.alw_timing.specs.Timing.{TimesAreOf, TimesAreKept}
 use Rattle.alw_due.specs.Due.{end_in, times_in, start_for, is_due_for, due_events, rank_of, arrived_at, sender_of, key_for, is_before, IsFirstDue, EventIsTimed, EventsAreTimed, MachineIsTimed, IsTimedRun}

@@ -43,6 +43,9 @@ pub fn best_of(machine: &Machine, clocks: &Clocks, costs: &Costs, node: NodeNo) 
     if !row.in_time {
         return None;
     }
+    if !row.handle && row.senders.is_empty() {
+        return instr_of(machine, clocks, costs, node, row.instr, row.handle);
+    }
     let handler = handler_of(machine, clocks, costs, node, row.handle);
     let delivery = delivery_of(machine, clocks, costs, node, row.senders);
     let instr = instr_of(machine, clocks, costs, node, row.instr, row.handle);

@@ -6,9 +6,9 @@ ghost use Rattle.alw_due.specs.Bests.{AreBests};
 
 use crate::bests::Bests;
 use crate::renewing::{bests_of, renew_all, renew_touched};
-use alw_mesh::{Machine, Watch};
+use alw_mesh::Machine;
 use alw_model::Ended;
-use alw_msg::{Entry, Event};
+use alw_msg::Event;
 use alw_num::NoMemory;
 use alw_timing::Timekeeper;
 use std::alloc::Global;
@@ -44,7 +44,8 @@ fn first_bests(alloc: Global, machine: &Machine, keeper: &Timekeeper) -> Result<
 }
 
 // An event that may be next happens, its times are kept, and what it touches is looked at again: all nodes,
-// where its node halts with it.
+// where a context halts with it.
+#[inline(always)]
 fn pass(
     machine: &mut Machine,
     keeper: &mut Timekeeper,
@@ -59,30 +60,13 @@ fn pass(
     ensures bests { OnOk result (AreBests machine.new keeper.new.costs keeper.new.times.clocks bests.new) }
 {
     let _before = machine.journal(); // for its clause
-    let was_live = machine.is_live(event.node());
-    take(machine, keeper, event)?;
+    let halts = keeper.take(machine, event)?;
     let _after = machine.journal(); // for its clause
-    if machine.is_live(event.node()) == was_live {
-        renew_touched(
-            machine,
-            &keeper.times.clocks,
-            &keeper.costs,
-            bests,
-            event.node(),
-        );
+    let clocks = &keeper.times.clocks;
+    if halts {
+        renew_all(machine, clocks, &keeper.costs, bests);
     } else {
-        renew_all(machine, &keeper.times.clocks, &keeper.costs, bests);
+        renew_touched(machine, clocks, &keeper.costs, bests, event.node());
     }
     Ok(())
-}
-
-// An event that may be next happens, and its times are kept.
-fn take(machine: &mut Machine, keeper: &mut Timekeeper, event: Event) -> Result<(), NoMemory>
-    requires may { IsTrue (may_be_next machine.old event) }
-    requires kept { TimesAreKept keeper.old machine.old keeper.old }
-    ensures machine { OnOk result (machine.new ≡ grown machine.old event) }
-    ensures kept { OnOk result (TimesAreKept keeper.old machine.new keeper.new) }
-{
-    let stamp = machine.stamp(event);
-    keeper.event(machine, Entry { stamp, event })
 }
