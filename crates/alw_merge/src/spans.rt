@@ -82,7 +82,7 @@ pub fn walk_span(
     requires bounds { IsAtMost low high }
     ensures { IfOk result (λ span. IsSpan image.now params.now (merged (logged logs.now)) low high span) }
 {
-    let _allowed = image.parts();
+    let _allowed = image.parts(); // for its clause
     let mut events = Stream::from(alloc, logs, low)?;
     let mut rests = rests_of(alloc, dids, &events)?;
     let mut sends = Vec::new(alloc);

@@ -22,7 +22,7 @@ pub fn put_transactions(text: &mut Text, machine: &Machine, n: NodeNo) -> Result
     requires { n.0 < node_count machine.now.image }
     ensures { OnOk result (text.new ≡ text.old ++ flat_map pending_line (node_in machine.now n.0).transactions.entries) }
 {
-    let _run = machine.journal();
+    let _run = machine.journal(); // for its clause
     let mut from = 0;
     while let Some(line) = next_waited(machine, n, from) {
         put_transaction(
@@ -69,7 +69,7 @@ fn next_waited(machine: &Machine, n: NodeNo, from: u32) -> Option<LineNo>
     ensures lowest { option_map number_of result ≡ lowest_of (waited_at machine.now n.0) from machine.now.image.contexts }
     ensures exists { IfSome result (λ line. line.0 < line_count machine.now.image) }
 {
-    let _run = machine.journal();
+    let _run = machine.journal(); // for its clause
     let contexts = u32::from(machine.image().contexts());
     let first = u32::from(n.0) * contexts;
     let mut next = None;
@@ -98,7 +98,7 @@ pub fn put_copies(text: &mut Text, machine: &Machine, n: NodeNo) -> Result<(), N
     requires { n.0 < node_count machine.now.image }
     ensures { OnOk result (text.new ≡ text.old ++ flat_map cache_line (node_in machine.now n.0).cache.entries) }
 {
-    let _run = machine.journal();
+    let _run = machine.journal(); // for its clause
     for set in 0..machine.params().sets() {
         put_set(text, set, machine.cached(n, set))?;
     }

@@ -45,7 +45,7 @@ fn put_slot_turn(
     ensures machine { OnOk result (machine.new ≡ grown machine.old (events.Instr node)) }
     ensures text { OnOk result (text.new ≡ text.old ++ slot_did machine.old.image machine.old.parameters (node_in machine.old node.0) (node_in machine.new node.0) (stepped_by machine.old.image machine.old.parameters (state_of machine.old) (events.Instr node)).did slot) }
 {
-    let _run = machine.journal();
+    let _run = machine.journal(); // for its clause
     let seen = look(machine, node, slot);
     put_slot(
         text,
