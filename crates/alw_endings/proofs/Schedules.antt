@@ -20,8 +20,8 @@ use Rattle.alw_model.specs.NodeStates.{NodeState}
 use Rattle.alw_model.specs.Machine.{IsLegal, state, has_halted}
 use Rattle.alw_model.specs.Flat.{Context, context_at}
 use Rattle.alw_model.specs.Runs.{prints_of, flat_view, flat_context, flat_status}
-use Rattle.alw_outcomes.specs.Outcomes as outcomes
-use Rattle.alw_outcomes.specs.Outcomes.{Ending, Halts, Traps}
+use Rattle.alw_places.specs.Outcomes as outcomes
+use Rattle.alw_places.specs.Outcomes.{Ending, Halts, Traps}
 use Rattle.law_schedules.proofs.Journals.{journal_halts, journal_traps}
 use Rattle.alw_endings.specs.declared.values.Outcomes.{Outcomes}
 use Rattle.alw_endings.specs.declared.values.HaltEnd.{HaltEnd}

@@ -8,12 +8,12 @@ use Rattle.alw_image.specs.declared.parts.Parts.{Parts}
 use Rattle.alw_image.specs.Images.{line_count, sizes_of}
 use Rattle.alw_msg.specs.Stretches.{stretches, turns_in}
 use Rattle.alw_msg.proofs.StretchLaws.{same_turns}
-use Rattle.alw_outcomes.specs.Places.{Place}
-use Rattle.alw_outcomes.specs.Outcomes.{Ending, Traps, EndsIn, HasEvery, all_halted}
+use Rattle.alw_places.specs.Places.{Place}
+use Rattle.alw_places.specs.Outcomes.{Ending, Traps, EndsIn, HasEvery, all_halted, CanEnd}
 use Rattle.alw_outcomes.specs.Explored.{Found, found_in, places_in, place_in, no_place, halt_of, trap_of, endings_in, IsStored, IsReal, IsHalted, IsTrapping, LeadsTo, PlacesAreDifferent}
 use Rattle.alw_outcomes.specs.Pools.{place_of}
 use Rattle.alw_outcomes.specs.Endings.{halt_at, ending_cmp, told_in, AreDifferent}
-use Rattle.alw_outcomes.specs.Stuck.{CanEnd, IsStuckAt}
+use Rattle.alw_outcomes.specs.Stuck.{IsStuckAt}
 use Rattle.alw_outcomes.specs.declared.explored.Explored.{Explored}
 use Rattle.alw_outcomes.specs.declared.explored.Trapped.{Trapped}
 use Rattle.alw_outcomes.proofs.Finding.{same_member}

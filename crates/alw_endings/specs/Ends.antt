@@ -6,11 +6,10 @@ use Rattle.alw_msg.specs.Stretches.{stretches, turns_in}
 use Rattle.alw_image.specs.declared.parts.Parts.{Parts}
 use Rattle.alw_image.specs.Images.{line_count, context_count, zero_line, sizes_of}
 use Rattle.alw_model.specs.Counts.{listed_words}
-use Rattle.alw_outcomes.specs.Places.{Place, place_start, places_after, IsRun}
-use Rattle.alw_outcomes.specs.Outcomes.{Ending, Traps, EndsIn, HasEvery, all_halted}
+use Rattle.alw_places.specs.Places.{Place, place_start, places_after, IsRun}
+use Rattle.alw_places.specs.Outcomes.{Ending, Traps, EndsIn, HasEvery, all_halted, CanEnd, CanAlwaysEnd}
 use Rattle.alw_outcomes.specs.Explored.{no_place, halt_of}
 use Rattle.alw_outcomes.specs.Endings.{ending_cmp}
-use Rattle.alw_outcomes.specs.Stuck.{CanEnd, CanAlwaysEnd}
 use Rattle.alw_endings.specs.declared.values.Outcomes.{Outcomes}
 use Rattle.alw_endings.specs.declared.values.HaltEnd.{HaltEnd}
 use Rattle.alw_endings.specs.declared.values.TrapEnd.{TrapEnd}

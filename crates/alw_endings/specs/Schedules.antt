@@ -10,7 +10,7 @@ use Rattle.alw_model.specs.Machine.{IsLegal, state, has_halted}
 use Rattle.alw_model.specs.Flat.{Flat, context_at}
 use Rattle.alw_model.specs.Runs.{prints_of, flat_view}
 use Rattle.alw_model.specs.Counts.{memory_words}
-use Rattle.alw_outcomes.specs.Outcomes.{words_of}
+use Rattle.alw_places.specs.Outcomes.{words_of}
 use Rattle.alw_endings.specs.declared.values.Outcomes.{Outcomes}
 use Rattle.alw_endings.specs.declared.values.HaltEnd.{HaltEnd}
 use Rattle.alw_endings.specs.declared.values.TrapEnd.{TrapEnd}

@@ -5,7 +5,7 @@ use Rattle.alw_image.specs.Images.{node_count}
 use Rattle.alw_image.specs.Parameters.{Parameters, may_point, parameters_for}
 use Rattle.alw_model.specs.Ends.{IsEnd}
 use Rattle.alw_model.specs.Flat.{AreReady, flat_after, context_at}
-use Rattle.alw_outcomes.specs.Outcomes.{flat_halted}
+use Rattle.alw_places.specs.Outcomes.{flat_halted}
 use Rattle.alw_mesh.specs.Limits.{most_steps}
 use Rattle.alw_mesh.specs.Histories.{begun, stamps_of}
 use Rattle.law_turns.specs.Turns.{turn_events, NoneTrapsEarly}

@@ -8,7 +8,7 @@ use Rattle.alw_outcomes.specs.declared.pools.Seat.{Seat}
 use Rattle.alw_outcomes.specs.declared.pools.Link.{Link}
 use Rattle.alw_outcomes.specs.declared.pools.Pools.{Pools}
 use Rattle.alw_outcomes.specs.declared.explored.Explored.{Explored}
-use Rattle.alw_outcomes.specs.Places.{Place}
+use Rattle.alw_places.specs.Places.{Place}
 use Rattle.alw_outcomes.specs.Pools.{AreApart, ArePools, lists_of, no_seat, seat_in, context_in, words_in, memory_in, place_of}
 use Rattle.alw_outcomes.specs.Explored.{Row, IsStored, PlacesAreDifferent, no_place, row_in, place_in, found_in}
 use Rattle.alw_outcomes.proofs.Pooling.{link_words}

@@ -4,15 +4,15 @@ use Rattle.std.specs.List.{slice_get}
 use Rattle.std.proofs.lemmas.Option.{slice_get_within}
 use Rattle.alw_num.specs.declared.addresses.Line.{Line}
 use Rattle.alw_image.specs.declared.parts.Parts.{Parts}
-use Rattle.alw_outcomes.specs.Places.{Place, place_turn, places_after, IsRun, HasSizes}
-use Rattle.alw_outcomes.specs.Outcomes.{Ending, Halts, Traps}
-use Rattle.alw_outcomes.specs.declared.classes.Class.{Class}
-use Rattle.alw_outcomes.specs.Explored.{Found, IsAmong, IsHeld, place_turns, HasHalted, HasTrapped, IsListed, IsBroken, CameFrom, IsHalted, IsTrapping, IsReal, IsExpanded, Grows, IsTurnFound, Adds, GoesTo}
+use Rattle.alw_places.specs.Places.{Place, place_turn, places_after, IsRun, HasSizes, place_turns}
+use Rattle.alw_places.specs.Outcomes.{Ending, Halts, Traps}
+use Rattle.alw_places.specs.declared.classes.Class.{Class}
+use Rattle.alw_outcomes.specs.Explored.{Found, IsAmong, IsHeld, HasHalted, HasTrapped, IsListed, IsBroken, CameFrom, IsHalted, IsTrapping, IsReal, IsExpanded, Grows, IsTurnFound, Adds, GoesTo}
 use Rattle.alw_outcomes.specs.declared.explored.Origin.{Origin}
 use Rattle.alw_outcomes.specs.declared.explored.Trapped.{Trapped}
-use Rattle.alw_outcomes.specs.declared.classes.Broken.{Broken}
+use Rattle.alw_places.specs.declared.classes.Broken.{Broken}
 use Rattle.alw_outcomes.proofs.Pooling.{get-append, get-last, some_is, get-cases}
-use Rattle.alw_outcomes.proofs.Sizes.{sizes_stay, sizes_start}
+use Rattle.alw_places.proofs.Sizes.{sizes_stay, sizes_start}
 
 -- ---- members
 

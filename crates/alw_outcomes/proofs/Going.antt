@@ -3,14 +3,14 @@ use Rattle.std.proofs.Common.{◌≡◌, ℕ, ◌+◌, ◌<◌, Bool, true, fals
 use Rattle.alw_image.specs.declared.parts.Parts.{Parts}
 use Rattle.alw_image.specs.Images.{context_count}
 use Rattle.alw_msg.specs.Statuses.{is_ready}
-use Rattle.alw_outcomes.specs.declared.classes.Class.{Class}
-use Rattle.alw_outcomes.specs.declared.classes.Broken.{Broken}
+use Rattle.alw_places.specs.declared.classes.Class.{Class}
+use Rattle.alw_places.specs.declared.classes.Broken.{Broken}
 use Rattle.alw_outcomes.specs.declared.pools.Numbers.{Numbers}
 use Rattle.alw_outcomes.specs.declared.explored.Trapped.{Trapped}
 use Rattle.alw_outcomes.specs.declared.explored.Explored.{Explored}
-use Rattle.alw_outcomes.specs.Places.{Place}
-use Rattle.alw_outcomes.specs.Sharing.{is_allowed}
-use Rattle.alw_outcomes.specs.Threads.{Thread, thread_at, with_thread, thread_need}
+use Rattle.alw_places.specs.Places.{Place}
+use Rattle.alw_places.specs.Sharing.{is_allowed}
+use Rattle.alw_places.specs.Threads.{Thread, thread_at, with_thread, thread_need}
 use Rattle.alw_outcomes.specs.Pools.{thread_in, AreIn, GoOn}
 use Rattle.alw_outcomes.specs.Leads.{IsTrapOf, IsGoing, IsLead}
 use Rattle.alw_outcomes.specs.declared.remembered.Known.{Known}

@@ -15,8 +15,8 @@ use Rattle.std.proofs.lemmas.List.{take_more}
 use Rattle.std.proofs.lemmas.List.Elements.{Contains-append_left, Contains-append_right, Contains-append_cases}
 use Rattle.alw_image.specs.declared.parts.Parts.{Parts}
 use Rattle.alw_image.specs.Images.{context_count, line_count}
-use Rattle.alw_outcomes.specs.Places.{Place}
-use Rattle.alw_outcomes.specs.Outcomes.{Ending, Halts, Traps}
+use Rattle.alw_places.specs.Places.{Place}
+use Rattle.alw_places.specs.Outcomes.{Ending, Halts, Traps}
 use Rattle.alw_outcomes.specs.declared.explored.Trapped.{Trapped}
 use Rattle.alw_outcomes.specs.declared.endings.Endings.{Endings}
 use Rattle.alw_outcomes.specs.Explored.{Found, IsReal, no_place, halt_of, trap_of, endings_in}

@@ -8,13 +8,13 @@ use Rattle.alw_msg.specs.Statuses.{is_ready}
 use Rattle.alw_image.specs.declared.parts.Parts.{Parts}
 use Rattle.alw_image.specs.Images.{line_count}
 use Rattle.alw_model.specs.Flat.{Context}
-use Rattle.alw_outcomes.specs.declared.classes.Class.{Class}
+use Rattle.alw_places.specs.declared.classes.Class.{Class}
 use Rattle.alw_outcomes.specs.declared.pools.Seat.{Seat}
 use Rattle.alw_outcomes.specs.declared.pools.Numbers.{Numbers}
 use Rattle.alw_outcomes.specs.declared.pools.Pools.{Pools}
-use Rattle.alw_outcomes.specs.Places.{traps, to_go}
-use Rattle.alw_outcomes.specs.Sharing.{is_allowed, is_private}
-use Rattle.alw_outcomes.specs.Threads.{Thread, effect_in, thread_turn, thread_turns, thread_need, ThreadGoes, ThreadPrivate, ArePrivate}
+use Rattle.alw_places.specs.Places.{traps, to_go}
+use Rattle.alw_places.specs.Sharing.{is_allowed, is_private}
+use Rattle.alw_places.specs.Threads.{Thread, effect_in, thread_turn, thread_turns, thread_need, ThreadGoes, ThreadPrivate, ArePrivate}
 use Rattle.alw_outcomes.specs.Pools.{AreIn, ArePools, PoolsGrow, GoOn, lists_of, no_seat, seat_in, memory_in, words_in, thread_in}
 use Rattle.alw_outcomes.specs.Leads.{IsChain, IsTrapOf, IsGoing}
 use Rattle.alw_outcomes.proofs.Pooling.{at_place, front_refl, front_trans, front_or, front_length, lists_front, lists_length}

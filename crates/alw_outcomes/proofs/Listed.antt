@@ -3,7 +3,7 @@ use Rattle.std.proofs.Common.{◌≡◌, ℕ, zero, suc, List, [], ◌∷◌, So
 use Rattle.std.specs.List.{slice_get, Contains}
 use Rattle.std.proofs.lemmas.List.Elements.{Contains-append_left, Contains-append_right}
 use Rattle.alw_image.specs.declared.parts.Parts.{Parts}
-use Rattle.alw_outcomes.specs.Outcomes.{Ending, Halts, Traps, ComesTo, HasEvery}
+use Rattle.alw_places.specs.Outcomes.{Ending, Halts, Traps, ComesTo, HasEvery}
 use Rattle.alw_outcomes.specs.Explored.{Found, HasHalted, HasTrapped, IsListed, no_place, halt_of, trap_of, endings_in}
 
 some_is : {A : Type 0} (x y : A) → Some x ≡ Some y → x ≡ y

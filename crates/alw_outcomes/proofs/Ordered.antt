@@ -11,7 +11,7 @@ use Rattle.std.proofs.lemmas.Bool.{false≢true}
 use Rattle.std.proofs.lemmas.Cmp.{nat_cmp_total, nat_list_cmp_total, lists_total, on_total, then_total, tied_itself}
 use Rattle.alw_num.specs.declared.addresses.Line.{Line}
 use Rattle.alw_image.specs.declared.parts.Parts.{Parts}
-use Rattle.alw_outcomes.specs.Outcomes.{Ending, Halts, Traps, HasEvery}
+use Rattle.alw_places.specs.Outcomes.{Ending, Halts, Traps, HasEvery}
 use Rattle.alw_outcomes.specs.Endings.{list_cmp, memory_words, memory_cmp, ending_cmp, AreDifferent}
 use Rattle.alw_outcomes.proofs.Keying.{then_Equal}
 

@@ -13,10 +13,10 @@ use Rattle.alw_outcomes.specs.declared.pools.Seat.{Seat}
 use Rattle.alw_outcomes.specs.declared.pools.Link.{Link}
 use Rattle.alw_outcomes.specs.declared.pools.Numbers.{Numbers}
 use Rattle.alw_outcomes.specs.declared.pools.Pools.{Pools}
-use Rattle.alw_outcomes.specs.declared.turns.Left.{Left}
+use Rattle.alw_places.specs.declared.turns.Left.{Left}
 use Rattle.alw_outcomes.specs.Digests.{seat_digest, link_digest, memory_digest}
-use Rattle.alw_outcomes.specs.Effects.{Effect, effect_of, written}
-use Rattle.alw_outcomes.specs.Threads.{effect_in, thread_turn, words_after}
+use Rattle.alw_places.specs.Effects.{Effect, effect_of, written}
+use Rattle.alw_places.specs.Threads.{effect_in, thread_turn, words_after}
 use Rattle.alw_outcomes.specs.Pools.{IsFront, Numbered, IsIndexed, LinksGoOn, HasWords, AreIn, ArePools, GoOn, with_links, lists_of, no_seat, seat_in, memory_in, thread_in}
 
 -- ---- members of a list that grows at its end

@@ -7,29 +7,29 @@ use Rattle.alw_msg.specs.Statuses.{is_ready}
 use Rattle.alw_image.specs.declared.parts.Parts.{Parts}
 use Rattle.alw_image.specs.Images.{context_count}
 use Rattle.alw_model.specs.Flat.{context_at}
-use Rattle.alw_outcomes.specs.declared.classes.Class.{Class}
+use Rattle.alw_places.specs.declared.classes.Class.{Class}
 use Rattle.alw_outcomes.specs.declared.pools.Numbers.{Numbers}
 use Rattle.alw_outcomes.specs.declared.pools.Pools.{Pools}
-use Rattle.alw_outcomes.specs.Places.{Place, place_start, place_turn, places_after, traps, IsRun, HasSizes}
-use Rattle.alw_outcomes.specs.Outcomes.{Ending, Halts, Traps, EndsIn, all_halted}
-use Rattle.alw_outcomes.specs.Sharing.{HasPrivateNext}
-use Rattle.alw_outcomes.specs.Threads.{Thread, thread_at, with_thread, ArePrivate}
+use Rattle.alw_places.specs.Places.{Place, place_start, place_turn, places_after, traps, IsRun, HasSizes, place_turns}
+use Rattle.alw_places.specs.Outcomes.{Ending, Halts, Traps, EndsIn, all_halted, CanEnd, CanAlwaysEnd}
+use Rattle.alw_places.specs.Sharing.{HasPrivateNext, PrivateTurns}
+use Rattle.alw_places.specs.Threads.{Thread, thread_at, with_thread, ArePrivate}
 use Rattle.alw_outcomes.specs.Pools.{thread_in}
 use Rattle.alw_outcomes.specs.Leads.{IsGoing, IsTrapOf}
-use Rattle.alw_outcomes.specs.Explored.{Found, found_in, places_in, place_in, IsStored, IsAmong, IsHeld, IsReal, IsFull, IsClosed, PrivateTurns, place_turns}
+use Rattle.alw_outcomes.specs.Explored.{Found, found_in, places_in, place_in, IsStored, IsAmong, IsHeld, IsReal, IsFull, IsClosed}
 use Rattle.alw_outcomes.specs.declared.explored.Explored.{Explored}
 use Rattle.alw_outcomes.specs.declared.stuck.Stuck.{Stuck}
 use Rattle.alw_outcomes.specs.declared.stuck.Look.{Look}
 use Rattle.alw_outcomes.specs.declared.stuck.Look.TheVariants.{Ends, Alone, Stays, Open}
-use Rattle.alw_outcomes.specs.Stuck.{CanEnd, CanAlwaysEnd, IsStuckAt, TellsStuck}
+use Rattle.alw_outcomes.specs.Stuck.{IsStuckAt, TellsStuck}
 use Rattle.alw_outcomes.specs.Marks.{AreMarks, IsUnmarked, StaysAlong, StaysAll, IsStaying, AreStaying, HeldUnmarked, KeepsFound, IsStayingAt, StaysAlongAt, LooksAlong, LooksAt, LooksAlongAt, look_of, ends, tells, is_open, stays_inside}
 use Rattle.alw_outcomes.proofs.Storing.{number_place, places_length}
 use Rattle.alw_outcomes.proofs.Finding.{same_member, sizes_found}
 use Rattle.alw_outcomes.proofs.Steps.{held_next, some_member, past_idle}
-use Rattle.alw_outcomes.proofs.Sizes.{sizes_stay}
-use Rattle.alw_outcomes.proofs.Threading.{turns_with, thread_after, goes_at, private_at, forward_at, privates_at, private_run, turns_after, outcome_in}
+use Rattle.alw_places.proofs.Sizes.{sizes_stay}
+use Rattle.alw_places.proofs.Threading.{turns_with, thread_after, goes_at, private_at, forward_at, privates_at, private_run, turns_after, outcome_in}
 use Rattle.alw_outcomes.proofs.Witnesses.{run-append, after-append}
-use Rattle.alw_outcomes.proofs.Independence.{IsToldBy, IsBrokenBy, told_from, can_be_had}
+use Rattle.alw_places.proofs.Independence.{IsToldBy, IsBrokenBy, told_from, can_be_had}
 
 -- ---- an end behind turns
 

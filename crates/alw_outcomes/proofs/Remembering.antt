@@ -2,12 +2,12 @@
 use Rattle.std.proofs.Common.{◌≡◌, ℕ, zero, suc, ◌⊎◌, inl, inr, Option, Some, None, List, [], ◌∷◌, replicate, slice_set, sym, ap, ◌∙◌, subst}
 use Rattle.std.specs.List.{slice_get}
 use Rattle.alw_image.specs.declared.parts.Parts.{Parts}
-use Rattle.alw_outcomes.specs.declared.classes.Class.{Class}
+use Rattle.alw_places.specs.declared.classes.Class.{Class}
 use Rattle.alw_outcomes.specs.declared.leads.Lead.{Lead}
 use Rattle.alw_outcomes.specs.declared.leads.Lead.TheVariants as leads
 use Rattle.alw_outcomes.specs.declared.pools.Pools.{Pools}
 use Rattle.alw_outcomes.specs.declared.remembered.Known.{Known}
-use Rattle.alw_outcomes.specs.Threads.{Thread, thread_turn}
+use Rattle.alw_places.specs.Threads.{Thread, thread_turn}
 use Rattle.alw_outcomes.specs.Pools.{ArePools, PoolsGrow, thread_in}
 use Rattle.alw_outcomes.specs.Leads.{IsLead}
 use Rattle.alw_outcomes.specs.Remembered.{IsKnown, KeepsSome, NotesOne, NotesSome, IsLeadOf, AreLeads}

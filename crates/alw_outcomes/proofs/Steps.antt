@@ -9,20 +9,20 @@ use Rattle.alw_image.specs.declared.parts.Parts.{Parts}
 use Rattle.alw_image.specs.Images.{context_count}
 use Rattle.alw_flat.proofs.Turns.{ready_exists}
 use Rattle.alw_model.specs.Flat.{context_at}
-use Rattle.alw_outcomes.specs.Places.{Place, place_turn, places_after, outcome_at, traps, IsForward, IsReadyAt, IsRun, HasSizes}
-use Rattle.alw_outcomes.specs.Outcomes.{Ending, Halts, Traps, all_halted, EndsIn, ComesTo}
-use Rattle.alw_outcomes.specs.declared.classes.Class.{Class}
-use Rattle.alw_outcomes.specs.Sharing.{is_allowed, need_at, IsPrivate, HasNext, HasPrivateNext}
-use Rattle.alw_outcomes.specs.Explored.{Found, IsAmong, IsHeld, PrivateTurns, place_turns, HasHalted, HasTrapped, IsListed, IsBroken, IsReal, IsFull, IsExpanded, IsClosed, Grows, IsTurnFound, Adds, GoesTo, IsAlone, HasFirst, HasTurn, TellsHalt, HasFull, HasExpanded}
+use Rattle.alw_places.specs.Places.{Place, place_turn, places_after, outcome_at, traps, IsForward, IsReadyAt, IsRun, HasSizes, place_turns}
+use Rattle.alw_places.specs.Outcomes.{Ending, Halts, Traps, all_halted, EndsIn, ComesTo}
+use Rattle.alw_places.specs.declared.classes.Class.{Class}
+use Rattle.alw_places.specs.Sharing.{is_allowed, need_at, IsPrivate, HasNext, HasPrivateNext, PrivateTurns}
+use Rattle.alw_outcomes.specs.Explored.{Found, IsAmong, IsHeld, HasHalted, HasTrapped, IsListed, IsBroken, IsReal, IsFull, IsExpanded, IsClosed, Grows, IsTurnFound, Adds, GoesTo, IsAlone, HasFirst, HasTurn, TellsHalt, HasFull, HasExpanded}
 use Rattle.alw_outcomes.specs.declared.explored.Trapped.{Trapped}
-use Rattle.alw_outcomes.specs.declared.classes.Broken.{Broken}
+use Rattle.alw_places.specs.declared.classes.Broken.{Broken}
 use Rattle.alw_outcomes.proofs.Finding.{same_member, grows_refl, grows_trans, turn_grows, expanded_grows, adds_is, halt_listed, trap_listed, break_listed, sizes_found}
-use Rattle.alw_outcomes.specs.Threads.{Thread, thread_at, with_thread, thread_turn, thread_turns, ThreadGoes, ThreadPrivate, ArePrivate}
+use Rattle.alw_places.specs.Threads.{Thread, thread_at, with_thread, thread_turn, thread_turns, ThreadGoes, ThreadPrivate, ArePrivate}
 use Rattle.alw_outcomes.specs.Leads.{IsTrapOf}
 use Rattle.alw_outcomes.proofs.Pooling.{get-last}
-use Rattle.alw_outcomes.proofs.Sizes.{sizes_stay}
-use Rattle.alw_outcomes.proofs.Threading.{turns_with, thread_after, goes_at, private_at, forward_at, privates_at, private_run, turns_after, outcome_in}
-use Rattle.alw_outcomes.proofs.Independence.{IsToldBy, IsBrokenBy, private_told}
+use Rattle.alw_places.proofs.Sizes.{sizes_stay}
+use Rattle.alw_places.proofs.Threading.{turns_with, thread_after, goes_at, private_at, forward_at, privates_at, private_run, turns_after, outcome_in}
+use Rattle.alw_places.proofs.Independence.{IsToldBy, IsBrokenBy, private_told}
 
 -- ---- where all contexts have halted
 

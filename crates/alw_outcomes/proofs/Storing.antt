@@ -17,16 +17,16 @@ use Rattle.alw_outcomes.specs.declared.pools.Seat.{Seat}
 use Rattle.alw_outcomes.specs.declared.pools.Link.{Link}
 use Rattle.alw_outcomes.specs.declared.pools.Numbers.{Numbers}
 use Rattle.alw_outcomes.specs.declared.explored.Trapped.{Trapped}
-use Rattle.alw_outcomes.specs.declared.classes.Broken.{Broken}
+use Rattle.alw_places.specs.declared.classes.Broken.{Broken}
 use Rattle.alw_outcomes.specs.declared.pools.Pools.{Pools}
 use Rattle.alw_outcomes.specs.declared.explored.Origin.{Origin}
 use Rattle.alw_outcomes.specs.declared.explored.Explored.{Explored}
 use Rattle.alw_outcomes.specs.declared.remembered.Known.{Known}
 use Rattle.alw_outcomes.specs.Remembered.{AreLeads}
-use Rattle.alw_outcomes.specs.Places.{Place, place_start}
-use Rattle.alw_outcomes.specs.Outcomes.{all_halted}
-use Rattle.alw_outcomes.specs.Sharing.{CanBreak}
-use Rattle.alw_outcomes.specs.Threads.{thread_at, with_thread}
+use Rattle.alw_places.specs.Places.{Place, place_start}
+use Rattle.alw_places.specs.Outcomes.{all_halted}
+use Rattle.alw_places.specs.Sharing.{CanBreak}
+use Rattle.alw_places.specs.Threads.{thread_at, with_thread}
 use Rattle.alw_outcomes.specs.Digests.{seat_digest, link_digest, memory_digest, row_digest}
 use Rattle.alw_outcomes.specs.Pools.{IsFront, Numbered, IsIndexed, AreIn, ArePools, PoolsGrow, GoOn, lists_of, no_seat, seat_in, context_of, context_in, words_in, memory_in, place_of, thread_in}
 use Rattle.alw_outcomes.specs.Explored.{IsAmong, Grows, IsStored, IsRow, AreAtStart, IsReal, halted_in, rows_of, rows_in, row_in, place_in, places_in, found_in}

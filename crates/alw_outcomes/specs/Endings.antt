@@ -8,7 +8,7 @@ use Rattle.std.specs.Ordering.{nat_cmp, ordering_then}
 use Rattle.std.specs.Cmp.Lexicographic.{slice_cmp}
 use Rattle.alw_num.specs.Limits.{shared_base}
 use Rattle.alw_num.specs.declared.addresses.Line.{Line}
-use Rattle.alw_outcomes.specs.Outcomes.{Ending, Halts, Traps}
+use Rattle.alw_places.specs.Outcomes.{Ending, Halts, Traps}
 use Rattle.alw_outcomes.specs.declared.endings.Endings.{Endings}
 use Rattle.alw_outcomes.specs.Explored.{Found, no_place, halt_of, trap_of}
 

@@ -1,19 +1,19 @@
 -- What a search has found: places, how each was found, and the endings.
-use Rattle.std.specs.Prelude.{◌≡◌, ℕ, zero, suc, ◌*◌, ◌<◌, ◌≤◌, Bool, true, ◌⊎◌, List, [], ◌∷◌, ◌++◌, length, map, take, drop, replicate, slice_get, slice_index_or, Some}
+use Rattle.std.specs.Prelude.{◌≡◌, ℕ, ◌*◌, ◌<◌, ◌≤◌, Bool, true, ◌⊎◌, List, [], ◌∷◌, ◌++◌, length, map, take, drop, replicate, slice_get, slice_index_or, Some}
 use Rattle.std.specs.List.{range_with_len, list_all}
 use Rattle.alw_num.specs.declared.addresses.Line.{Line}
 use Rattle.alw_image.specs.declared.parts.Parts.{Parts}
 use Rattle.alw_image.specs.Images.{context_count}
 use Rattle.alw_msg.specs.Statuses.{is_halted}
 use Rattle.alw_model.specs.Flat.{context_start}
-use Rattle.alw_outcomes.specs.Places.{Place, place_start, place_turn, places_after, IsForward, IsRun}
-use Rattle.alw_outcomes.specs.Outcomes.{Ending, Halts, Traps, EndsIn, all_halted}
-use Rattle.alw_outcomes.specs.Sharing.{Goes, Breaks, CanBreak, IsPrivate, HasNext, HasPrivateNext}
+use Rattle.alw_places.specs.Places.{Place, place_start, place_turn, place_turns, places_after, IsForward, IsRun}
+use Rattle.alw_places.specs.Outcomes.{Ending, Halts, Traps, EndsIn, all_halted}
+use Rattle.alw_places.specs.Sharing.{Goes, Breaks, CanBreak, IsPrivate, PrivateTurns, HasNext, HasPrivateNext}
 use Rattle.alw_outcomes.specs.Digests.{row_digest}
 use Rattle.alw_outcomes.specs.Pools.{IsIndexed, ArePools, no_seat, context_of, place_of}
 use Rattle.alw_outcomes.specs.Remembered.{AreLeads}
-use Rattle.alw_outcomes.specs.declared.classes.Class.{Class}
-use Rattle.alw_outcomes.specs.declared.classes.Broken.{Broken}
+use Rattle.alw_places.specs.declared.classes.Class.{Class}
+use Rattle.alw_places.specs.declared.classes.Broken.{Broken}
 use Rattle.alw_outcomes.specs.declared.pools.Seat.{Seat}
 use Rattle.alw_outcomes.specs.declared.explored.Origin.{Origin}
 use Rattle.alw_outcomes.specs.declared.explored.Trapped.{Trapped}
@@ -126,16 +126,6 @@ trap_of turn = Traps turn.context turn.pc turn.tt
 abbrev pub IsListed : Found → Ending → Type 0
 IsListed found (Halts printed memory) = HasHalted found printed memory
 IsListed found (Traps context pc tt') = HasTrapped found context pc tt'
-
--- so many turns of a context, each private and forward
-abbrev pub PrivateTurns : Parts → List Class → Place → ℕ → ℕ → Type 0
-PrivateTurns parts classes place context zero = Unit {0}
-PrivateTurns parts classes place context (suc n) = IsPrivate parts classes place context × IsForward parts place context × PrivateTurns parts classes (place_turn parts place context) context n
-
--- the place after so many turns of a context
-abbrev pub place_turns : Parts → Place → ℕ → ℕ → Place
-place_turns parts place context zero = place
-place_turns parts place context (suc n) = place_turns parts (place_turn parts place context) context n
 
 -- private turns of a context, if any, lead from the place to one of a set
 pub record IsHeld (parts : Parts) (classes : List Class) (Among : Place → Type 0) (place : Place) : Type 0 where

@@ -3,13 +3,13 @@ use Rattle.std.specs.Prelude.{◌≡◌, ℕ, Bool, true, false, List, IsTrue}
 use Rattle.sparc_table.specs.declared.outcomes.Outcome.TheVariants.{Trap}
 use Rattle.alw_image.specs.declared.parts.Parts.{Parts}
 use Rattle.alw_msg.specs.Statuses.{is_ready}
-use Rattle.alw_outcomes.specs.declared.classes.Class.{Class}
+use Rattle.alw_places.specs.declared.classes.Class.{Class}
 use Rattle.alw_outcomes.specs.declared.leads.Lead.{Lead}
 use Rattle.alw_outcomes.specs.declared.leads.Lead.TheVariants as leads
 use Rattle.alw_outcomes.specs.declared.pools.Pools.{Pools}
 use Rattle.alw_outcomes.specs.declared.pools.Numbers.{Numbers}
-use Rattle.alw_outcomes.specs.Sharing.{is_allowed}
-use Rattle.alw_outcomes.specs.Threads.{Thread, effect_in, thread_turn, thread_turns, thread_need, ThreadGoes, ThreadPrivate, ArePrivate}
+use Rattle.alw_places.specs.Sharing.{is_allowed}
+use Rattle.alw_places.specs.Threads.{Thread, effect_in, thread_turn, thread_turns, thread_need, ThreadGoes, ThreadPrivate, ArePrivate}
 use Rattle.alw_outcomes.specs.Pools.{thread_in, AreIn}
 
 -- so many private turns of the thread lead there

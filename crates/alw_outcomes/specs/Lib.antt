@@ -1,8 +1,3 @@
-pub mod Places
-pub mod Outcomes
-pub mod Sharing
-pub mod Effects
-pub mod Threads
 pub mod Tables
 pub mod Digests
 pub mod Pools

@@ -1,15 +1,14 @@
 -- Marks of places from which an end can be reached.
 use Rattle.std.specs.Prelude.{◌≡◌, ℕ, ◌<◌, Bool, true, false, ◌⊎◌, List, slice_get, Some}
 use Rattle.alw_image.specs.declared.parts.Parts.{Parts}
-use Rattle.alw_outcomes.specs.declared.classes.Class.{Class}
+use Rattle.alw_places.specs.declared.classes.Class.{Class}
 use Rattle.alw_outcomes.specs.declared.explored.Explored.{Explored}
 use Rattle.alw_outcomes.specs.declared.stuck.Look.{Look}
 use Rattle.alw_outcomes.specs.declared.stuck.Look.TheVariants.{Ends, Alone, Stays, Open}
-use Rattle.alw_outcomes.specs.Places.{Place, place_turn}
-use Rattle.alw_outcomes.specs.Outcomes.{Ending, Traps, EndsIn}
-use Rattle.alw_outcomes.specs.Sharing.{Goes, Breaks, HasNext, HasPrivateNext}
+use Rattle.alw_places.specs.Places.{Place, place_turn}
+use Rattle.alw_places.specs.Outcomes.{Ending, Traps, EndsIn, CanEnd}
+use Rattle.alw_places.specs.Sharing.{Goes, Breaks, HasNext, HasPrivateNext}
 use Rattle.alw_outcomes.specs.Explored.{Found, IsHeld, IsStored, found_in}
-use Rattle.alw_outcomes.specs.Stuck.{CanEnd}
 
 -- an end can be reached from each place that is marked
 abbrev pub AreMarks : Parts → Found → List Bool → Type 0

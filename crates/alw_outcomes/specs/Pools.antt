@@ -10,8 +10,8 @@ use Rattle.alw_outcomes.specs.declared.pools.Seat.{Seat}
 use Rattle.alw_outcomes.specs.declared.pools.Link.{Link}
 use Rattle.alw_outcomes.specs.declared.pools.Pools.{Pools}
 use Rattle.alw_outcomes.specs.declared.pools.Numbers.{Numbers}
-use Rattle.alw_outcomes.specs.Places.{Place}
-use Rattle.alw_outcomes.specs.Threads.{Thread}
+use Rattle.alw_places.specs.Places.{Place}
+use Rattle.alw_places.specs.Threads.{Thread}
 use Rattle.alw_outcomes.specs.Digests.{seat_digest, link_digest, memory_digest}
 
 -- a list that has grown at its end

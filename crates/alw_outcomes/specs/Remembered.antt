@@ -1,7 +1,7 @@
 -- Leads that are remembered, each in a slot.
 use Rattle.std.specs.Prelude.{◌≡◌, ◌⊎◌, ℕ, List, Option, Some, slice_get}
 use Rattle.alw_image.specs.declared.parts.Parts.{Parts}
-use Rattle.alw_outcomes.specs.declared.classes.Class.{Class}
+use Rattle.alw_places.specs.declared.classes.Class.{Class}
 use Rattle.alw_outcomes.specs.declared.pools.Pools.{Pools}
 use Rattle.alw_outcomes.specs.declared.remembered.Known.{Known}
 use Rattle.alw_outcomes.specs.Pools.{thread_in, AreIn}

@@ -6,10 +6,10 @@ ghost use Rattle.alw_outcomes.specs.Keys.{words_key, place_key, end_key, turn_ke
 
 use crate::explored::{Explored, Trapped};
 use crate::places::{memory_at, words_at};
-use crate::turns::contexts_of;
 use alw_flat::Memory;
 use alw_image::Image;
 use alw_num::{LINE_BYTES, Line, LineNo, NoMemory, SHARED_BASE};
+use alw_places::contexts_of;
 use sparc_exec::Port;
 use std::alloc::Global;
 

@@ -1,12 +1,11 @@
 ghost use Rattle.std.specs.Prelude.{◌≡◌, ◌≤◌, length, false, max, IfOk, IfNone, IsTrue};
-ghost use Rattle.alw_outcomes.specs.Outcomes.{HasEvery};
+ghost use Rattle.alw_places.specs.Outcomes.{HasEvery};
 ghost use Rattle.alw_outcomes.specs.Explored.{found_in, endings_in, IsStored, IsReal, IsClosed, PlacesAreDifferent};
 
-use crate::classes::{Broken, Class, class_at};
 use crate::explored::{Explored, explore_by};
-use crate::turns::lines_of;
 use alw_image::Image;
 use alw_num::{Mode, NoMemory};
+use alw_places::{Broken, Class, class_at, lines_of};
 use std::alloc::Global;
 
 /// Finds every outcome of an image. It first takes each line for one that nobody writes, and begins

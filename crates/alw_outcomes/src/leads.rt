@@ -1,17 +1,16 @@
 ghost use Rattle.std.specs.Prelude.{◌≡◌, ◌<◌, true, false, IfOk, IfSome, IfNone, OnOk, IsTrue};
 ghost use Rattle.alw_image.specs.Images.{line_count};
 ghost use Rattle.sparc_table.specs.Turns.{need_of};
-ghost use Rattle.alw_outcomes.specs.Places.{to_go};
-ghost use Rattle.alw_outcomes.specs.Sharing.{is_allowed, is_private};
-ghost use Rattle.alw_outcomes.specs.Threads.{thread_turn, ThreadPrivate};
+ghost use Rattle.alw_places.specs.Places.{to_go};
+ghost use Rattle.alw_places.specs.Sharing.{is_allowed, is_private};
+ghost use Rattle.alw_places.specs.Threads.{thread_turn, ThreadPrivate};
 ghost use Rattle.alw_outcomes.specs.Pools.{thread_in, AreIn, ArePools, GoOn};
 ghost use Rattle.alw_outcomes.specs.Leads.{IsLead, IsChain};
 
-use crate::classes::{Broken, Class, class_at, is_shared, may_access};
 use crate::pools::{Numbers, Pools, Seat, step};
-use crate::turns::{has_trapped, need};
 use alw_image::Image;
 use alw_num::NoMemory;
+use alw_places::{Broken, Class, class_at, has_trapped, is_shared, may_access, need};
 use sparc_exec::Outcome;
 use sparc_table::Regs;
 

@@ -1,7 +1,6 @@
 //! What an image can come to, whatever the schedule: every order of turns on one memory, searched.
 #![tactic(auto)]
 
-mod classes;
 mod digests;
 mod endings;
 mod explored;
@@ -14,15 +13,10 @@ mod pools;
 mod remembered;
 mod stuck;
 mod tables;
-mod turns;
 
-pub use classes::{Broken, Class};
 pub use endings::{Endings, endings_of};
 pub use explored::{Explored, Origin, Trapped, turns_to};
 pub use hints::explore;
-pub use laws::{
-    different_endings_are_one, each_trap_is_told, local_turns_commute, private_turns_first,
-    reduced_set_tells_all, turns_come_to,
-};
+pub use laws::different_endings_are_one;
 pub use places::{memory_at, words_at};
 pub use stuck::{Stuck, stuck_of};

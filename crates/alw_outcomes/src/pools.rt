@@ -1,20 +1,20 @@
 ghost use Rattle.std.specs.Prelude.{◌≡◌, ◌<◌, ◌++◌, ◌∷◌, ◌-◌, ◌^◌, ◌↔◌, [], suc, ℕ, length, slice_get, slice_set, slice_index_or, Some, IfOk, IfSome, OnOk, IsTrue};
 ghost use Rattle.alw_image.specs.Images.{line_count};
 ghost use Rattle.alw_msg.specs.Statuses.{is_ready, is_halted};
-ghost use Rattle.alw_outcomes.specs.Places.{to_go};
+ghost use Rattle.alw_places.specs.Places.{to_go};
 ghost use Rattle.alw_outcomes.specs.Digests.{seat_digest, link_digest, memory_digest};
-ghost use Rattle.alw_outcomes.specs.Effects.{written};
-ghost use Rattle.alw_outcomes.specs.Threads.{effect_in, thread_turn, words_after};
+ghost use Rattle.alw_places.specs.Effects.{written};
+ghost use Rattle.alw_places.specs.Threads.{effect_in, thread_turn, words_after};
 ghost use Rattle.alw_outcomes.specs.Pools.{Numbered, IsFront, LinksGoOn, HasWords, lists_of, thread_in, memory_in, seat_in, AreIn, ArePools, GoOn, IsIndexed};
 
 use crate::digests::{mixed, of_lines, weighed};
 use crate::pooled::{Pooled, number_in};
 use crate::tables::Table;
-use crate::turns::{left_by, run};
 use alw_flat::Memory;
 use alw_image::Image;
 use alw_msg::Status;
 use alw_num::{Line, LineNo, NoMemory};
+use alw_places::{left_by, run};
 use sparc_exec::Outcome;
 use sparc_table::Regs;
 use std::alloc::Global;

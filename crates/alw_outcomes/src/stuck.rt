@@ -6,9 +6,9 @@ ghost use Rattle.alw_outcomes.specs.Marks.{AreMarks, KeepsFound, AreStaying, IsS
 
 use crate::explored::{Explored, has_halted, lead_at, number_of};
 use crate::leads::Lead;
-use crate::turns::contexts_of;
 use alw_image::Image;
 use alw_num::NoMemory;
+use alw_places::contexts_of;
 use std::alloc::Global;
 
 /// Whether a place can be reached from which no end can be: none can; or the number of such a place; or

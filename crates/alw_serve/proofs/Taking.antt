@@ -27,7 +27,7 @@ use Rattle.alw_mesh.specs.Histories.{History, IsRun, state_of, stamps_of, begun}
 use Rattle.alw_mesh.specs.Limits.{most_steps}
 use Rattle.alw_mesh.proofs.Journals.{journal_fits}
 use Rattle.alw_mesh.specs.Readings.{turns_in}
-use Rattle.alw_outcomes.specs.Outcomes.{flat_halted}
+use Rattle.alw_places.specs.Outcomes.{flat_halted}
 use Rattle.alw_serve.specs.declared.errors.Hindrance.{Hindrance}
 use Rattle.alw_serve.specs.declared.errors.Hindrance.TheVariants.{NotReady, NotCurrent, AboveLimit}
 use Rattle.alw_serve.specs.declared.errors.ServeErr.{ServeErr}

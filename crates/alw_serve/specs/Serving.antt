@@ -13,7 +13,7 @@ use Rattle.alw_model.specs.Contexts.{running}
 use Rattle.alw_model.specs.declared.ends.Ended.{Ended}
 use Rattle.alw_model.specs.Ends.{IsEnd}
 use Rattle.alw_model.specs.Machine.{Halted, Trapped, is_settled, end_of}
-use Rattle.alw_outcomes.specs.Outcomes.{flat_halted}
+use Rattle.alw_places.specs.Outcomes.{flat_halted}
 use Rattle.alw_model.specs.Flat.{AreReady, flat_after, context_at}
 use Rattle.alw_mesh.specs.declared.errors.FitErr.{FitErr}
 use Rattle.alw_mesh.specs.declared.errors.FitErr.TheVariants as fits

@@ -21,9 +21,9 @@ use Rattle.alw_model.specs.Runs.{turns_of, prints_of, flat_view}
 use Rattle.alw_model.specs.Counts.{listed_words}
 use Rattle.law_machine.proofs.CoherentRuns.{coherent_run}
 use Rattle.law_machine.proofs.FlatStarts.{flat_view_is, turns_are_ready, prints_are}
-use Rattle.alw_outcomes.specs.Places.{place_start, IsRun}
-use Rattle.alw_outcomes.specs.Outcomes.{words_of, flat_halted}
-use Rattle.alw_outcomes.proofs.Runs.{flat_is, words_are, turns_after-append}
+use Rattle.alw_places.specs.Places.{place_start, IsRun}
+use Rattle.alw_places.specs.Outcomes.{words_of, flat_halted}
+use Rattle.alw_places.proofs.Runs.{flat_is, words_are, turns_after-append}
 use Rattle.alw_endings.specs.declared.values.Outcomes.{Outcomes}
 use Rattle.alw_endings.specs.declared.values.HaltEnd.{HaltEnd}
 use Rattle.alw_endings.specs.declared.values.TrapEnd.{TrapEnd}

@@ -6,12 +6,11 @@ use Rattle.alw_msg.specs.declared.contexts.Status.TheVariants.{Trapped}
 use Rattle.alw_msg.specs.Statuses.{has_trapped}
 use Rattle.alw_model.specs.ProcessorSteps.{status_after}
 use Rattle.alw_model.specs.Flat.{Flat, context_at, flat_turn, turns_after, turns_ready, flat_after}
-use Rattle.alw_outcomes.specs.Places.{Place, place_start, place_turn, places_after, outcome_at, regs_at, traps, IsReadyAt, GoesOn, IsRun}
-use Rattle.alw_outcomes.specs.Outcomes.{Halts, Traps, EndsIn, flat_halted}
-use Rattle.alw_outcomes.specs.Stuck.{CanEnd}
-use Rattle.alw_outcomes.proofs.Commuting.{effect_at, outcome_is}
-use Rattle.alw_outcomes.proofs.Ends.{both}
-use Rattle.alw_outcomes.proofs.Runs.{flat_is, left_at, trap_is, trap_keeps, run_traps_none, start_traps_none}
+use Rattle.alw_places.specs.Places.{Place, place_start, place_turn, places_after, outcome_at, regs_at, traps, IsReadyAt, GoesOn, IsRun}
+use Rattle.alw_places.specs.Outcomes.{Halts, Traps, EndsIn, flat_halted, CanEnd}
+use Rattle.alw_places.proofs.Commuting.{effect_at, outcome_is}
+use Rattle.alw_places.proofs.Ends.{both}
+use Rattle.alw_places.proofs.Runs.{flat_is, left_at, trap_is, trap_keeps, run_traps_none, start_traps_none}
 use Rattle.law_turns.specs.Turns.{NoneTrapsEarly}
 use Rattle.law_turns.proofs.Endings.{flat_more}
 use Rattle.law_turns.proofs.Fronts.{before_last}

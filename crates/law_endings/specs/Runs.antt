@@ -11,7 +11,7 @@ use Rattle.alw_model.specs.Machine.{IsLegal, state, end_of, Halted, Trapped}
 use Rattle.alw_model.specs.Flat.{context_at}
 use Rattle.alw_model.specs.Runs.{turns_of, prints_of, flat_view}
 use Rattle.alw_model.specs.Counts.{memory_words}
-use Rattle.alw_outcomes.specs.Outcomes.{words_of}
+use Rattle.alw_places.specs.Outcomes.{words_of}
 use Rattle.alw_endings.specs.declared.values.Outcomes.{Outcomes}
 use Rattle.alw_endings.specs.declared.values.HaltEnd.{HaltEnd}
 use Rattle.alw_endings.specs.declared.values.TrapEnd.{TrapEnd}

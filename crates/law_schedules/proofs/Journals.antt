@@ -8,9 +8,9 @@ use Rattle.alw_model.specs.Machine.{IsLegal, state}
 use Rattle.alw_model.specs.Flat.{Flat, context_at, flat_after}
 use Rattle.alw_model.specs.Runs.{turns_of, prints_of, flat_view}
 use Rattle.law_machine.proofs.FlatStarts.{flat_view_is, turns_are_ready, prints_are}
-use Rattle.alw_outcomes.specs.Outcomes.{Ending, HaltsWith, HasEvery, HasTold, flat_halted}
-use Rattle.alw_outcomes.proofs.Runs.{halts_with}
-use Rattle.alw_outcomes.proofs.EveryTrap.{every_trap}
+use Rattle.alw_places.specs.Outcomes.{Ending, HaltsWith, HasEvery, HasTold, flat_halted}
+use Rattle.alw_places.proofs.Runs.{halts_with}
+use Rattle.alw_places.proofs.EveryTrap.{every_trap}
 use Rattle.law_schedules.specs.Schedules.{ListsAll}
 
 module _ (parts : Parts) (parameters : Parameters) (some : 1 ≤ parameters.pointers) (journal : List Entry) (legal : IsLegal parts parameters journal) where

@@ -10,7 +10,7 @@ use Rattle.alw_msg.specs.Statuses.{has_trapped}
 use Rattle.alw_model.specs.Machine.{IsLegal, state}
 use Rattle.alw_model.specs.Flat.{Flat, context_at}
 use Rattle.alw_model.specs.Runs.{prints_of, flat_view}
-use Rattle.alw_outcomes.specs.Outcomes.{Ending, Halts, Traps, flat_halted, words_of}
+use Rattle.alw_places.specs.Outcomes.{Ending, Halts, Traps, flat_halted, words_of}
 
 -- the list has an end of this memory, at which each context has printed its words of these
 pub record ListsHalt (parts : Parts) (endings : List Ending) (flat : Flat) (prints : List (ℕ × ℕ)) : Type 0 where

@@ -7,7 +7,7 @@ ghost use Rattle.alw_msg.specs.Statuses.{has_trapped};
 ghost use Rattle.alw_model.specs.Flat.{context_at};
 ghost use Rattle.alw_model.specs.Runs.{prints_of, flat_view};
 ghost use Rattle.law_machine.specs.Values.{AfterEveryJournal};
-ghost use Rattle.alw_outcomes.specs.Outcomes.{Ending, HaltsWith, HasEvery, HasTold, flat_halted};
+ghost use Rattle.alw_places.specs.Outcomes.{Ending, HaltsWith, HasEvery, HasTold, flat_halted};
 ghost use Rattle.law_schedules.specs.Schedules.{ListsAll};
 
 /// After every legal journal, under whatever parameters: where all contexts have halted, the memory

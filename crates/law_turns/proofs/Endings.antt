@@ -6,9 +6,9 @@ use Rattle.alw_msg.specs.Statuses.{is_ready, has_trapped}
 use Rattle.alw_image.specs.declared.parts.Parts.{Parts}
 use Rattle.alw_model.specs.ProcessorSteps.{status_after}
 use Rattle.alw_model.specs.Flat.{Flat, context_at, turns_after, turns_ready, flat_after, flat_prints, are_ready}
-use Rattle.alw_outcomes.specs.Places.{Place, place_start, place_turn, places_after, regs_at, IsReadyAt, IsRun}
-use Rattle.alw_outcomes.specs.Outcomes.{words_of, flat_halted}
-use Rattle.alw_outcomes.proofs.Commuting.{effect_at, outcome_is}
+use Rattle.alw_places.specs.Places.{Place, place_start, place_turn, places_after, regs_at, IsReadyAt, IsRun}
+use Rattle.alw_places.specs.Outcomes.{words_of, flat_halted, Ending, EndsIn, ComesTo, Halts, Traps}
+use Rattle.alw_places.proofs.Commuting.{effect_at, outcome_is}
 use Rattle.std.proofs.Common.{length-append}
 use Rattle.std.proofs.Math.Nat.{suc-mul}
 use Rattle.alw_image.specs.Images.{IsImage}
@@ -16,8 +16,7 @@ use Rattle.alw_image.specs.Parameters.{Parameters, AreParameters}
 use Rattle.alw_model.specs.Machine.{state}
 use Rattle.alw_model.specs.Runs.{prints_of, flat_view}
 use Rattle.alw_model.proofs.Journals.{and_is}
-use Rattle.alw_outcomes.proofs.Runs.{flat_is, left_at, trap_keeps, words_are}
-use Rattle.alw_outcomes.specs.Outcomes.{Ending, EndsIn, ComesTo, Halts, Traps}
+use Rattle.alw_places.proofs.Runs.{flat_is, left_at, trap_keeps, words_are}
 use Rattle.law_machine.proofs.FlatStarts.{flat_view_is, prints_are}
 use Rattle.law_turns.specs.Turns.{turn_events, RunsTurns}
 use Rattle.law_turns.specs.Endings.{RunComesTo, EveryEndingIsReached}

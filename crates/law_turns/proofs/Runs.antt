@@ -11,7 +11,7 @@ use Rattle.alw_msg.specs.declared.events.Entry.{Entry}
 use Rattle.alw_model.specs.Machine.{MachineState, machine_start, state, IsLegal, end_of, Halted, Trapped}
 use Rattle.alw_model.specs.Flat.{Flat, AreReady, flat_after, context_at}
 use Rattle.alw_model.specs.Runs.{moments, turns_of, flat_view}
-use Rattle.alw_outcomes.specs.Outcomes.{flat_halted}
+use Rattle.alw_places.specs.Outcomes.{flat_halted}
 use Rattle.law_machine.proofs.FlatStarts.{flat_view_is}
 use Rattle.law_turns.specs.Turns.{RunsTurns, IsAtRest, ServesTurns, greatest_clock, turn_events, EveryTurnIsServed}
 use Rattle.law_turns.proofs.Turns.{HasTurnsBehind, RunsOrStops, turns_run}

@@ -7,10 +7,10 @@ use Rattle.alw_msg.specs.Statuses.{is_ready, has_trapped}
 use Rattle.alw_image.specs.declared.parts.Parts.{Parts}
 use Rattle.alw_model.specs.ProcessorSteps.{status_after}
 use Rattle.alw_model.specs.Flat.{Flat, context_at, flat_start, flat_turn, turns_after, turns_ready, flat_after, are_ready, AreReady}
-use Rattle.alw_outcomes.specs.Places.{Place, place_start, place_turn, places_after, traps, IsRun}
-use Rattle.alw_outcomes.specs.Outcomes.{flat_halted, TrapsAt}
-use Rattle.alw_outcomes.proofs.Commuting.{effect_at}
-use Rattle.alw_outcomes.proofs.Ends.{both}
+use Rattle.alw_places.specs.Places.{Place, place_start, place_turn, places_after, traps, IsRun}
+use Rattle.alw_places.specs.Outcomes.{flat_halted, TrapsAt, Ending, EndsIn, Halts, Traps, CanAlwaysEnd}
+use Rattle.alw_places.proofs.Commuting.{effect_at}
+use Rattle.alw_places.proofs.Ends.{both}
 use Rattle.alw_image.specs.Images.{IsImage}
 use Rattle.alw_image.specs.Parameters.{Parameters, AreParameters}
 use Rattle.alw_msg.specs.declared.events.Entry.{Entry}
@@ -18,9 +18,7 @@ use Rattle.alw_model.specs.Machine.{MachineState, state, IsLegal, end_of}
 use Rattle.alw_model.specs.Machine as machine
 use Rattle.alw_model.specs.Runs.{turns_of}
 use Rattle.alw_model.proofs.Journals.{and_is}
-use Rattle.alw_outcomes.proofs.Runs.{flat_is, left_at, turns_after-append, run_or_traps}
-use Rattle.alw_outcomes.specs.Outcomes.{Ending, EndsIn, Halts, Traps}
-use Rattle.alw_outcomes.specs.Stuck.{CanAlwaysEnd}
+use Rattle.alw_places.proofs.Runs.{flat_is, left_at, turns_after-append, run_or_traps}
 use Rattle.law_machine.proofs.FlatStarts.{turns_are_ready}
 use Rattle.law_turns.specs.Turns.{IsAtRest, greatest_clock, turns_from, turn_events}
 use Rattle.law_turns.specs.Going.{settle_events, ComesToRest}

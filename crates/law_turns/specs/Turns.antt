@@ -15,7 +15,7 @@ use Rattle.alw_model.specs.NodeStates.{NodeState}
 use Rattle.alw_model.specs.Machine.{MachineState, machine_start, node_at, after, state, AreLegal, IsLegal, is_settled, end_of, Halted, Trapped}
 use Rattle.alw_model.specs.Flat.{AreReady, flat_after, context_at}
 use Rattle.alw_model.specs.Runs.{Moment, number_of, moments_from, turn_in, turns_of}
-use Rattle.alw_outcomes.specs.Outcomes.{flat_halted}
+use Rattle.alw_places.specs.Outcomes.{flat_halted}
 
 -- nothing is under way: no message on a link, no packet, and no slot with a hold
 pub record IsAtRest (parts : Parts) (machine : MachineState) : Type 0 where

@@ -1,7 +1,7 @@
 -- What a search has found is told, each ending once.
 use Rattle.std.proofs.Common.{ℕ, List, map, sym, ap, ◌∙◌, subst}
 use Rattle.std.specs.Prelude.{IsTrue}
-use Rattle.alw_outcomes.specs.Outcomes.{HasEvery}
+use Rattle.alw_places.specs.Outcomes.{HasEvery}
 use Rattle.alw_outcomes.specs.Explored.{Found, found_in, endings_in, trap_of, IsReal}
 use Rattle.alw_outcomes.specs.Endings.{halt_at}
 use Rattle.alw_outcomes.specs.declared.explored.Trapped.{Trapped}

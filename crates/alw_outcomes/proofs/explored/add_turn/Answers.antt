@@ -1,6 +1,6 @@
 -- By what the turn leads to.
 use Rattle.std.proofs.Common.{List, sym, subst}
-use Rattle.alw_outcomes.specs.declared.classes.Class.{Class}
+use Rattle.alw_places.specs.declared.classes.Class.{Class}
 use Rattle.alw_outcomes.specs.Explored.{found_in, places_in, HasTurn}
 use Rattle.alw_outcomes.proofs.Storing.{within_same}
 use Rattle.alw_outcomes.proofs.Going.{idle_done, break_done, trap_done, kept_turn, kept_goes}

@@ -1,6 +1,6 @@
 -- Each context's turn is found, and stays found.
 use Rattle.std.proofs.Common.{ℕ, List, ◌<◌, arith, sym, ◌∙◌, subst}
-use Rattle.alw_outcomes.specs.declared.classes.Class.{Class}
+use Rattle.alw_places.specs.declared.classes.Class.{Class}
 use Rattle.alw_outcomes.specs.Explored.{found_in, HasTurn}
 use Rattle.alw_outcomes.proofs.Storing.{places_length, still_there}
 use Rattle.alw_outcomes.proofs.Steps.{within_grows, goes_trans, turns_more, turns_full}

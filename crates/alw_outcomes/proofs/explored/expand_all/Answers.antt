@@ -3,7 +3,7 @@ use Rattle.std.proofs.Common.{List, arith, sym, ◌∙◌, subst}
 use Rattle.std.proofs.lemmas.Bool.{eqb-true}
 use Rattle.alw_outcomes.specs.Explored.{found_in}
 use Rattle.alw_outcomes.proofs.Storing.{places_length}
-use Rattle.alw_outcomes.specs.declared.classes.Class.{Class}
+use Rattle.alw_places.specs.declared.classes.Class.{Class}
 use Rattle.alw_outcomes.proofs.Steps.{IsExploredTo, explored_more, all_closed}
 use Rattle.alw_outcomes.proofs.explored.expand_all.Goals as goal
 

@@ -1,6 +1,6 @@
 -- What is remembered is the lead; pools that have grown leave what was found.
 use Rattle.std.proofs.Common.{refl, subst}
-use Rattle.alw_outcomes.specs.Threads.{Thread}
+use Rattle.alw_places.specs.Threads.{Thread}
 use Rattle.alw_outcomes.specs.Leads.{IsLead}
 use Rattle.alw_outcomes.proofs.Going.{found_grows, thread_stays, known_stored}
 use Rattle.alw_outcomes.proofs.explored.lead_at.Goals as goal

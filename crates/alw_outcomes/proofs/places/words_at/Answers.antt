@@ -1,7 +1,7 @@
 -- The words of the context's list.
 use Rattle.std.proofs.Common.{List, [], ℕ, slice_index_or, ◌∙◌, ap, sym}
 use Rattle.alw_outcomes.specs.Pools.{lists_of, no_seat, thread_in}
-use Rattle.alw_outcomes.specs.Threads.{Thread}
+use Rattle.alw_places.specs.Threads.{Thread}
 use Rattle.alw_outcomes.proofs.Pooling.{at_place}
 use Rattle.alw_outcomes.proofs.places.words_at.Goals as goal
 

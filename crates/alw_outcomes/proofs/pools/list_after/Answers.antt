@@ -1,7 +1,7 @@
 -- A list is longer by the word that was printed.
 use Rattle.std.proofs.Common.{◌+◌, sym, subst, [], slice_index_or}
 use Rattle.sparc_table.specs.declared.outcomes.Outcome.{Outcome}
-use Rattle.alw_outcomes.specs.Threads.{words_after}
+use Rattle.alw_places.specs.Threads.{words_after}
 use Rattle.alw_outcomes.specs.Pools.{HasWords, lists_of}
 use Rattle.alw_outcomes.proofs.Pooling.{links_go_on, words_longer}
 use Rattle.alw_outcomes.proofs.pools.list_after.Goals as goal

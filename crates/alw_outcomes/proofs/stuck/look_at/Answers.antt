@@ -1,7 +1,7 @@
 -- One turn after the other.
 use Rattle.std.proofs.Common.{ap, sym, ◌∙◌, ◌||◌, arith}
 use Rattle.alw_outcomes.specs.Explored.{found_in}
-use Rattle.alw_outcomes.specs.Outcomes.{all_halted}
+use Rattle.alw_places.specs.Outcomes.{all_halted}
 use Rattle.alw_outcomes.proofs.Reaching.{can_halt, place_is, keeps_trans, along_back, tells_so, along_more, looks_all}
 use Rattle.alw_outcomes.proofs.stuck.look_at.Goals as goal
 

@@ -1,0 +1,10 @@
+pub mod Commuting
+pub mod Ends
+pub mod Reducing
+pub mod Independence
+pub mod Unhinted
+pub mod Sizes
+pub mod Runs
+pub mod EveryTrap
+pub mod Lefts
+pub mod Threading

@@ -1,0 +1,5 @@
+pub mod Places
+pub mod Outcomes
+pub mod Sharing
+pub mod Effects
+pub mod Threads
