@@ -63,7 +63,7 @@ get_end : (xs : List ℕ) (x : ℕ) → slice_get (xs ++ x ∷ []) (length xs) �
 get_end [] x = refl
 get_end (y ∷ xs) x = get_end xs x
 
-take_whole : (n : ℕ) (xs : List ℕ) → length xs ≡ n → take n xs ≡ xs
+pub take_whole : (n : ℕ) (xs : List ℕ) → length xs ≡ n → take n xs ≡ xs
 take_whole zero [] e = refl
 take_whole zero (x ∷ xs) e = absurd (omega (arith, e))
 take_whole (suc n) [] e = absurd (omega (arith, e))

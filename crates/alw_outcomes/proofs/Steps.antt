@@ -196,6 +196,11 @@ first_led parts classes before after at context within goes alone turn place e =
     subst (λ (p : Place). HasPrivateNext parts classes (IsHeld parts classes (IsAmong after.places)) p) (same_member after.places at m.0 place there e) has
 
 -- one context's turn more
+-- the same hint, the same turns
+pub same_turns : (parts : Parts) (classes before : List Class) (found : Found) (at past : ℕ) → classes ≡ before → ((context : ℕ) → context < past → HasTurn parts before found at context)
+    → (context : ℕ) → context < past → HasTurn parts classes found at context
+same_turns parts classes before found at past same turns = subst (λ (l : List Class). (context : ℕ) → context < past → HasTurn parts l found at context) (sym same) turns
+
 pub turns_more : (parts : Parts) (classes : List Class) (one two : Found) (at past : ℕ) → at < length one.places → GoesTo parts one two → ((context : ℕ) → context < past → HasTurn parts classes one at context) → HasTurn parts classes two at past → (context : ℕ) → context < past + 1 → HasTurn parts classes two at context
 turns_more parts classes one two at past within goes turns last context l = go (cases_lt context past)
   where

@@ -17,7 +17,6 @@ use Rattle.alw_outcomes.specs.declared.pools.Seat.{Seat}
 use Rattle.alw_outcomes.specs.declared.pools.Link.{Link}
 use Rattle.alw_outcomes.specs.declared.pools.Numbers.{Numbers}
 use Rattle.alw_outcomes.specs.declared.explored.Trapped.{Trapped}
-use Rattle.alw_places.specs.declared.classes.Broken.{Broken}
 use Rattle.alw_outcomes.specs.declared.pools.Pools.{Pools}
 use Rattle.alw_outcomes.specs.declared.explored.Origin.{Origin}
 use Rattle.alw_outcomes.specs.declared.explored.Explored.{Explored}
@@ -25,13 +24,12 @@ use Rattle.alw_outcomes.specs.declared.remembered.Known.{Known}
 use Rattle.alw_outcomes.specs.Remembered.{AreLeads}
 use Rattle.alw_places.specs.Places.{Place, place_start}
 use Rattle.alw_places.specs.Outcomes.{all_halted}
-use Rattle.alw_places.specs.Sharing.{CanBreak}
 use Rattle.alw_places.specs.Threads.{thread_at, with_thread}
 use Rattle.alw_outcomes.specs.Digests.{seat_digest, link_digest, memory_digest, row_digest}
 use Rattle.alw_outcomes.specs.Pools.{IsFront, Numbered, IsIndexed, AreIn, ArePools, PoolsGrow, GoOn, lists_of, no_seat, seat_in, context_of, context_in, words_in, memory_in, place_of, thread_in}
-use Rattle.alw_outcomes.specs.Explored.{IsAmong, Grows, IsStored, IsRow, AreAtStart, IsReal, halted_in, rows_of, rows_in, row_in, place_in, places_in, found_in}
-use Rattle.alw_outcomes.proofs.Pooling.{at_place, or-append, front_or, front_length, get-cases, numbered_get, numbered_front, numbered_cases}
-use Rattle.alw_outcomes.proofs.Rows.{rows_same, rows_apart, row_alone}
+use Rattle.alw_outcomes.specs.Explored.{IsAmong, Grows, IsStored, IsRow, AreAtStart, IsReal, halted_in, row_in, place_in, places_in, found_in}
+use Rattle.alw_outcomes.proofs.Pooling.{at_place, or-append, some_is, front_or, front_length, get-cases, numbered_get, numbered_front, numbered_cases}
+use Rattle.alw_outcomes.proofs.Rows.{take_whole, rows_apart, row_alone}
 use Rattle.alw_outcomes.proofs.Leading.{words_grow}
 
 -- ---- rows
@@ -108,27 +106,37 @@ map_range f g (suc n) same =
     let last = same n (omega arith) in
     ap (λ (m : ℕ). map f (range_with_len 0 m)) one ∙ map-range_with_len_more f 0 n n (omega arith) ∙ (λ i. rest i ++ last i ∷ []) ∙ sym (map-range_with_len_more g 0 n n (omega arith)) ∙ ap (λ (m : ℕ). map g (range_with_len 0 m)) (sym one)
 
--- the places of what was found, once the pools have grown
-pub places_grow : (parts : Parts) (before after : Explored) → IsStored parts before → PoolsGrow before.pools after.pools → after.width ≡ before.width → after.memories.items ≡ before.memories.items → after.rows.items ≡ before.rows.items → places_in after ≡ places_in before
-unfolding places_in
-places_grow parts before after stored grow width memories rows =
-    ap (λ (l : List ℕ). map (place_in after) (range_with_len 0 (length l))) memories
-    ∙ map_range (place_in after) (place_in before) (length before.memories.items)
-    (λ k less. (λ i. place_of after.pools (slice_index_or (memories i) k 0) (take (width i) (drop (k * width i) (rows i))))
-    ∙ place_grows parts before.pools after.pools stored.pools grow (slice_index_or before.memories.items k 0) (row_in before k) (memory_inside parts before k stored less) (row_inside parts before k stored less))
+-- the pools have grown, leads may be others, and all else is as it was
+pub record IsGrown (parts : Parts) (before after : Explored) : Type 0 where
+  pub rest : after ≡ record before { pools = after.pools; leads = after.leads }
+  pub stored : IsStored parts before
+  pub go : GoOn parts before.pools after.pools
 
-pub stored_grows : (parts : Parts) (before after : Explored) → IsStored parts before → GoOn parts before.pools after.pools → after.width ≡ before.width → after.memories.items ≡ before.memories.items → after.rows.items ≡ before.rows.items
-    → after.classes.items ≡ before.classes.items → after.broken.items ≡ before.broken.items → after.by_row ≡ before.by_row → AreLeads parts after.classes.items after.pools after.leads.slots.items → IsStored parts after
-stored_grows parts before after stored go width memories rows classes broken by_row leads = record {
-  width = width ∙ stored.width;
-  rows = ap length rows ∙ stored.rows ∙ (λ i. length (sym memories i) * sym width i);
-  memory_in = λ k m e. front_length before.pools.memories.items after.pools.memories.items m go.grow.memories (stored.memory_in k m (ap (λ (l : List ℕ). slice_get l k) (sym memories) ∙ e));
-  seat_in = λ k s e. front_length before.pools.seats.items after.pools.seats.items s go.grow.seats (stored.seat_in k s (ap (λ (l : List ℕ). slice_get l k) (sym rows) ∙ e));
-  pools = go.pools;
-  leads = leads;
-  breaks = λ some. subst CanBreak (sym classes) (stored.breaks (subst (λ (l : List Broken). 0 < length l) broken some));
-  indexed = rows_same (rows_in before) (rows_in after) before.by_row after.by_row (λ i. rows_of (width i) (memories i) (rows i)) by_row stored.indexed;
-}
+module _ (parts : Parts) (before after : Explored) (grown : IsGrown parts before after) where
+  pub place_stays : (at : ℕ) → at < length before.memories.items → place_in after at ≡ place_in before at
+  place_stays at within =
+      ap (λ (e : Explored). place_in e at) grown.rest
+      ∙ place_grows parts before.pools after.pools grown.stored.pools grown.go.grow (slice_index_or before.memories.items at 0) (row_in before at)
+      (memory_inside parts before at grown.stored within) (row_inside parts before at grown.stored within)
+
+  -- the places of what was found
+  pub places_grow : places_in after ≡ places_in before
+  unfolding places_in
+  places_grow =
+      ap (λ (e : Explored). map (place_in after) (range_with_len 0 (length e.memories.items))) grown.rest
+      ∙ map_range (place_in after) (place_in before) (length before.memories.items) place_stays
+
+  pub stored_grows : AreLeads parts before.classes.items after.pools after.leads.slots.items → IsStored parts after
+  stored_grows leads = subst (IsStored parts) (sym grown.rest) (record {
+    width = grown.stored.width;
+    rows = grown.stored.rows;
+    memory_in = λ k m e. front_length before.pools.memories.items after.pools.memories.items m grown.go.grow.memories (grown.stored.memory_in k m e);
+    seat_in = λ k s e. front_length before.pools.seats.items after.pools.seats.items s grown.go.grow.seats (grown.stored.seat_in k s e);
+    pools = grown.go.pools;
+    leads = leads;
+    breaks = grown.stored.breaks;
+    indexed = grown.stored.indexed;
+  })
 
 -- ---- a place by its number
 
@@ -177,6 +185,13 @@ numbers_inside parts e at context seat memory stored within exists memory_is sea
 
 -- ---- one place more
 
+-- a place more, whose row is that of a place but for one context
+pub record IsAdded (before after : Explored) (at context : ℕ) (to : Numbers) (row : List ℕ) : Type 0 where
+  pub rest : after ≡ record before { memories = after.memories; rows = after.rows; by_row = after.by_row; origins = after.origins }
+  pub memories : after.memories.items ≡ before.memories.items ++ to.memory ∷ []
+  pub rows : after.rows.items ≡ before.rows.items ++ row
+  pub row_is : row ≡ slice_set (row_in before at) context to.seat
+
 module _ (parts : Parts) (before : Explored) (at context : ℕ) (to : Numbers) (stored : IsStored parts before) (within : at < length before.memories.items) (inside : AreIn before.pools to) where
   pub target : place_of before.pools to.memory (slice_set (row_in before at) context to.seat) ≡ with_thread (place_in before at) context (thread_in before.pools to)
   unfolding place_of thread_in
@@ -198,11 +213,14 @@ module _ (parts : Parts) (before : Explored) (at context : ℕ) (to : Numbers) (
   pub already : (k : ℕ) → IsRow before k to.memory (slice_set (row_in before at) context to.seat) → IsAmong (places_in before) (with_thread (place_in before at) context (thread_in before.pools to))
   already k is = record { at = k; there = row_there k is }
 
-  module _ (after : Explored) (row : List ℕ) (width : after.width ≡ before.width) (classes : after.classes ≡ before.classes) (pools : after.pools ≡ before.pools) (leads : after.leads ≡ before.leads)
-      (broken : after.broken ≡ before.broken) (memories : after.memories.items ≡ before.memories.items ++ to.memory ∷ []) (rows : after.rows.items ≡ before.rows.items ++ row)
-      (row_is : row ≡ slice_set (row_in before at) context to.seat) where
+  module _ (after : Explored) (row : List ℕ) (added : IsAdded before after at context to row) where
     long : length row ≡ before.width
-    long = ap length row_is ∙ length-set (row_in before at) context to.seat ∙ row_length parts before at stored within ∙ sym stored.width
+    long = ap length added.row_is ∙ length-set (row_in before at) context to.seat ∙ row_length parts before at stored within ∙ sym stored.width
+
+    place_told : (k : ℕ) → place_in after k ≡ place_of before.pools (slice_index_or (before.memories.items ++ to.memory ∷ []) k 0) (take before.width (drop (k * before.width) (before.rows.items ++ row)))
+    place_told k =
+        ap (λ (e : Explored). place_in e k) added.rest
+        ∙ (λ i. place_of before.pools (slice_index_or (added.memories i) k 0) (take before.width (drop (k * before.width) (added.rows i))))
 
     old_place : (k : ℕ) → k < length before.memories.items → place_in after k ≡ place_in before k
     old_place k less =
@@ -210,7 +228,7 @@ module _ (parts : Parts) (before : Explored) (at context : ℕ) (to : Numbers) (
         let first = or-append before.memories.items (to.memory ∷ []) k 0 less in
         let rest = drop-append-le (k * before.width) before.rows.items row (omega (arith, room)) in
         let kept = take-append-le before.width (drop (k * before.width) before.rows.items) row (let d = length-drop (k * before.width) before.rows.items in omega (arith, d, room)) in
-        (λ i. place_of (pools i) (slice_index_or (memories i) k 0) (take (width i) (drop (k * width i) (rows i))))
+        place_told k
         ∙ (λ i. place_of before.pools (first i) (take before.width (rest i)))
         ∙ ap (place_of before.pools (slice_index_or before.memories.items k 0)) kept
 
@@ -219,46 +237,40 @@ module _ (parts : Parts) (before : Explored) (at context : ℕ) (to : Numbers) (
         let n = length before.memories.items in
         let first : slice_index_or (before.memories.items ++ to.memory ∷ []) n 0 ≡ to.memory = get_or_from_slice_get (before.memories.items ++ to.memory ∷ []) n to.memory 0 (get-end before.memories.items to.memory) in
         let rest : drop (n * before.width) (before.rows.items ++ row) ≡ row = drop_at before.rows.items row (n * before.width) stored.rows in
-        let whole : take before.width row ≡ row = take-whole before.width row long in
-        (λ i. place_of (pools i) (slice_index_or (memories i) n 0) (take (width i) (drop (n * width i) (rows i))))
+        let whole : take before.width row ≡ row = take_whole before.width row long in
+        place_told n
         ∙ (λ i. place_of before.pools (first i) (take before.width (rest i)))
-        ∙ (λ i. place_of before.pools to.memory ((whole ∙ row_is) i))
+        ∙ (λ i. place_of before.pools to.memory ((whole ∙ added.row_is) i))
         ∙ target
       where
         get-end : (xs : List ℕ) (x : ℕ) → slice_get (xs ++ x ∷ []) (length xs) ≡ Some x
         get-end [] x = refl
         get-end (y ∷ xs) x = get-end xs x
 
-        take-whole : (n : ℕ) (xs : List ℕ) → length xs ≡ n → take n xs ≡ xs
-        take-whole zero [] e = refl
-        take-whole zero (x ∷ xs) e = absurd (omega (arith, e))
-        take-whole (suc n) [] e = absurd (omega (arith, e))
-        take-whole (suc n) (x ∷ xs) e = ap (λ (l : List ℕ). x ∷ l) (take-whole n xs (let f = e in omega (arith, f)))
-
     pub places_added : places_in after ≡ places_in before ++ with_thread (place_in before at) context (thread_in before.pools to) ∷ []
     unfolding places_in
     places_added =
         let n = length before.memories.items in
-        let count : length after.memories.items ≡ n + 1 = ap length memories ∙ length-append before.memories.items (to.memory ∷ []) in
+        let count : length after.memories.items ≡ n + 1 = ap length added.memories ∙ length-append before.memories.items (to.memory ∷ []) in
         let old = map_range (place_in after) (place_in before) n old_place in
         ap (λ (m : ℕ). map (place_in after) (range_with_len 0 m)) count ∙ map-range_with_len_more (place_in after) 0 n n (omega arith) ∙ (λ i. old i ++ new_place i ∷ [])
 
     pub stored_added : context < context_count parts → after.by_row ≡ before.by_row ++ row_digest to.memory row ∷ [] → ((k : ℕ) → IsRow before k to.memory row → ⊥) → IsStored parts after
-    stored_added exists by_row new = record {
-      width = width ∙ stored.width;
+    stored_added exists by_row new = subst (IsStored parts) (sym added.rest) (record {
+      width = stored.width;
       rows =
-          let a = ap length rows in let b = length-append before.rows.items row in let c = ap length memories in let d = length-append before.memories.items (to.memory ∷ []) in
+          let a = ap length added.rows in let b = length-append before.rows.items row in let c = ap length added.memories in let d = length-append before.memories.items (to.memory ∷ []) in
           let m : (length before.memories.items + 1) * before.width ≡ length before.memories.items * before.width + before.width = omega arith in
           let sum : length after.rows.items ≡ (length before.memories.items + 1) * before.width = omega (arith, a, b, long, stored.rows, m) in
           let e : length after.memories.items ≡ length before.memories.items + 1 = omega (arith, c, d) in
-          sum ∙ (λ i. sym e i * sym width i);
-      memory_in = λ k m e. subst (λ (p : Pools). m < length p.memories.items) (sym pools) (held k m (get-cases before.memories.items to.memory k m (ap (λ (l : List ℕ). slice_get l k) (sym memories) ∙ e)));
-      seat_in = λ k s e. subst (λ (p : Pools). s < length p.seats.items) (sym pools) (seated before.rows.items k s (λ j t f. stored.seat_in j t f) (ap (λ (l : List ℕ). slice_get l k) (sym rows) ∙ e));
-      pools = subst (ArePools parts) (sym pools) stored.pools;
-      leads = subst (λ (e : Explored). AreLeads parts e.classes.items e.pools e.leads.slots.items) (λ i. record before { classes = sym classes i; pools = sym pools i; leads = sym leads i }) stored.leads;
-      breaks = subst (λ (e : Explored). 0 < length e.broken.items → CanBreak e.classes.items) (λ i. record before { classes = sym classes i; broken = sym broken i }) stored.breaks;
-      indexed = rows_apart before after.width to.memory after.memories.items after.rows.items row after.by_row width memories rows stored.rows long by_row new stored.indexed;
-    }
+          sum ∙ (λ i. sym e i * before.width);
+      memory_in = λ k m e. held k m (get-cases before.memories.items to.memory k m (ap (λ (l : List ℕ). slice_get l k) (sym added.memories) ∙ e));
+      seat_in = λ k s e. seated before.rows.items k s (λ j t f. stored.seat_in j t f) (ap (λ (l : List ℕ). slice_get l k) (sym added.rows) ∙ e);
+      pools = stored.pools;
+      leads = stored.leads;
+      breaks = stored.breaks;
+      indexed = rows_apart before before.width to.memory after.memories.items after.rows.items row after.by_row refl added.memories added.rows stored.rows long by_row new stored.indexed;
+    })
       where
         held : (k m : ℕ) → (slice_get before.memories.items k ≡ Some m) ⊎ ((k ≡ length before.memories.items) × (to.memory ≡ m)) → m < length before.pools.memories.items
         held k m (inl old) = stored.memory_in k m old
@@ -266,16 +278,13 @@ module _ (parts : Parts) (before : Explored) (at context : ℕ) (to : Numbers) (
 
         set_in : (xs : List ℕ) (j k s : ℕ) → ((i t : ℕ) → slice_get xs i ≡ Some t → t < length before.pools.seats.items) → slice_get (slice_set xs j to.seat) k ≡ Some s → s < length before.pools.seats.items
         set_in [] j k s each e = absurd (cc)
-        set_in (x ∷ xs) zero zero s each e = let i = inside.seat in let same : to.seat ≡ s = some to.seat s e in omega (arith, i, same)
-          where
-            some : (a b : ℕ) → Some a ≡ Some b → a ≡ b
-            some a b f = cc
+        set_in (x ∷ xs) zero zero s each e = let i = inside.seat in let same : to.seat ≡ s = some_is to.seat s e in omega (arith, i, same)
         set_in (x ∷ xs) zero (suc k) s each e = each (suc k) s e
         set_in (x ∷ xs) (suc j) zero s each e = each 0 s e
         set_in (x ∷ xs) (suc j) (suc k) s each e = set_in xs j k s (λ i t f. each (suc i) t f) e
 
         row_seats : (k s : ℕ) → slice_get row k ≡ Some s → s < length before.pools.seats.items
-        row_seats k s e = set_in (row_in before at) context k s (row_inside parts before at stored within) (ap (λ (l : List ℕ). slice_get l k) (sym row_is) ∙ e)
+        row_seats k s e = set_in (row_in before at) context k s (row_inside parts before at stored within) (ap (λ (l : List ℕ). slice_get l k) (sym added.row_is) ∙ e)
 
         seated : (xs : List ℕ) (k s : ℕ) → ((j t : ℕ) → slice_get xs j ≡ Some t → t < length before.pools.seats.items) → slice_get (xs ++ row) k ≡ Some s → s < length before.pools.seats.items
         seated [] k s each e = row_seats k s e
@@ -341,42 +350,47 @@ no_words pools (s ∷ rows) links lists inside =
     let rest = no_words pools rows links lists (λ k t e. inside (suc k) t e) in
     λ i. first i ∷ rest i
 
-take-whole : (n : ℕ) (xs : List ℕ) → length xs ≡ n → take n xs ≡ xs
-take-whole zero [] e = refl
-take-whole zero (x ∷ xs) e = absurd (omega (arith, e))
-take-whole (suc n) [] e = absurd (omega (arith, e))
-take-whole (suc n) (x ∷ xs) e = ap (λ (l : List ℕ). x ∷ l) (take-whole n xs (omega (arith, e)))
-
 one_member : (x y k : ℕ) → slice_get (x ∷ []) k ≡ Some y → x ≡ y
 one_member x y zero e = cc
 one_member x y (suc k) e = absurd (cc)
 
-module _ (parts : Parts) (found : Explored) (memory : List Line) (number : ℕ) (origin : Origin) (width : found.width ≡ context_count parts) (numbered : Numbered [] found.pools.memories.items memory number) (memory_is : memory ≡ map (body_of parts) (range_with_len 0 (line_count parts)))
-    (start : AreAtStart parts found.pools.seats.items found.rows.items (context_count parts)) (links : found.pools.links.items ≡ []) (memories : found.memories.items ≡ number ∷ []) (origins : found.origins.items ≡ origin ∷ [])
-    (halted : found.halted.items ≡ []) (trapped : found.trapped.items ≡ []) (broken : found.broken.items ≡ [])
-    (leads : (k : ℕ) (known : Known) → slice_get found.leads.slots.items k ≡ Some (Some known) → ⊥)
-    (by_seat : IsIndexed seat_digest found.pools.seats.items found.pools.by_seat) (by_link : IsIndexed link_digest found.pools.links.items found.pools.by_link) (by_memory : IsIndexed memory_digest found.pools.memories.items found.pools.by_memory)
-    (by_row : found.by_row ≡ row_digest number found.rows.items ∷ []) where
-  rows_long : length found.rows.items ≡ context_count parts
-  rows_long = sym (length-map found.rows.items (context_by found.pools.seats.items)) ∙ ap length start.contexts ∙ length-map-range_with_len (context_start parts) 0 (context_count parts)
+-- one place: this memory alone, and all contexts at their start
+pub record IsBegun (parts : Parts) (found : Explored) (memory : List Line) (number : ℕ) : Type 0 where
+  pub width : found.width ≡ context_count parts
+  pub numbered : Numbered [] found.pools.memories.items memory number
+  pub memory_is : memory ≡ map (body_of parts) (range_with_len 0 (line_count parts))
+  pub start : AreAtStart parts found.pools.seats.items found.rows.items (context_count parts)
+  pub links : found.pools.links.items ≡ []
+  pub memories : found.memories.items ≡ number ∷ []
 
-  pub start_stored : IsStored parts found
-  start_stored = record {
-    width = width;
-    rows = let one : 1 * found.width ≡ found.width = omega arith in rows_long ∙ sym width ∙ sym one ∙ (λ i. length (sym memories i) * found.width);
-    memory_in = λ k m e. let same = one_member number m k (ap (λ (l : List ℕ). slice_get l k) (sym memories) ∙ e) in let w = slice_get_within found.pools.memories.items number memory (numbered_get [] found.pools.memories.items memory number numbered) in omega (arith, same, w);
-    seat_in = start.within;
+-- each pool finds its members, and the rows the one place
+pub record AreTables (found : Explored) (number : ℕ) : Type 0 where
+  pub by_seat : IsIndexed seat_digest found.pools.seats.items found.pools.by_seat
+  pub by_link : IsIndexed link_digest found.pools.links.items found.pools.by_link
+  pub by_memory : IsIndexed memory_digest found.pools.memories.items found.pools.by_memory
+  pub by_row : found.by_row ≡ row_digest number found.rows.items ∷ []
+
+module _ (parts : Parts) (found : Explored) (memory : List Line) (number : ℕ) (begun : IsBegun parts found memory number) where
+  rows_long : length found.rows.items ≡ context_count parts
+  rows_long = sym (length-map found.rows.items (context_by found.pools.seats.items)) ∙ ap length begun.start.contexts ∙ length-map-range_with_len (context_start parts) 0 (context_count parts)
+
+  pub start_stored : AreTables found number → found.broken.items ≡ [] → ((k : ℕ) (known : Known) → slice_get found.leads.slots.items k ≡ Some (Some known) → ⊥) → IsStored parts found
+  start_stored tables broken leads = record {
+    width = begun.width;
+    rows = let one : 1 * found.width ≡ found.width = omega arith in rows_long ∙ sym begun.width ∙ sym one ∙ (λ i. length (sym begun.memories i) * found.width);
+    memory_in = λ k m e. let same = one_member number m k (ap (λ (l : List ℕ). slice_get l k) (sym begun.memories) ∙ e) in let w = slice_get_within found.pools.memories.items number memory (numbered_get [] found.pools.memories.items memory number begun.numbered) in omega (arith, same, w);
+    seat_in = begun.start.within;
     pools = record {
-      lists = λ k seat e. let z = start.lists k seat e in omega (arith, z);
-      back = λ k link e. absurd (no_link k link (ap (λ l. slice_get l k) (sym links) ∙ e));
-      sizes = λ k m e. sized k m (numbered_cases [] found.pools.memories.items memory number k m numbered e);
-      seats = by_seat;
-      links = by_link;
-      memories = by_memory;
+      lists = λ k seat e. let z = begun.start.lists k seat e in omega (arith, z);
+      back = λ k link e. absurd (no_link k link (ap (λ l. slice_get l k) (sym begun.links) ∙ e));
+      sizes = λ k m e. sized k m (numbered_cases [] found.pools.memories.items memory number k m begun.numbered e);
+      seats = tables.by_seat;
+      links = tables.by_link;
+      memories = tables.by_memory;
     };
     leads = λ known there. absurd (leads there.slot known there.there);
     breaks = λ some. absurd (omega (arith, some, ap length broken));
-    indexed = row_alone found.width number found.memories.items found.rows.items found.by_row memories (rows_long ∙ sym width) by_row;
+    indexed = row_alone found.width number found.memories.items found.rows.items found.by_row begun.memories (rows_long ∙ sym begun.width) tables.by_row;
   }
     where
       no_link : (k : ℕ) (link : Link) → slice_get [] k ≡ Some link → ⊥
@@ -384,24 +398,24 @@ module _ (parts : Parts) (found : Explored) (memory : List Line) (number : ℕ) 
 
       sized : (k : ℕ) (m : List Line) → (slice_get [] k ≡ Some m) ⊎ ((k ≡ 0) × (memory ≡ m)) → length m ≡ line_count parts
       sized k m (inl old) = absurd (cc)
-      sized k m (inr new) = ap length (sym new.1 ∙ memory_is) ∙ length-map-range_with_len (body_of parts) 0 (line_count parts)
+      sized k m (inr new) = ap length (sym new.1 ∙ begun.memory_is) ∙ length-map-range_with_len (body_of parts) 0 (line_count parts)
 
   count_one : length found.memories.items ≡ 1
-  count_one = ap length memories
+  count_one = ap length begun.memories
 
   place_is : place_in found 0 ≡ place_start parts
   unfolding place_of
   place_is =
       let none : List ℕ = [] in
-      let first : slice_index_or found.memories.items 0 0 ≡ number = ap (λ (l : List ℕ). slice_index_or l 0 0) memories in
-      let lines : memory_in found.pools number ≡ map (body_of parts) (range_with_len 0 (line_count parts)) = get_or_from_slice_get found.pools.memories.items number memory [] (numbered_get [] found.pools.memories.items memory number numbered) ∙ memory_is in
+      let first : slice_index_or found.memories.items 0 0 ≡ number = ap (λ (l : List ℕ). slice_index_or l 0 0) begun.memories in
+      let lines : memory_in found.pools number ≡ map (body_of parts) (range_with_len 0 (line_count parts)) = get_or_from_slice_get found.pools.memories.items number memory [] (numbered_get [] found.pools.memories.items memory number begun.numbered) ∙ begun.memory_is in
       let nought : 0 * found.width ≡ 0 = omega arith in
-      let row : row_in found 0 ≡ found.rows.items = ap (λ (n : ℕ). take found.width (drop n found.rows.items)) nought ∙ take-whole found.width found.rows.items (rows_long ∙ sym width) in
-      let words : map (words_in found.pools) found.rows.items ≡ replicate (context_count parts) none = no_words found.pools found.rows.items links start.lists start.within ∙ ap (λ (n : ℕ). replicate n none) rows_long in
-      (λ i. place_of found.pools (first i) (row i)) ∙ (λ i. record { flat = record { memory = lines i; contexts = start.contexts i }; printed = words i })
+      let row : row_in found 0 ≡ found.rows.items = ap (λ (n : ℕ). take found.width (drop n found.rows.items)) nought ∙ take_whole found.width found.rows.items (rows_long ∙ sym begun.width) in
+      let words : map (words_in found.pools) found.rows.items ≡ replicate (context_count parts) none = no_words found.pools found.rows.items begun.links begun.start.lists begun.start.within ∙ ap (λ (n : ℕ). replicate n none) rows_long in
+      (λ i. place_of found.pools (first i) (row i)) ∙ (λ i. record { flat = record { memory = lines i; contexts = begun.start.contexts i }; printed = words i })
 
-  pub start_real : IsReal parts (found_in found)
-  start_real = record {
+  pub start_real : (origin : Origin) → found.origins.items ≡ origin ∷ [] → found.halted.items ≡ [] → found.trapped.items ≡ [] → IsReal parts (found_in found)
+  start_real origin origins halted trapped = record {
     paired = ap length origins ∙ sym count_one ∙ sym (places_length found);
     start = number_place found 0 (let c = count_one in omega (arith, c)) ∙ ap (λ (p : Place). Some p) place_is;
     from = λ at place some e. absurd (let w = slice_get_within (places_in found) at place e in let c = count_one in omega (arith, w, c, places_length found));
