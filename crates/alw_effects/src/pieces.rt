@@ -1,5 +1,4 @@
 ghost use Rattle.std.specs.Prelude.{◌≡◌, ◌<◌, ◌++◌, OnOk};
-ghost use Rattle.alw_num.specs.Lanes.{bytes_in};
 ghost use Rattle.alw_text.specs.Numbers.{hex_byte, hex_word};
 ghost use Rattle.alw_effects.specs.Pieces.{stood_text, sets_text, moved_text, reads_text, writes_text, taken_text, prints_text, traps_text};
 
@@ -64,20 +63,9 @@ fn put_bytes(text: &mut Text, address: u32, width: Width, value: u32) -> Result<
     ensures { OnOk result (text.new ≡ text.old ++ moved_text address width value) }
 {
     text.put_hex32(address)?;
-    put_number(text, b" ", count(width))?;
+    put_number(text, b" ", u64::from(width.bytes()))?;
     put_word(text, b" ", value)?;
     Ok(())
-}
-
-// How many bytes an access takes.
-fn count(width: Width) -> u64
-    ensures { result ≡ bytes_in width }
-{
-    match width {
-        Width::Byte => 1,
-        Width::Half => 2,
-        Width::Word => 4,
-    }
 }
 
 /// Where control went.

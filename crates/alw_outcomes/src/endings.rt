@@ -37,7 +37,7 @@ pub fn endings_of(alloc: Global, image: &Image, found: &Explored) -> Result<Endi
     ensures traps { IfOk result (λ endings. (turn : Trapped) → Contains endings.traps.items turn → Contains found.now.trapped.items turn) }
     ensures different { IfOk result (λ endings. AreDifferent (endings_in (found_in found.now)) (told_in (found_in found.now) endings)) }
 {
-    let _parts = image.parts();
+    let _parts = image.parts(); // for its clause
     let ends = one_of_each(alloc, keyed_ends(alloc, image, found)?)?;
     let turns = one_of_each(alloc, keyed_traps(alloc, &found.trapped)?)?;
     let mut traps = Vec::new(alloc);
@@ -54,7 +54,7 @@ fn keyed_ends(alloc: Global, image: &Image, found: &Explored) -> Result<Vec<Keye
     ensures numbers { IfOk result (λ keyed. numbers_of keyed.items ≡ found.now.halted.items) }
     ensures keys { IfOk result (λ keyed. AreKeyed (end_key (found_in found.now)) keyed.items) }
 {
-    let _parts = image.parts();
+    let _parts = image.parts(); // for its clause
     let mut keyed = Vec::new(alloc);
     for at in &found.halted {
         let key = key_of(alloc, image, found, *at)?;

@@ -126,7 +126,7 @@ pub fn turns_to(
     requires real { IsReal image.now (found_in found.now) }
     ensures { IfOk result (λ turns. LeadsTo image.now (found_in found.now) at turns.items) }
 {
-    let _parts = image.parts();
+    let _parts = image.parts(); // for its clause
     let mut turns = Vec::new(alloc);
     let mut place = at;
     while place != 0 {
@@ -340,7 +340,7 @@ fn tell_halt(image: &Image, found: &mut Explored, at: u32) -> Result<(), NoMemor
     ensures tells { OnOk result (TellsHalt (found_in found.new) at) }
     ensures memories { OnOk result (found.new.memories.items ≡ found.old.memories.items) }
 {
-    let _parts = image.parts();
+    let _parts = image.parts(); // for its clause
     if has_halted(image, found, at) {
         found.halted.push(at)?;
     }
@@ -353,7 +353,7 @@ pub(crate) fn has_halted(image: &Image, found: &Explored, at: u32) -> bool
     requires stored { IsStored image.now found.now }
     ensures { result ≡ all_halted (place_in found.now at) }
 {
-    let _parts = image.parts();
+    let _parts = image.parts(); // for its clause
     have_halted(&found.pools.seats, row_of(&found.rows, found.width, at))
 }
 
@@ -465,7 +465,7 @@ pub(crate) fn numbers_at(image: &Image, found: &Explored, at: u32, context: u32)
     ensures inside { AreIn found.now.pools result }
     ensures thread { thread_in found.now.pools result ≡ thread_at (place_in found.now at) context }
 {
-    let _parts = image.parts();
+    let _parts = image.parts(); // for its clause
     let row = row_of(&found.rows, found.width, at);
     Numbers {
         memory: found.memories[at as usize],
@@ -505,7 +505,7 @@ fn add(
     ensures stopped { IfOk result (λ kept. kept ≡ false → most ≤ length found.new.memories.items) }
     ensures few { OnOk result (length found.new.memories.items ≤ max most (length found.old.memories.items)) }
 {
-    let _parts = image.parts();
+    let _parts = image.parts(); // for its clause
     if more == u32::MAX {
         return Err(NoMemory);
     }
@@ -543,7 +543,7 @@ pub(crate) fn number_of(
     requires stored { IsStored image.now found.now }
     ensures { IfOk result (λ number. IfSome number (λ k. slice_get (places_in found.now) k ≡ Some (with_thread (place_in found.now at) context (thread_in found.now.pools to)))) }
 {
-    let _parts = image.parts();
+    let _parts = image.parts(); // for its clause
     let row = changed_row(found, at, context, to.seat)?;
     let number = find_row(found, to.memory, &row, digest_of(to.memory, &row));
     Ok(number)

@@ -16,7 +16,7 @@ pub fn memory_at<'a>(image: &Image, found: &'a Explored, at: u32) -> &'a Memory
     requires stored { IsStored image.now found.now }
     ensures { result.now ≡ (place_in found.now at).flat.memory }
 {
-    let _parts = image.parts();
+    let _parts = image.parts(); // for its clause
     &found.pools.memories[found.memories[at as usize] as usize]
 }
 

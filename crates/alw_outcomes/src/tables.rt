@@ -85,7 +85,7 @@ fn along(heads: &[u32], marks: &[Mark], digest: u32, from: u32) -> u32
     requires chain { 0 < from → IsOnChain (digests_of marks.now) (length heads.now) (digest % length heads.now) (from - 1) }
     ensures { IsLast (HasDigest (digests_of marks.now) digest) from result }
 {
-    let _length = heads.len();
+    let _length = heads.len(); // for its clause
     let mut rest = from;
     while rest != 0 {
         let mark = marks[rest as usize - 1];
