@@ -71,7 +71,8 @@ module _ (links : List Link) (back : (k : ℕ) (link : Link) → slice_get links
       let ends = ends_so (word_list (link_at one).before) (word_list (link_at two).before) (link_at one).word (link_at two).word (sym (step_words one inside) ∙ same ∙ step_words two inside') in
       let low = back one (link_at one) (link_there one inside) in
       let low' = back two (link_at two) (link_there two inside') in
-      let before = lists_below bound (link_at one).before (link_at two).before (omega (arith, low, less)) (omega (arith, low', less')) (omega (arith, low, inside)) (omega (arith, low', inside')) ends.front in
+      let before =
+      lists_below bound (link_at one).before (link_at two).before (omega (arith, low, less)) (omega (arith, low', less')) (omega (arith, low, inside)) (omega (arith, low', inside')) ends.front in
       let link : link_at one ≡ link_at two = (λ i. record { before = before i; word = ends.last i }) in
       ap suc (apart one two (link_at one) (link_there one inside) (link_there two inside' ∙ ap (λ (l : Link). Some l) (sym link)))
 
@@ -93,7 +94,8 @@ module _ (parts : Parts) (pools : Pools) (are : ArePools parts pools) where
 
   memories_differ : (one two : ℕ) → one < length pools.memories.items → two < length pools.memories.items → memory_in pools one ≡ memory_in pools two → one ≡ two
   memories_differ one two inside inside' same =
-      are.memories.apart one two (memory_in pools one) (slice_get-get_or pools.memories.items one [] inside) (slice_get-get_or pools.memories.items two [] inside' ∙ ap (λ (m : List Line). Some m) (sym same))
+      are.memories.apart one two (memory_in pools one) (slice_get-get_or pools.memories.items one [] inside)
+      (slice_get-get_or pools.memories.items two [] inside' ∙ ap (λ (m : List Line). Some m) (sym same))
 
   rows_differ : (one two : List ℕ) → RowIn pools one → RowIn pools two → map (context_in pools) one ≡ map (context_in pools) two → map (words_in pools) one ≡ map (words_in pools) two → one ≡ two
   rows_differ [] [] inside inside' contexts words = refl
@@ -104,11 +106,13 @@ module _ (parts : Parts) (pools : Pools) (are : ArePools parts pools) where
       let printed : words_in pools x ≡ words_in pools y = first_is (words_in pools x) (words_in pools y) (map (words_in pools) one) (map (words_in pools) two) words in
       let head = seats_differ x y (inside 0 x refl) (inside' 0 y refl) context printed in
       let rest = rows_differ one two (λ i s e. inside (suc i) s e) (λ i s e. inside' (suc i) s e)
-      (rest_is (context_in pools x) (context_in pools y) (map (context_in pools) one) (map (context_in pools) two) contexts) (rest_is (words_in pools x) (words_in pools y) (map (words_in pools) one) (map (words_in pools) two) words) in
+      (rest_is (context_in pools x) (context_in pools y) (map (context_in pools) one) (map (context_in pools) two) contexts)
+      (rest_is (words_in pools x) (words_in pools y) (map (words_in pools) one) (map (words_in pools) two) words) in
       λ i. head i ∷ rest i
 
   -- places by different numbers are different
-  pub places_differ : (memory memory' : ℕ) (row row' : List ℕ) → memory < length pools.memories.items → memory' < length pools.memories.items → RowIn pools row → RowIn pools row' → place_of pools memory row ≡ place_of pools memory' row'
+  pub places_differ : (memory memory' : ℕ) (row row' : List ℕ) → memory < length pools.memories.items → memory' < length pools.memories.items → RowIn pools row → RowIn pools row'
+      → place_of pools memory row ≡ place_of pools memory' row'
       → (let one : Row = record { memory = memory; contexts = row } in one ≡ record { memory = memory'; contexts = row' })
   unfolding place_of
   places_differ memory memory' row row' inside inside' seats seats' same =

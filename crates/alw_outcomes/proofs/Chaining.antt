@@ -56,7 +56,8 @@ pub record IsAlong (digests : List ℕ) (count digest from rest : ℕ) : Type 0 
 pub along_begins : (digests : List ℕ) (count digest from : ℕ) → (0 < from → IsOnChain digests count (digest % count) (from - 1)) → IsAlong digests count digest from from
 along_begins digests count digest from chain = record { within = omega arith; chain = chain; none = λ k past less here. omega (arith, past, less) }
 
-pub along_more : (digests befores heads : List ℕ) (count digest from rest below before : ℕ) → AreChained digests befores heads count below → from ≤ below → 0 < rest → slice_index_or digests (rest - 1) 0 ≢ digest
+pub along_more : (digests befores heads : List ℕ) (count digest from rest below before : ℕ) → AreChained digests befores heads count below → from ≤ below → 0 < rest
+    → slice_index_or digests (rest - 1) 0 ≢ digest
     → slice_index_or befores (rest - 1) 0 ≡ before
     → IsAlong digests count digest from rest → IsAlong digests count digest from before
 along_more digests befores heads count digest from rest below before chained less some other is along =
@@ -83,7 +84,8 @@ pub along_ends : (digests : List ℕ) (count digest from : ℕ) → IsAlong dige
 along_ends digests count digest from along = record { within = along.within; holds = λ some. absurd (omega (arith, some)); none = along.none }
 
 -- what is found along the chain of a digest is the last one with it
-pub last_along : (digests : List ℕ) (count remainder digest below from last : ℕ) → remainder ≡ digest % count → IsLast (IsOnChain digests count remainder) below from → IsLast (HasDigest digests digest) from last
+pub last_along : (digests : List ℕ) (count remainder digest below from last : ℕ) → remainder ≡ digest % count → IsLast (IsOnChain digests count remainder) below from
+    → IsLast (HasDigest digests digest) from last
     → IsLast (HasDigest digests digest) below last
 last_along digests count remainder digest below from last is one two =
     last_trans (IsOnChain digests count remainder) (HasDigest digests digest) below from last (λ k here. ap (λ (d : ℕ). d % count) here ∙ sym is) one two
@@ -93,7 +95,9 @@ last_along digests count remainder digest below from last is one two =
 pub none_chained : (digests befores heads : List ℕ) (count : ℕ) → ((k : ℕ) → slice_index_or heads k 0 ≡ 0) → AreChained digests befores heads count 0
 none_chained digests befores heads count zeros = record {
   before = λ k less. absurd (omega (arith, less));
-  head = λ chain less. subst (λ (n : ℕ). IsLast (IsOnChain digests count chain) 0 n) (sym (zeros chain)) (record { within = omega arith; holds = λ some. absurd (omega (arith, some)); none = λ k past low here. omega (arith, low) });
+  head =
+      λ chain less. subst (λ (n : ℕ). IsLast (IsOnChain digests count chain) 0 n) (sym (zeros chain))
+      (record { within = omega arith; holds = λ some. absurd (omega (arith, some)); none = λ k past low here. omega (arith, low) });
 }
 
 -- only what is below counts
@@ -103,9 +107,10 @@ pub chained_agree : (digests digests' befores befores' heads : List ℕ) (count 
 chained_agree digests digests' befores befores' heads count below same same' chained = record {
   before = λ k less.
       let e : slice_index_or digests k 0 % count ≡ slice_index_or digests' k 0 % count = ap (λ (d : ℕ). d % count) (sym (same k less)) in
-      let half : IsLast (IsOnChain digests count (slice_index_or digests' k 0 % count)) k (slice_index_or befores k 0) = subst (λ (r : ℕ). IsLast (IsOnChain digests count r) k (slice_index_or befores k 0)) e (chained.before k less) in
-      let one : IsLast (IsOnChain digests count (slice_index_or digests' k 0 % count)) k (slice_index_or befores' k 0) = subst (λ (n : ℕ). IsLast (IsOnChain digests count (slice_index_or digests' k 0 % count)) k n)
-      (sym (same' k less)) half in
+      let half : IsLast (IsOnChain digests count (slice_index_or digests' k 0 % count)) k (slice_index_or befores k 0) =
+      subst (λ (r : ℕ). IsLast (IsOnChain digests count r) k (slice_index_or befores k 0)) e (chained.before k less) in
+      let one : IsLast (IsOnChain digests count (slice_index_or digests' k 0 % count)) k (slice_index_or befores' k 0) =
+      subst (λ (n : ℕ). IsLast (IsOnChain digests count (slice_index_or digests' k 0 % count)) k n) (sym (same' k less)) half in
       moved (slice_index_or digests' k 0 % count) k (slice_index_or befores' k 0) (omega (arith, less)) one;
   head = λ chain less. moved chain below (slice_index_or heads chain 0) (omega arith) (chained.head chain less);
 }
@@ -162,14 +167,16 @@ chained_more digests befores heads count below chain digest before less long her
           none = λ k past under there. further was apart k past under there (cases_lt k below);
         })
       where
-        further : IsLast (IsOnChain digests count c) below (slice_index_or heads c 0) → c ≢ chain → (k : ℕ) → slice_index_or heads c 0 ≤ k → k < below + 1 → IsOnChain digests count c k → (k < below) ⊎ (below ≤ k) → ⊥
+        further : IsLast (IsOnChain digests count c) below (slice_index_or heads c 0) → c ≢ chain → (k : ℕ) → slice_index_or heads c 0 ≤ k → k < below + 1 → IsOnChain digests count c k
+            → (k < below) ⊎ (below ≤ k) → ⊥
         further was apart k past under there (inl low') = was.none k past low' there
         further was apart k past under there (inr high) = let e' : below ≡ k = omega (arith, under, high) in apart (sym there ∙ ap (λ (n : ℕ). slice_index_or digests n 0 % count) (sym e') ∙ is_on)
 
 -- ---- tables
 
 -- a mark behind the others
-pub pushed : (heads : List ℕ) (marks marks' : List Mark) (chain below : ℕ) (mark : Mark) → IsTable heads marks → chain ≡ mark.digest % length heads → mark.before ≡ slice_index_or heads chain 0 → 0 < length heads → chain < length heads
+pub pushed : (heads : List ℕ) (marks marks' : List Mark) (chain below : ℕ) (mark : Mark) → IsTable heads marks → chain ≡ mark.digest % length heads → mark.before ≡ slice_index_or heads chain 0
+    → 0 < length heads → chain < length heads
     → marks' ≡ marks ++ mark ∷ [] → below ≡ length marks' → length marks < 2 ^ 32 - 1 → IsTable (slice_set heads chain below) marks'
 pushed heads marks marks' chain below mark table chain_is head_is some less is below_is few =
     let long : length marks' ≡ length marks + 1 = ap length is ∙ length-append marks (mark ∷ []) in
@@ -177,12 +184,13 @@ pushed heads marks marks' chain below mark table chain_is head_is some less is b
     let within : length marks < length marks' = omega (arith, long) in
     let agree : AreChained (digests_of marks') (befores_of marks') heads (length heads) (length marks) =
     chained_agree (digests_of marks) (digests_of marks') (befores_of marks) (befores_of marks') heads (length heads) (length marks)
-    (λ k low. ap (λ (l : List Mark). slice_index_or (digests_of l) k 0) is ∙ ap (λ (l : List ℕ). slice_index_or l k 0) (map-append (λ (m : Mark). m.digest) marks (mark ∷ [])) ∙ or-append (digests_of marks) (mark.digest ∷ []) k 0
-    (omega (arith, low, digests_long marks)))
-    (λ k low. ap (λ (l : List Mark). slice_index_or (befores_of l) k 0) is ∙ ap (λ (l : List ℕ). slice_index_or l k 0) (map-append (λ (m : Mark). m.before) marks (mark ∷ [])) ∙ or-append (befores_of marks) (mark.before ∷ []) k 0
-    (omega (arith, low, befores_long marks)))
+    (λ k low. ap (λ (l : List Mark). slice_index_or (digests_of l) k 0) is ∙ ap (λ (l : List ℕ). slice_index_or l k 0) (map-append (λ (m : Mark). m.digest) marks (mark ∷ []))
+    ∙ or-append (digests_of marks) (mark.digest ∷ []) k 0 (omega (arith, low, digests_long marks)))
+    (λ k low. ap (λ (l : List Mark). slice_index_or (befores_of l) k 0) is ∙ ap (λ (l : List ℕ). slice_index_or l k 0) (map-append (λ (m : Mark). m.before) marks (mark ∷ []))
+    ∙ or-append (befores_of marks) (mark.before ∷ []) k 0 (omega (arith, low, befores_long marks)))
     table.chained in
-    let more = chained_more (digests_of marks') (befores_of marks') heads (length heads) (length marks) chain mark.digest mark.before less refl (digest_read marks' (length marks) mark within last) (sym chain_is)
+    let more = chained_more (digests_of marks') (befores_of marks') heads (length heads) (length marks) chain mark.digest mark.before less refl (digest_read marks' (length marks) mark within last)
+    (sym chain_is)
     (before_read marks' (length marks) mark within last) head_is agree in
     let kept : length (slice_set heads chain below) ≡ length heads = length-set heads chain below in
     let upto : length marks + 1 ≡ below = omega (arith, long, below_is) in
@@ -211,7 +219,8 @@ chaining_begins heads marks zeros some = record { chained = none_chained (digest
 pub chaining_long : (heads : List ℕ) (marks before : List Mark) (at : ℕ) → IsUnderWay heads marks before at → length marks ≡ length before
 chaining_long heads marks before at so = sym (digests_long marks) ∙ ap length so.digests ∙ digests_long before
 
-pub chaining_more : (heads : List ℕ) (marks before : List Mark) (at chain : ℕ) (mark old : Mark) → IsUnderWay heads marks before at → at < length marks → old ≡ slice_index_or marks at old → mark.digest ≡ old.digest
+pub chaining_more : (heads : List ℕ) (marks before : List Mark) (at chain : ℕ) (mark old : Mark) → IsUnderWay heads marks before at → at < length marks → old ≡ slice_index_or marks at old
+    → mark.digest ≡ old.digest
     → chain ≡ mark.digest % length heads
     → mark.before ≡ slice_index_or heads chain 0 → chain < length heads → IsUnderWay (slice_set heads chain (at + 1)) (slice_set marks at mark) before (at + 1)
 chaining_more heads marks before at chain mark old so within read same chain_is head_is less =
@@ -223,8 +232,10 @@ chaining_more heads marks before at chain mark old so within read same chain_is 
     let agree : AreChained (digests_of (slice_set marks at mark)) (befores_of (slice_set marks at mark)) heads (length heads) at =
     chained_agree (digests_of marks) (digests_of (slice_set marks at mark)) (befores_of marks) (befores_of (slice_set marks at mark)) heads (length heads) at
     (λ k low. ap (λ (l : List ℕ). slice_index_or l k 0) kept)
-    (λ k low. ap (λ (l : List ℕ). slice_index_or l k 0) (map-set (λ (m : Mark). m.before) marks at mark) ∙ get_or-set_other (befores_of marks) at k mark.before 0 (λ e. omega (arith, low, e))) so.chained in
-    let more = chained_more (digests_of (slice_set marks at mark)) (befores_of (slice_set marks at mark)) heads (length heads) at chain mark.digest mark.before less refl (digest_read (slice_set marks at mark) at mark here there)
+    (λ k low. ap (λ (l : List ℕ). slice_index_or l k 0) (map-set (λ (m : Mark). m.before) marks at mark) ∙ get_or-set_other (befores_of marks) at k mark.before 0 (λ e. omega (arith, low, e)))
+    so.chained in
+    let more = chained_more (digests_of (slice_set marks at mark)) (befores_of (slice_set marks at mark)) heads (length heads) at chain mark.digest mark.before less refl
+    (digest_read (slice_set marks at mark) at mark here there)
     (sym chain_is) (before_read (slice_set marks at mark) at mark here there) head_is agree in
     let size : length (slice_set heads chain (at + 1)) ≡ length heads = length-set heads chain (at + 1) in
     record {

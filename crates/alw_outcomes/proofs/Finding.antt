@@ -40,10 +40,25 @@ module _ (parts : Parts) (classes : List Class) (before after : Found) (grows : 
   held_grows place held = record { context = held.context; steps = held.steps; private = held.private; among = among_grows (place_turns parts place held.context held.steps) held.among }
 
   halts_grows : (printed : List (List ℕ)) (memory : List Line) → HasHalted before printed memory → HasHalted after printed memory
-  halts_grows printed memory has = record { index = has.index; at = has.at; place = has.place; listed = grows.halted has.index has.at has.listed; there = grows.places has.at has.place has.there; printed_is = has.printed_is; memory_is = has.memory_is }
+  halts_grows printed memory has = record {
+    index = has.index;
+    at = has.at;
+    place = has.place;
+    listed = grows.halted has.index has.at has.listed;
+    there = grows.places has.at has.place has.there;
+    printed_is = has.printed_is;
+    memory_is = has.memory_is;
+  }
 
   traps_grows : (context pc tt' : ℕ) → HasTrapped before context pc tt' → HasTrapped after context pc tt'
-  traps_grows context pc tt' has = record { index = has.index; turn = has.turn; listed = grows.trapped has.index has.turn has.listed; context_is = has.context_is; pc_is = has.pc_is; type_is = has.type_is }
+  traps_grows context pc tt' has = record {
+    index = has.index;
+    turn = has.turn;
+    listed = grows.trapped has.index has.turn has.listed;
+    context_is = has.context_is;
+    pc_is = has.pc_is;
+    type_is = has.type_is;
+  }
 
   listed_grows : (ending : Ending) → IsListed before ending → IsListed after ending
   listed_grows (Halts printed memory) listed = halts_grows printed memory listed
@@ -61,14 +76,32 @@ module _ (parts : Parts) (classes : List Class) (before after : Found) (grows : 
   listed_or ending (inr some) = inr (broken_grows some)
 
   pub turn_grows : (place : Place) (context : ℕ) → IsTurnFound parts classes before place context → IsTurnFound parts classes after place context
-  turn_grows place context is = record { next = λ goes. held_grows _ (is.next goes); trap = λ pc tt' ends. traps_or context pc tt' (is.trap pc tt' ends); kept = λ breaks. broken_grows (is.kept breaks) }
+  turn_grows place context is = record {
+    next = λ goes. held_grows _ (is.next goes);
+    trap = λ pc tt' ends. traps_or context pc tt' (is.trap pc tt' ends);
+    kept = λ breaks. broken_grows (is.kept breaks);
+  }
 
   pub expanded_grows : (place : Place) → IsExpanded parts classes before place → IsExpanded parts classes after place
   expanded_grows place (inl one) = inl (record { context = one.context; private = one.private; forward = one.forward; next = held_grows _ one.next })
-  expanded_grows place (inr full) = inr (record { next = λ context goes. held_grows _ (full.next context goes); endings = λ ending ends. listed_or ending (full.endings ending ends); kept = λ context breaks. broken_grows (full.kept context breaks) })
+  expanded_grows place (inr full) =
+      inr (record {
+        next = λ context goes. held_grows _ (full.next context goes);
+        endings = λ ending ends. listed_or ending (full.endings ending ends);
+        kept = λ context breaks. broken_grows (full.kept context breaks);
+      })
 
-  from_grows : (at : ℕ) (place : Place) → ((at : ℕ) (origin : Origin) → slice_get before.origins at ≡ Some origin → slice_get after.origins at ≡ Some origin) → CameFrom parts before at place → CameFrom parts after at place
-  from_grows at place origins came = record { origin = came.origin; before = came.before; listed = origins at came.origin came.listed; earlier = came.earlier; there = grows.places came.origin.from came.before came.there; run = came.run; after = came.after }
+  from_grows : (at : ℕ) (place : Place) → ((at : ℕ) (origin : Origin) → slice_get before.origins at ≡ Some origin → slice_get after.origins at ≡ Some origin) → CameFrom parts before at place
+      → CameFrom parts after at place
+  from_grows at place origins came = record {
+    origin = came.origin;
+    before = came.before;
+    listed = origins at came.origin came.listed;
+    earlier = came.earlier;
+    there = grows.places came.origin.from came.before came.there;
+    run = came.run;
+    after = came.after;
+  }
 
   halted_grows : (at : ℕ) → IsHalted before at → IsHalted after at
   halted_grows at is = record { place = is.place; there = grows.places at is.place is.there; halted = is.halted }
@@ -122,11 +155,16 @@ pub record IsAdded (parts : Parts) (before after : Found) (place : Place) : Type
   pub goes : GoesTo parts before after
   pub among : IsAmong after.places place
 
-new_is : (parts : Parts) (before : Found) (place : Place) (origin : Origin) → IsReal parts before → IsFrom parts before place origin → IsAdded parts before (record before { places = before.places ++ place ∷ []; origins = before.origins ++ origin ∷ [] }) place
+new_is : (parts : Parts) (before : Found) (place : Place) (origin : Origin) → IsReal parts before → IsFrom parts before place origin
+    → IsAdded parts before (record before { places = before.places ++ place ∷ []; origins = before.origins ++ origin ∷ [] }) place
 unfolding added
-new_is parts before place origin real from = record { goes = record { real = added_real parts before place origin real from; grows = added_grows before place origin }; among = record { at = length before.places; there = get-last before.places place } }
+new_is parts before place origin real from = record {
+  goes = record { real = added_real parts before place origin real from; grows = added_grows before place origin };
+  among = record { at = length before.places; there = get-last before.places place };
+}
 
-pub adds_is : (parts : Parts) (before after : Found) (place : Place) (origin : Origin) → IsReal parts before → IsFrom parts before place origin → Adds before after place origin → IsAdded parts before after place
+pub adds_is : (parts : Parts) (before after : Found) (place : Place) (origin : Origin) → IsReal parts before → IsFrom parts before place origin → Adds before after place origin
+    → IsAdded parts before after place
 adds_is parts before after place origin real from (inl old) =
     subst (λ (f : Found). IsAdded parts before f place) (sym old.1) (record { goes = record { real = real; grows = grows_refl before }; among = old.0 })
 adds_is parts before after place origin real from (inr new) = subst (λ (f : Found). IsAdded parts before f place) (sym new) (new_is parts before place origin real from)
@@ -135,7 +173,12 @@ adds_is parts before after place origin real from (inr new) = subst (λ (f : Fou
 
 pub halt_listed : (parts : Parts) (before : Found) (at : ℕ) → IsReal parts before → IsHalted before at → GoesTo parts before (record before { halted = before.halted ++ at ∷ [] })
 halt_listed parts before at real is =
-    let grows : Grows before (record before { halted = before.halted ++ at ∷ [] }) = record { places = λ k p e. e; halted = λ index k e. get-append before.halted _ index k e; trapped = λ index turn e. e; broken = omega arith } in
+    let grows : Grows before (record before { halted = before.halted ++ at ∷ [] }) = record {
+      places = λ k p e. e;
+      halted = λ index k e. get-append before.halted _ index k e;
+      trapped = λ index turn e. e;
+      broken = omega arith;
+    } in
     record {
       grows = grows;
       real = record {
@@ -153,7 +196,12 @@ halt_listed parts before at real is =
 
 pub trap_listed : (parts : Parts) (before : Found) (turn : Trapped) → IsReal parts before → IsTrapping parts before turn → GoesTo parts before (record before { trapped = before.trapped ++ turn ∷ [] })
 trap_listed parts before turn real is =
-    let grows : Grows before (record before { trapped = before.trapped ++ turn ∷ [] }) = record { places = λ k p e. e; halted = λ index k e. e; trapped = λ index t e. get-append before.trapped _ index t e; broken = omega arith } in
+    let grows : Grows before (record before { trapped = before.trapped ++ turn ∷ [] }) = record {
+      places = λ k p e. e;
+      halted = λ index k e. e;
+      trapped = λ index t e. get-append before.trapped _ index t e;
+      broken = omega arith;
+    } in
     record {
       grows = grows;
       real = record {
@@ -165,7 +213,8 @@ trap_listed parts before turn real is =
       };
     }
   where
-    go : (index : ℕ) (t : Trapped) → (slice_get before.trapped index ≡ Some t) ⊎ ((index ≡ length before.trapped) × (turn ≡ t)) → IsTrapping parts (record before { trapped = before.trapped ++ turn ∷ [] }) t
+    go : (index : ℕ) (t : Trapped) → (slice_get before.trapped index ≡ Some t) ⊎ ((index ≡ length before.trapped) × (turn ≡ t))
+        → IsTrapping parts (record before { trapped = before.trapped ++ turn ∷ [] }) t
     go index t (inl old) = let was = real.trapped index t old in record { place = was.place; there = was.there; ends = was.ends }
     go index t (inr last) =
         let here : IsTrapping parts (record before { trapped = before.trapped ++ turn ∷ [] }) turn = record { place = is.place; there = is.there; ends = is.ends } in
@@ -173,7 +222,12 @@ trap_listed parts before turn real is =
 
 pub break_listed : (parts : Parts) (before : Found) (turn : Broken) → IsReal parts before → GoesTo parts before (record before { broken = before.broken ++ turn ∷ [] })
 break_listed parts before turn real =
-    let grows : Grows before (record before { broken = before.broken ++ turn ∷ [] }) = record { places = λ k p e. e; halted = λ index k e. e; trapped = λ index t e. e; broken = omega (arith, length-append before.broken (turn ∷ [])) } in
+    let grows : Grows before (record before { broken = before.broken ++ turn ∷ [] }) = record {
+      places = λ k p e. e;
+      halted = λ index k e. e;
+      trapped = λ index t e. e;
+      broken = omega (arith, length-append before.broken (turn ∷ []));
+    } in
     record {
       grows = grows;
       real = record {
@@ -201,4 +255,5 @@ sizes_found parts found real at place e = below (suc at) at place (omega arith) 
     below (suc past) (suc at) place less e =
         let came = real.from (suc at) place (omega arith) e in
         let earlier = came.earlier in
-        subst (λ (p : Place). HasSizes parts p) came.after (sizes_after parts came.before (replicate came.origin.turns came.origin.context) (below past came.origin.from came.before (omega arith) came.there))
+        subst (λ (p : Place). HasSizes parts p) came.after
+        (sizes_after parts came.before (replicate came.origin.turns came.origin.context) (below past came.origin.from came.before (omega arith) came.there))

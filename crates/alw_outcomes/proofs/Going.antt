@@ -50,7 +50,8 @@ pub record StandsAt (parts : Parts) (one : Found) (two : Explored) (at : ℕ) : 
   pub same : found_in two ≡ one
   pub within : at < length two.memories.items
 
-pub stands_at : (parts : Parts) (one two : Explored) (at : ℕ) → IsReal parts (found_in one) → at < length one.memories.items → found_in two ≡ found_in one → two.memories.items ≡ one.memories.items → StandsAt parts (found_in one) two at
+pub stands_at : (parts : Parts) (one two : Explored) (at : ℕ) → IsReal parts (found_in one) → at < length one.memories.items → found_in two ≡ found_in one → two.memories.items ≡ one.memories.items
+    → StandsAt parts (found_in one) two at
 stands_at parts one two at real within same memories = record { real = real; same = same; within = within_same two one at within memories }
 
 pub record IsDone (parts : Parts) (classes : List Class) (one three : Found) (at context : ℕ) : Type 0 where
@@ -73,21 +74,33 @@ module _ (parts : Parts) (classes : List Class) (one : Found) (two : Explored) (
   pub idle_done : is_ready (thread_at (place_in two at) context).context.status ≡ false → IsDone parts classes one (found_in two) at context
   idle_done idle = record { goes = goes_same; turn = turn_idle parts classes (found_in two) at context (place_in two at) (number_place two at stands.within) idle }
 
-  pub break_done : (turn : Broken) (broken : List Broken) → is_allowed classes context (thread_need parts (thread_at (place_in two at) context)) ≡ false → broken ≡ two.broken.items ++ turn ∷ [] → IsDone parts classes one (record (found_in two) { broken = broken }) at context
-  break_done turn broken refused pushed = done (record (found_in two) { broken = broken }) (break_added parts classes (found_in two) at context (place_in two at) turn broken (number_place two at stands.within) real_two refused pushed)
+  pub break_done : (turn : Broken) (broken : List Broken) → is_allowed classes context (thread_need parts (thread_at (place_in two at) context)) ≡ false → broken ≡ two.broken.items ++ turn ∷ []
+      → IsDone parts classes one (record (found_in two) { broken = broken }) at context
+  break_done turn broken refused pushed =
+      done (record (found_in two) { broken = broken }) (break_added parts classes (found_in two) at context (place_in two at) turn broken (number_place two at stands.within) real_two refused pushed)
 
-  pub trap_done : (pc tt' : ℕ) (trapped : List Trapped) → IsTrapOf parts classes context (thread_at (place_in two at) context) pc tt' → trapped ≡ two.trapped.items ++ record { at = at; context = context; pc = pc; tt = tt' } ∷ [] → IsDone parts classes one (record (found_in two) { trapped = trapped }) at context
-  trap_done pc tt' trapped is pushed = done (record (found_in two) { trapped = trapped }) (trap_added parts classes (found_in two) at context pc (place_in two at) tt' trapped (number_place two at stands.within) real_two is pushed)
+  pub trap_done : (pc tt' : ℕ) (trapped : List Trapped) → IsTrapOf parts classes context (thread_at (place_in two at) context) pc tt'
+      → trapped ≡ two.trapped.items ++ record { at = at; context = context; pc = pc; tt = tt' } ∷ [] → IsDone parts classes one (record (found_in two) { trapped = trapped }) at context
+  trap_done pc tt' trapped is pushed =
+      done (record (found_in two) { trapped = trapped }) (trap_added parts classes (found_in two) at context pc (place_in two at) tt' trapped (number_place two at stands.within) real_two is pushed)
 
-  pub alone_done : (to : Numbers) (more : ℕ) (first : Bool) → context < context_count parts → IsGoing parts classes context (thread_at (place_in two at) context) two.pools to more first → IsTrue first → IsAlone parts classes (found_in two) at context
+  pub alone_done : (to : Numbers) (more : ℕ) (first : Bool) → context < context_count parts → IsGoing parts classes context (thread_at (place_in two at) context) two.pools to more first → IsTrue first
+      → IsAlone parts classes (found_in two) at context
   alone_done to more first exists is yes' = alone_is parts classes (found_in two) at context (place_in two at) (number_place two at stands.within) real_two exists (is.first_is yes')
 
-  module _ (to : Numbers) (more : ℕ) (first : Bool) (three : Found) (exists : context < context_count parts) (is : IsGoing parts classes context (thread_at (place_in two at) context) two.pools to more first)
-      (kept : Bool) (added : IsTrue kept → Adds (found_in two) three (with_thread (place_in two at) context (thread_in two.pools to)) (record { from = at; context = context; turns = more + 1 })) (full : kept ≡ false → three ≡ found_in two) where
+  module _ (to : Numbers) (more : ℕ) (first : Bool) (three : Found) (exists : context < context_count parts)
+      (is : IsGoing parts classes context (thread_at (place_in two at) context) two.pools to more first)
+      (kept : Bool) (added : IsTrue kept → Adds (found_in two) three (with_thread (place_in two at) context (thread_in two.pools to)) (record { from = at; context = context; turns = more + 1 }))
+      (full : kept ≡ false → three ≡ found_in two) where
     going_done : IsTrue kept → IsDone parts classes one three at context
     going_done yes' = let adds = added yes' in record {
-      goes = from_one three (led_to parts classes (found_in two) three at context more (place_in two at) (thread_in two.pools to) (number_place two at stands.within) real_two exists is.goes is.chain.private is.chain.end adds).goes;
-      turn = turn_led parts classes (found_in two) three at context more (place_in two at) (thread_in two.pools to) (number_place two at stands.within) real_two exists is.goes is.chain.private is.chain.end adds;
+      goes =
+          from_one three
+          (led_to parts classes (found_in two) three at context more (place_in two at) (thread_in two.pools to) (number_place two at stands.within) real_two exists is.goes is.chain.private
+          is.chain.end adds).goes;
+      turn =
+          turn_led parts classes (found_in two) three at context more (place_in two at) (thread_in two.pools to) (number_place two at stands.within) real_two exists is.goes is.chain.private
+          is.chain.end adds;
     }
 
     pub kept_turn : IsTrue kept → HasTurn parts classes three at context

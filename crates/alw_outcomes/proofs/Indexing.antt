@@ -24,7 +24,8 @@ pub record IsSought {A : Type 0} (members : List A) (digests : List ℕ) (digest
   pub holds : 0 < rest → HasDigest digests digest (rest - 1)
   pub none : (k : ℕ) → rest ≤ k → slice_get members k ≡ Some x → ⊥
 
-pub sought_begins : {A : Type 0} (digest : A → ℕ) (members : List A) (digests : List ℕ) (d : ℕ) (x : A) (rest : ℕ) → IsIndexed digest members digests → d ≡ digest x → IsLast (HasDigest digests d) (length digests) rest
+pub sought_begins : {A : Type 0} (digest : A → ℕ) (members : List A) (digests : List ℕ) (d : ℕ) (x : A) (rest : ℕ) → IsIndexed digest members digests → d ≡ digest x
+    → IsLast (HasDigest digests d) (length digests) rest
     → IsSought members digests d x rest
 sought_begins digest members digests d x rest indexed is last =
     let long = index_long digest members digests indexed in
@@ -34,7 +35,8 @@ sought_begins digest members digests d x rest indexed is last =
       none = λ k past there. last.none k past (let w = slice_get_within members k x there in omega (arith, w, long)) (digest_is digest members digests k x indexed there ∙ sym is);
     }
 
-pub sought_more : {A : Type 0} (digest : A → ℕ) (members : List A) (digests : List ℕ) (d : ℕ) (x : A) (rest next : ℕ) → IsIndexed digest members digests → d ≡ digest x → 0 < rest → (slice_get members (rest - 1) ≡ Some x → ⊥)
+pub sought_more : {A : Type 0} (digest : A → ℕ) (members : List A) (digests : List ℕ) (d : ℕ) (x : A) (rest next : ℕ) → IsIndexed digest members digests → d ≡ digest x → 0 < rest
+    → (slice_get members (rest - 1) ≡ Some x → ⊥)
     → IsLast (HasDigest digests d) (rest - 1) next → IsSought members digests d x rest → IsSought members digests d x next
 sought_more digest members digests d x rest next indexed is some other last sought = record {
   within = let w = last.within in let v = sought.within in omega (arith, w, v, some);
@@ -78,7 +80,8 @@ index_none digest members digests none none' = record {
 pub same_there : {A : Type 0} (members : List A) (k : ℕ) (here x : A) → k < length members → here ≡ slice_index_or members k here → here ≡ x → slice_get members k ≡ Some x
 same_there members k here x less read same = get_read members k here less read ∙ ap (λ y. Some y) same
 
-pub other_there : {A : Type 0} (members : List A) (k : ℕ) (here x : A) (told : Bool) → k < length members → here ≡ slice_index_or members k here → (here ≡ x → IsTrue told) → told ≡ false → slice_get members k ≡ Some x → ⊥
+pub other_there : {A : Type 0} (members : List A) (k : ℕ) (here x : A) (told : Bool) → k < length members → here ≡ slice_index_or members k here → (here ≡ x → IsTrue told) → told ≡ false
+    → slice_get members k ≡ Some x → ⊥
 other_there members k here x told less read exact no' there = false≢true (sym no' ∙ exact (some_is here x (sym (get_read members k here less read) ∙ there)))
 
 -- ---- digests of lists

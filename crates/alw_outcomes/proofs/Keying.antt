@@ -119,7 +119,8 @@ prints_append : (xs ys : List (List ℕ)) → prints_key (xs ++ ys) ≡ prints_k
 prints_append [] ys = refl
 prints_append (x ∷ xs) ys = ap (λ (l : List ℕ). map suc x ++ 0 ∷ l) (prints_append xs ys) ∙ sym (append_assoc (map suc x) (0 ∷ prints_key xs) (prints_key ys))
 
-pub prints_more : (key after words : List ℕ) (printed : List (List ℕ)) (k : ℕ) → k < length printed → key ≡ prints_key (take k printed) → words ≡ slice_index_or printed k [] → after ≡ key ++ (map suc words ++ 0 ∷ []) → after ≡ prints_key (take (k + 1) printed)
+pub prints_more : (key after words : List ℕ) (printed : List (List ℕ)) (k : ℕ) → k < length printed → key ≡ prints_key (take k printed) → words ≡ slice_index_or printed k []
+    → after ≡ key ++ (map suc words ++ 0 ∷ []) → after ≡ prints_key (take (k + 1) printed)
 prints_more key after words printed k less is words_are pushed =
     let none : List ℕ = [] in
     pushed
@@ -143,7 +144,8 @@ all_append : {A : Type 0} (P : A → Type 0) (xs ys : List A) → AllByRecursion
 all_append P [] ys one two = two
 all_append P (x ∷ xs) ys one two = (one.0, all_append P xs ys one.1 two)
 
-sorted_append : {A : Type 0} (c : A → A → Ordering) (xs ys : List A) → IsStrictlySortedBy c xs → IsStrictlySortedBy c ys → AllByRecursion (λ x. AllByRecursion (λ y. c x y ≡ Less) ys) xs → IsStrictlySortedBy c (xs ++ ys)
+sorted_append : {A : Type 0} (c : A → A → Ordering) (xs ys : List A) → IsStrictlySortedBy c xs → IsStrictlySortedBy c ys → AllByRecursion (λ x. AllByRecursion (λ y. c x y ≡ Less) ys) xs
+    → IsStrictlySortedBy c (xs ++ ys)
 unfolding IsStrictlySortedBy
 sorted_append c [] ys one two before = two
 sorted_append c (x ∷ xs) ys one two before = (all_append (λ y. c x y ≡ Less) xs ys one.0 before.0, sorted_append c xs ys one.1 two before.1)
@@ -175,7 +177,8 @@ record HasAll (parts : Parts) (found : Found) (at : ℕ) : Type 0 where
   prints : length (slice_index_or found.places at no_place).printed ≡ context_count parts
   lines : length (slice_index_or found.places at no_place).flat.memory ≡ line_count parts
 
-module _ (parts : Parts) (found : Found) (endings : Endings) (turns : List ℕ) (real : IsReal parts found) (ends : AreOneOfEach (end_key found) found.halted endings.ends.items) (traps : AreOneOfEach (trap_key found.trapped) (range_with_len 0 (length found.trapped)) turns)
+module _ (parts : Parts) (found : Found) (endings : Endings) (turns : List ℕ) (real : IsReal parts found) (ends : AreOneOfEach (end_key found) found.halted endings.ends.items)
+    (traps : AreOneOfEach (trap_key found.trapped) (range_with_len 0 (length found.trapped)) turns)
     (turns_are : endings.traps.items ≡ map (λ (k : ℕ). slice_index_or found.trapped k no_turn) turns) where
   all_of : (at : ℕ) → Contains found.halted at → HasAll parts found at
   all_of at has =
@@ -185,10 +188,12 @@ module _ (parts : Parts) (found : Found) (endings : Endings) (turns : List ℕ) 
       let here = get_or_from_slice_get found.places at is.place no_place is.there in
       record { prints = ap (λ (p : Place). length p.printed) here ∙ sizes.printed; lines = ap (λ (p : Place). length p.flat.memory) here ∙ sizes.memory }
 
-  same_prints : (at other : ℕ) → HasAll parts found at → HasAll parts found other → length (slice_index_or found.places at no_place).printed ≡ length (slice_index_or found.places other no_place).printed
+  same_prints : (at other : ℕ) → HasAll parts found at → HasAll parts found other
+      → length (slice_index_or found.places at no_place).printed ≡ length (slice_index_or found.places other no_place).printed
   same_prints at other one two = one.prints ∙ sym two.prints
 
-  same_lines : (at other : ℕ) → HasAll parts found at → HasAll parts found other → length (slice_index_or found.places at no_place).flat.memory ≡ length (slice_index_or found.places other no_place).flat.memory
+  same_lines : (at other : ℕ) → HasAll parts found at → HasAll parts found other
+      → length (slice_index_or found.places at no_place).flat.memory ≡ length (slice_index_or found.places other no_place).flat.memory
   same_lines at other one two = one.lines ∙ sym two.lines
 
   turn_at : ℕ → Trapped
@@ -226,13 +231,16 @@ module _ (parts : Parts) (found : Found) (endings : Endings) (turns : List ℕ) 
           Contains-append_left halts_in (map trap_of found.trapped) ending (subst (Contains halts_in) from.1.1 (contains_map (halt_at found) found.halted from.0 (ends.within from.0 from.1.0)))
       go (inr trap) =
           let from = from_map trap_of endings.traps.items ending trap in
-          Contains-append_right halts_in (map trap_of found.trapped) ending (subst (Contains (map trap_of found.trapped)) from.1.1 (contains_map trap_of found.trapped from.0 (traps_listed from.0 from.1.0)))
+          Contains-append_right halts_in (map trap_of found.trapped) ending
+          (subst (Contains (map trap_of found.trapped)) from.1.1 (contains_map trap_of found.trapped from.0 (traps_listed from.0 from.1.0)))
 
   every_end : (at : ℕ) → Contains found.halted at → Contains (map (halt_at found) endings.ends.items) (halt_at found at)
   every_end at has =
       let from = from_map (end_key found) endings.ends.items (end_key found at) (ends.every at has) in
       let there = all_of from.0 (ends.within from.0 from.1.0) in
-      let same = place_same (slice_index_or found.places from.0 no_place) (slice_index_or found.places at no_place) (same_prints from.0 at there (all_of at has)) (same_lines from.0 at there (all_of at has)) from.1.1 in
+      let same =
+      place_same (slice_index_or found.places from.0 no_place) (slice_index_or found.places at no_place) (same_prints from.0 at there (all_of at has)) (same_lines from.0 at there (all_of at has))
+      from.1.1 in
       subst (Contains (map (halt_at found) endings.ends.items)) same (contains_map (halt_at found) endings.ends.items from.0 from.1.0)
 
   every_trap : (turn : Trapped) → Contains found.trapped turn → Contains (map trap_of endings.traps.items) (trap_of turn)
@@ -253,10 +261,12 @@ module _ (parts : Parts) (found : Found) (endings : Endings) (turns : List ℕ) 
       go : Contains halts_in ending ⊎ Contains (map trap_of found.trapped) ending → Contains (told_in found endings) ending
       go (inl end) =
           let from = from_map (halt_at found) found.halted ending end in
-          Contains-append_left (map (halt_at found) endings.ends.items) (map trap_of endings.traps.items) ending (subst (Contains (map (halt_at found) endings.ends.items)) from.1.1 (every_end from.0 from.1.0))
+          Contains-append_left (map (halt_at found) endings.ends.items) (map trap_of endings.traps.items) ending
+          (subst (Contains (map (halt_at found) endings.ends.items)) from.1.1 (every_end from.0 from.1.0))
       go (inr trap) =
           let from = from_map trap_of found.trapped ending trap in
-          Contains-append_right (map (halt_at found) endings.ends.items) (map trap_of endings.traps.items) ending (subst (Contains (map trap_of endings.traps.items)) from.1.1 (every_trap from.0 from.1.0))
+          Contains-append_right (map (halt_at found) endings.ends.items) (map trap_of endings.traps.items) ending
+          (subst (Contains (map trap_of endings.traps.items)) from.1.1 (every_trap from.0 from.1.0))
 
   map_map : (ks : List ℕ) → map trap_of (map turn_at ks) ≡ map (λ (k : ℕ). trap_of (turn_at k)) ks
   map_map [] = refl

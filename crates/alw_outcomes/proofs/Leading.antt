@@ -35,7 +35,10 @@ goes_on_trans parts one two three first second = record {
 }
 
 pub inside_grows : (before after : Pools) (at : Numbers) → PoolsGrow before after → AreIn before at → AreIn after at
-inside_grows before after at grow inside = record { memory = front_length before.memories.items after.memories.items at.memory grow.memories inside.memory; seat = front_length before.seats.items after.seats.items at.seat grow.seats inside.seat }
+inside_grows before after at grow inside = record {
+  memory = front_length before.memories.items after.memories.items at.memory grow.memories inside.memory;
+  seat = front_length before.seats.items after.seats.items at.seat grow.seats inside.seat;
+}
 
 pub words_grow : (parts : Parts) (before after : Pools) (seat : ℕ) → ArePools parts before → PoolsGrow before after → seat < length before.seats.items → words_in after seat ≡ words_in before seat
 words_grow parts before after seat are grow within =
@@ -43,7 +46,8 @@ words_grow parts before after seat are grow within =
     let same : seat_in after seat ≡ seat_in before seat = front_or before.seats.items after.seats.items seat no_seat grow.seats within in
     let listed = are.lists seat (seat_in before seat) (slice_get-get_or before.seats.items seat no_seat within) in
     ap (λ (s : Seat). slice_index_or (lists_of after.links.items) s.list none) same
-    ∙ front_or (lists_of before.links.items) (lists_of after.links.items) (seat_in before seat).list none (lists_front before.links.items after.links.items grow.links) (omega (arith, listed, lists_length before.links.items))
+    ∙ front_or (lists_of before.links.items) (lists_of after.links.items) (seat_in before seat).list none (lists_front before.links.items after.links.items grow.links)
+    (omega (arith, listed, lists_length before.links.items))
 
 pub thread_grows : (parts : Parts) (before after : Pools) (at : Numbers) → ArePools parts before → PoolsGrow before after → AreIn before at → thread_in after at ≡ thread_in before at
 unfolding thread_in
@@ -88,17 +92,21 @@ none_trap (Out word) none = refl
 none_trap Halt none = refl
 none_trap (Trap x) none = absurd (none x refl)
 
-pub thread_goes : (parts : Parts) (classes : List Class) (context : ℕ) (pools : Pools) (at : Numbers) (seat : Seat) (outcome : Outcome) → AreIn pools at → seat ≡ slice_index_or pools.seats.items at.seat seat → is_ready seat.status ≡ true
-    → is_allowed classes context (need_of parts.code seat.regs (line_count parts)) ≡ true → outcome ≡ (effect_in parts (thread_in pools at)).outcome → traps outcome ≡ false → ThreadGoes parts classes context (thread_in pools at)
+pub thread_goes : (parts : Parts) (classes : List Class) (context : ℕ) (pools : Pools) (at : Numbers) (seat : Seat) (outcome : Outcome) → AreIn pools at
+    → seat ≡ slice_index_or pools.seats.items at.seat seat → is_ready seat.status ≡ true
+    → is_allowed classes context (need_of parts.code seat.regs (line_count parts)) ≡ true → outcome ≡ (effect_in parts (thread_in pools at)).outcome → traps outcome ≡ false
+    → ThreadGoes parts classes context (thread_in pools at)
 thread_goes parts classes context pools at seat outcome inside read ready allowed outcome_is none = record {
   ready = ready_is parts classes context pools at seat inside read true ready;
   no_trap = ap traps (sym outcome_is) ∙ none;
   allowed = allowed_is parts classes context pools at seat inside read true allowed;
 }
 
-pub thread_private : (parts : Parts) (classes : List Class) (context : ℕ) (before after : Pools) (at next : Numbers) (seat left : Seat) → AreIn before at → AreIn after next → seat ≡ slice_index_or before.seats.items at.seat seat
+pub thread_private : (parts : Parts) (classes : List Class) (context : ℕ) (before after : Pools) (at next : Numbers) (seat left : Seat) → AreIn before at → AreIn after next
+    → seat ≡ slice_index_or before.seats.items at.seat seat
     → left ≡ slice_index_or after.seats.items next.seat left → thread_in after next ≡ thread_turn parts (thread_in before at) → ThreadGoes parts classes context (thread_in before at)
-    → is_private classes (need_of parts.code seat.regs (line_count parts)) ≡ true → to_go (record { regs = left.regs; status = left.status }) < to_go (record { regs = seat.regs; status = seat.status }) → ThreadPrivate parts classes context (thread_in before at)
+    → is_private classes (need_of parts.code seat.regs (line_count parts)) ≡ true
+    → to_go (record { regs = left.regs; status = left.status }) < to_go (record { regs = seat.regs; status = seat.status }) → ThreadPrivate parts classes context (thread_in before at)
 thread_private parts classes context before after at next seat left inside inside' read read' turn goes alone less =
     let here = go_is parts classes context before at seat inside read in
     let there = go_is parts classes context after next left inside' read' in
@@ -109,8 +117,10 @@ thread_private parts classes context before after at next seat left inside insid
       forward = omega (arith, here, there, turned, less);
     }
 
-pub thread_traps : (parts : Parts) (classes : List Class) (context : ℕ) (pools : Pools) (at : Numbers) (seat : Seat) (outcome : Outcome) (type : ℕ) → AreIn pools at → seat ≡ slice_index_or pools.seats.items at.seat seat → is_ready seat.status ≡ true
-    → is_allowed classes context (need_of parts.code seat.regs (line_count parts)) ≡ true → outcome ≡ (effect_in parts (thread_in pools at)).outcome → outcome ≡ Trap type → IsTrapOf parts classes context (thread_in pools at) seat.regs.pc type
+pub thread_traps : (parts : Parts) (classes : List Class) (context : ℕ) (pools : Pools) (at : Numbers) (seat : Seat) (outcome : Outcome) (type : ℕ) → AreIn pools at
+    → seat ≡ slice_index_or pools.seats.items at.seat seat → is_ready seat.status ≡ true
+    → is_allowed classes context (need_of parts.code seat.regs (line_count parts)) ≡ true → outcome ≡ (effect_in parts (thread_in pools at)).outcome → outcome ≡ Trap type
+    → IsTrapOf parts classes context (thread_in pools at) seat.regs.pc type
 thread_traps parts classes context pools at seat outcome type inside read ready allowed outcome_is trap = record {
   ready = ready_is parts classes context pools at seat inside read true ready;
   allowed = allowed_is parts classes context pools at seat inside read true allowed;
@@ -120,7 +130,8 @@ thread_traps parts classes context pools at seat outcome type inside read ready 
 
 -- ---- chains
 
-private-more : (parts : Parts) (classes : List Class) (context : ℕ) (thread : Thread) (n : ℕ) → ArePrivate parts classes context thread n → ThreadPrivate parts classes context (thread_turns parts thread n) → ArePrivate parts classes context thread (suc n)
+private-more : (parts : Parts) (classes : List Class) (context : ℕ) (thread : Thread) (n : ℕ) → ArePrivate parts classes context thread n
+    → ThreadPrivate parts classes context (thread_turns parts thread n) → ArePrivate parts classes context thread (suc n)
 private-more parts classes context thread zero are last = (last, tt)
 private-more parts classes context thread (suc n) are last = (are.0, private-more parts classes context (thread_turn parts thread) n are.1 last)
 
@@ -131,10 +142,16 @@ turns-more parts thread (suc n) = turns-more parts (thread_turn parts thread) n
 pub chain_none : (parts : Parts) (classes : List Class) (context : ℕ) (pools : Pools) (at : Numbers) → AreIn pools at → IsChain parts classes context (thread_in pools at) pools at 0
 chain_none parts classes context pools at inside = record { inside = inside; private = tt; end = refl }
 
-pub chain_grows : (parts : Parts) (classes : List Class) (context : ℕ) (thread : Thread) (before after : Pools) (to : Numbers) (more : ℕ) → ArePools parts before → PoolsGrow before after → IsChain parts classes context thread before to more → IsChain parts classes context thread after to more
-chain_grows parts classes context thread before after to more are grow is = record { inside = inside_grows before after to grow is.inside; private = is.private; end = thread_grows parts before after to are grow is.inside ∙ is.end }
+pub chain_grows : (parts : Parts) (classes : List Class) (context : ℕ) (thread : Thread) (before after : Pools) (to : Numbers) (more : ℕ) → ArePools parts before → PoolsGrow before after
+    → IsChain parts classes context thread before to more → IsChain parts classes context thread after to more
+chain_grows parts classes context thread before after to more are grow is = record {
+  inside = inside_grows before after to grow is.inside;
+  private = is.private;
+  end = thread_grows parts before after to are grow is.inside ∙ is.end;
+}
 
-pub chain_more : (parts : Parts) (classes : List Class) (context : ℕ) (thread : Thread) (before after : Pools) (to next : Numbers) (more : ℕ) → IsChain parts classes context thread before to more → AreIn after next
+pub chain_more : (parts : Parts) (classes : List Class) (context : ℕ) (thread : Thread) (before after : Pools) (to next : Numbers) (more : ℕ) → IsChain parts classes context thread before to more
+    → AreIn after next
     → thread_in after next ≡ thread_turn parts (thread_in before to) → ThreadPrivate parts classes context (thread_in before to) → IsChain parts classes context thread after next (more + 1)
 chain_more parts classes context thread before after to next more is inside turn private =
     let one : more + 1 ≡ suc more = omega arith in
@@ -144,6 +161,11 @@ chain_more parts classes context thread before after to next more is inside turn
       end = turn ∙ ap (thread_turn parts) is.end ∙ sym (turns-more parts thread more);
     })
 
-pub going : (parts : Parts) (classes : List Class) (context : ℕ) (thread turned : Thread) (pools : Pools) (to : Numbers) (more : ℕ) (first : Bool) → turned ≡ thread_turn parts thread → ThreadGoes parts classes context thread
+pub going : (parts : Parts) (classes : List Class) (context : ℕ) (thread turned : Thread) (pools : Pools) (to : Numbers) (more : ℕ) (first : Bool) → turned ≡ thread_turn parts thread
+    → ThreadGoes parts classes context thread
     → (IsTrue first → ThreadPrivate parts classes context thread) → IsChain parts classes context turned pools to more → IsGoing parts classes context thread pools to more first
-going parts classes context thread turned pools to more first same goes private chain = record { goes = goes; first_is = private; chain = subst (λ (t : Thread). IsChain parts classes context t pools to more) same chain }
+going parts classes context thread turned pools to more first same goes private chain = record {
+  goes = goes;
+  first_is = private;
+  chain = subst (λ (t : Thread). IsChain parts classes context t pools to more) same chain;
+}

@@ -25,10 +25,12 @@ not_there : (address low word : ℕ) (rest more : List (ℕ × ℕ)) → address
 not_there address low word rest more less from e = let f : low ≤ address = subst (IsFrom low) e from in omega (arith, less, f)
 
 -- a word and what is behind it, told by both
-told_apart : (address low one other : ℕ) (rest more : List (ℕ × ℕ)) → address < low → IsFrom low rest → IsFrom low more → kept_word address one ++ rest ≡ kept_word address other ++ more → (one ≡ other) × (rest ≡ more)
+told_apart : (address low one other : ℕ) (rest more : List (ℕ × ℕ)) → address < low → IsFrom low rest → IsFrom low more → kept_word address one ++ rest ≡ kept_word address other ++ more
+    → (one ≡ other) × (rest ≡ more)
 told_apart address low one other rest more less from from' = by_test (one == 0) refl (other == 0) refl
   where
-    by_test : (a : Bool) → (one == 0) ≡ a → (b : Bool) → (other == 0) ≡ b → (if a then [] else (address, one) ∷ []) ++ rest ≡ (if b then [] else (address, other) ∷ []) ++ more → (one ≡ other) × (rest ≡ more)
+    by_test : (a : Bool) → (one == 0) ≡ a → (b : Bool) → (other == 0) ≡ b → (if a then [] else (address, one) ∷ []) ++ rest ≡ (if b then [] else (address, other) ∷ []) ++ more
+        → (one ≡ other) × (rest ≡ more)
     by_test true e true f same = (eqb-true one 0 e ∙ sym (eqb-true other 0 f), same)
     by_test true e false f same = absurd (not_there address low other rest more less from same)
     by_test false e true f same = absurd (not_there address low one more rest less from' (sym same))
@@ -74,7 +76,8 @@ lines_from : (address : ℕ) (lines : List Line) → IsFrom address (words_from 
 lines_from address [] = tt
 lines_from address (line ∷ rest) = (stand_behind address line (words_from (address + 16) rest) (lines_from (address + 16) rest)).whole
 
-line_told : (address : ℕ) (one other : Line) (rest more : List (ℕ × ℕ)) → IsFrom (address + 16) rest → IsFrom (address + 16) more → line_words address one ++ rest ≡ line_words address other ++ more → (one ≡ other) × (rest ≡ more)
+line_told : (address : ℕ) (one other : Line) (rest more : List (ℕ × ℕ)) → IsFrom (address + 16) rest → IsFrom (address + 16) more → line_words address one ++ rest ≡ line_words address other ++ more
+    → (one ≡ other) × (rest ≡ more)
 line_told address one other rest more from from' same =
     let s = stand_behind address one rest from in
     let s' = stand_behind address other more from' in
@@ -105,7 +108,8 @@ key_append (x ∷ xs) ys = ap (λ (l : List ℕ). x.0 ∷ x.1 ∷ l) (key_append
 
 -- the four words of a line behind a key, one after the other
 pub key_line : (at address : ℕ) (line : Line) (key one two three four : List ℕ) → at ≡ address
-    → one ≡ key ++ words_key (kept_word at line.a) → two ≡ one ++ words_key (kept_word (at + 4) line.b) → three ≡ two ++ words_key (kept_word (at + 8) line.c) → four ≡ three ++ words_key (kept_word (at + 12) line.d)
+    → one ≡ key ++ words_key (kept_word at line.a) → two ≡ one ++ words_key (kept_word (at + 4) line.b) → three ≡ two ++ words_key (kept_word (at + 8) line.c)
+    → four ≡ three ++ words_key (kept_word (at + 12) line.d)
     → four ≡ key ++ words_key (line_words address line)
 key_line at address line key one two three four here e f g h =
     let a = kept_word at line.a in
@@ -121,7 +125,8 @@ key_line at address line key one two three four here e f g h =
     ∙ ap (λ (l : List ℕ). key ++ l) (sym (key_append a (b ++ (c ++ d))))
     ∙ ap (λ (n : ℕ). key ++ words_key (line_words n line)) here
 
-one_more : (address k : ℕ) (lines : List Line) (zero_line : Line) → k < length lines → words_from address (take (suc k) lines) ≡ words_from address (take k lines) ++ line_words (address + 16 * k) (slice_index_or lines k zero_line)
+one_more : (address k : ℕ) (lines : List Line) (zero_line : Line) → k < length lines
+    → words_from address (take (suc k) lines) ≡ words_from address (take k lines) ++ line_words (address + 16 * k) (slice_index_or lines k zero_line)
 one_more address k [] zero_line less = absurd (omega (arith, less))
 one_more address zero (line ∷ rest) zero_line less = append-nil (line_words address line) ∙ ap (λ (n : ℕ). line_words n line) here
   where
@@ -135,7 +140,8 @@ one_more address (suc k) (line ∷ rest) zero_line less =
     further : address + 16 + 16 * k ≡ address + 16 * suc k
     further = omega arith
 
-pub key_more : (address : ℕ) (before key after : List ℕ) (lines : List Line) (k : ℕ) (zero_line : Line) → k < length lines → key ≡ before ++ words_key (words_from address (take k lines)) → after ≡ key ++ words_key (line_words (address + 16 * k) (slice_index_or lines k zero_line))
+pub key_more : (address : ℕ) (before key after : List ℕ) (lines : List Line) (k : ℕ) (zero_line : Line) → k < length lines → key ≡ before ++ words_key (words_from address (take k lines))
+    → after ≡ key ++ words_key (line_words (address + 16 * k) (slice_index_or lines k zero_line))
     → after ≡ before ++ words_key (words_from address (take (k + 1) lines))
 key_more address before key after lines k zero_line less is pushed =
     let line = line_words (address + 16 * k) (slice_index_or lines k zero_line) in

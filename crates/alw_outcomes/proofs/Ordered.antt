@@ -25,13 +25,16 @@ shape (Halts printed memory) = (0, (printed, (memory, [])))
 shape (Traps context pc type) = (1, ([], ([], context ∷ pc ∷ type ∷ [])))
 
 abbrev shape_cmp : Shape → Shape → Ordering
-shape_cmp = then_cmp (on (λ (s : Shape). s.0) nat_cmp) (then_cmp (on (λ (s : Shape). s.1.0) (slice_cmp list_cmp)) (then_cmp (on (λ (s : Shape). s.1.1.0) memory_cmp) (on (λ (s : Shape). s.1.1.1) list_cmp)))
+shape_cmp =
+    then_cmp (on (λ (s : Shape). s.0) nat_cmp) (then_cmp (on (λ (s : Shape). s.1.0) (slice_cmp list_cmp)) (then_cmp (on (λ (s : Shape). s.1.1.0) memory_cmp) (on (λ (s : Shape). s.1.1.1) list_cmp)))
 
 memory_total : IsTotalOrder memory_cmp
 memory_total = on_total memory_words (lists_total (then_total (on_total (λ (w : ℕ × ℕ). w.0) nat_cmp_total) (on_total (λ (w : ℕ × ℕ). w.1) nat_cmp_total)))
 
 shape_total : IsTotalOrder shape_cmp
-shape_total = then_total (on_total (λ (s : Shape). s.0) nat_cmp_total) (then_total (on_total (λ (s : Shape). s.1.0) (lists_total nat_list_cmp_total)) (then_total (on_total (λ (s : Shape). s.1.1.0) memory_total) (on_total (λ (s : Shape). s.1.1.1) nat_list_cmp_total)))
+shape_total =
+    then_total (on_total (λ (s : Shape). s.0) nat_cmp_total)
+    (then_total (on_total (λ (s : Shape). s.1.0) (lists_total nat_list_cmp_total)) (then_total (on_total (λ (s : Shape). s.1.1.0) memory_total) (on_total (λ (s : Shape). s.1.1.1) nat_list_cmp_total)))
 
 shape_agrees : (one two : Ending) → on shape shape_cmp one two ≡ ending_cmp one two
 unfolding shape
@@ -70,7 +73,8 @@ module _ {K : Type 0} (c : K → K → Ordering) (o : IsTotalOrder c) where
   heads : (x y : K) (xs ys : List K) → AllByRecursion (λ z. c x z ≡ Less) xs → AllByRecursion (λ z. c y z ≡ Less) ys → (y ≡ x) ⊎ Contains ys x → (x ≡ y) ⊎ Contains xs y → x ≡ y
   heads x y xs ys above above' (inl same) other = sym same
   heads x y xs ys above above' (inr later) (inl same) = same
-  heads x y xs ys above above' (inr later) (inr later') = absurd (not_below_itself x (o.trans x y x (at_member (λ z. c x z ≡ Less) xs y above later') (at_member (λ z. c y z ≡ Less) ys x above' later)))
+  heads x y xs ys above above' (inr later) (inr later') =
+      absurd (not_below_itself x (o.trans x y x (at_member (λ z. c x z ≡ Less) xs y above later') (at_member (λ z. c y z ≡ Less) ys x above' later)))
 
   tail_member : (x y z : K) (xs ys : List K) → AllByRecursion (λ z. c x z ≡ Less) xs → x ≡ y → Contains xs z → (y ≡ z) ⊎ Contains ys z → Contains ys z
   tail_member x y z xs ys above same has (inl here) = absurd (not_below_itself x (ap (c x) (same ∙ here) ∙ at_member (λ w. c x w ≡ Less) xs z above has))
@@ -91,7 +95,8 @@ module _ {K : Type 0} (c : K → K → Ordering) (o : IsTotalOrder c) where
 -- the different endings of a list, ascending, are one list
 pub different_once : (all one two : List Ending) → AreDifferent all one → AreDifferent all two → one ≡ two
 different_once all one two first second =
-    same_sorted ending_cmp ending_total one two first.ascending second.ascending (λ ending has. second.every ending (first.within ending has)) (λ ending has. first.every ending (second.within ending has))
+    same_sorted ending_cmp ending_total one two first.ascending second.ascending (λ ending has. second.every ending (first.within ending has))
+    (λ ending has. first.every ending (second.within ending has))
 
 -- they have all that runs come to, where the list does
 pub different_every : (parts : Parts) (all some : List Ending) → HasEvery parts all → AreDifferent all some → HasEvery parts some

@@ -77,7 +77,8 @@ numbered_front before after x at (inl old) = record { more = []; is = old.1 ∙ 
 numbered_front before after x at (inr new) = record { more = x ∷ []; is = new.1 }
 
 -- a member afterwards was there, or is the new one
-pub numbered_cases : {A : Type 0} (before after : List A) (x : A) (at k : ℕ) (y : A) → Numbered before after x at → slice_get after k ≡ Some y → (slice_get before k ≡ Some y) ⊎ ((k ≡ length before) × (x ≡ y))
+pub numbered_cases : {A : Type 0} (before after : List A) (x : A) (at k : ℕ) (y : A) → Numbered before after x at → slice_get after k ≡ Some y
+    → (slice_get before k ≡ Some y) ⊎ ((k ≡ length before) × (x ≡ y))
 numbered_cases before after x at k y (inl old) e = inl (ap (λ l. slice_get l k) (sym old.1) ∙ e)
 numbered_cases before after x at k y (inr new) e = get-cases before x k y (ap (λ l. slice_get l k) (sym new.1) ∙ e)
 
@@ -104,7 +105,8 @@ length-with_links lists (x ∷ xs) =
     omega (arith, rest, length-append lists new)
 
 -- the list of the first link
-first_words : (lists : List (List ℕ)) (x : Link) (xs : List Link) → x.before < length lists → slice_index_or (with_links lists (x ∷ xs)) (length lists + 0) [] ≡ slice_index_or (with_links lists (x ∷ xs)) x.before [] ++ x.word ∷ []
+first_words : (lists : List (List ℕ)) (x : Link) (xs : List Link) → x.before < length lists
+    → slice_index_or (with_links lists (x ∷ xs)) (length lists + 0) [] ≡ slice_index_or (with_links lists (x ∷ xs)) x.before [] ++ x.word ∷ []
 first_words lists x xs less =
     let none : List ℕ = [] in
     let word = slice_index_or lists x.before none ++ x.word ∷ [] in
@@ -112,9 +114,11 @@ first_words lists x xs less =
     let here : slice_index_or (with_links (lists ++ word ∷ []) xs) (length lists + 0) none ≡ slice_index_or (lists ++ word ∷ []) (length lists + 0) none =
     front_or (lists ++ word ∷ []) (with_links (lists ++ word ∷ []) xs) (length lists + 0) none (with_links-front (lists ++ word ∷ []) xs) (omega (arith, long)) in
     let end : length lists + 0 ≡ length lists = omega arith in
-    let last : slice_index_or (lists ++ word ∷ []) (length lists + 0) none ≡ word = get_or_from_slice_get (lists ++ word ∷ []) (length lists + 0) word none (ap (slice_get (lists ++ word ∷ [])) end ∙ get-last lists word) in
+    let last : slice_index_or (lists ++ word ∷ []) (length lists + 0) none ≡ word =
+    get_or_from_slice_get (lists ++ word ∷ []) (length lists + 0) word none (ap (slice_get (lists ++ word ∷ [])) end ∙ get-last lists word) in
     let before : slice_index_or (with_links (lists ++ word ∷ []) xs) x.before none ≡ slice_index_or lists x.before none =
-    front_or (lists ++ word ∷ []) (with_links (lists ++ word ∷ []) xs) x.before none (with_links-front (lists ++ word ∷ []) xs) (omega (arith, long, less)) ∙ or-append lists (word ∷ []) x.before none less in
+    front_or (lists ++ word ∷ []) (with_links (lists ++ word ∷ []) xs) x.before none (with_links-front (lists ++ word ∷ []) xs) (omega (arith, long, less))
+    ∙ or-append lists (word ∷ []) x.before none less in
     here ∙ last ∙ ap (λ (l : List ℕ). l ++ x.word ∷ []) (sym before)
 
 words_at : (lists : List (List ℕ)) (links : List Link) (at : ℕ) (link : Link) → ((k : ℕ) (l : Link) → slice_get links k ≡ Some l → l.before < length lists + k) → slice_get links at ≡ Some link
@@ -153,9 +157,13 @@ unfolding lists_of
 lists_length links = let l = length-with_links ([] ∷ []) links in omega (arith, l)
 
 -- what code leaves of the links
-module _ (before after : List Link) (list word at : ℕ) (exists : list < suc (length before)) (back : (k : ℕ) (link : Link) → slice_get before k ≡ Some link → link.before < suc k) (is : Numbered before after (record { before = list; word = word }) at) where
+module _ (before after : List Link) (list word at : ℕ) (exists : list < suc (length before)) (back : (k : ℕ) (link : Link) → slice_get before k ≡ Some link → link.before < suc k)
+    (is : Numbered before after (record { before = list; word = word }) at) where
   pub links_go_on : LinksGoOn before after
-  links_go_on = record { back = λ k link e. go k link (numbered_cases before after (record { before = list; word = word }) at k link is e); front = numbered_front before after (record { before = list; word = word }) at is }
+  links_go_on = record {
+    back = λ k link e. go k link (numbered_cases before after (record { before = list; word = word }) at k link is e);
+    front = numbered_front before after (record { before = list; word = word }) at is;
+  }
     where
       go : (k : ℕ) (link : Link) → (slice_get before k ≡ Some link) ⊎ ((k ≡ length before) × (let l : Link = record { before = list; word = word } in l ≡ link)) → link.before < suc k
       go k link (inl old) = back k link old
@@ -166,7 +174,8 @@ module _ (before after : List Link) (list word at : ℕ) (exists : list < suc (l
       let none : List ℕ = [] in
       let get = numbered_get before after (record { before = list; word = word }) at is in
       let here = link_words after at (record { before = list; word = word }) links_go_on.back get in
-      let same : slice_index_or (lists_of after) list none ≡ slice_index_or (lists_of before) list none = front_or (lists_of before) (lists_of after) list none (lists_front before after links_go_on.front) (omega (arith, lists_length before)) in
+      let same : slice_index_or (lists_of after) list none ≡ slice_index_or (lists_of before) list none =
+      front_or (lists_of before) (lists_of after) list none (lists_front before after links_go_on.front) (omega (arith, lists_length before)) in
       record {
         exists = let w = slice_get_within after at (record { before = list; word = word }) get in omega (arith, w);
         is = here ∙ ap (λ (l : List ℕ). l ++ word ∷ []) same;
@@ -192,10 +201,8 @@ module _ (parts : Parts) (before after : Pools) (at : Numbers) (seat : Seat) (le
     (status_is : status ≡ status_after left.regs left.outcome)
     (seats : Numbered before.seats.items after.seats.items (record { regs = left.regs; status = status; list = list }) number)
     (memories : Numbered before.memories.items after.memories.items (written (memory_in before at.memory) left.wrote) memory)
-    (by_seat : IsIndexed seat_digest after.seats.items after.by_seat) (by_link : IsIndexed link_digest after.links.items after.by_link) (by_memory : IsIndexed memory_digest after.memories.items after.by_memory) where
-  new_seat : Seat
-  new_seat = record { regs = left.regs; status = status; list = list }
-
+    (by_seat : IsIndexed seat_digest after.seats.items after.by_seat) (by_link : IsIndexed link_digest after.links.items after.by_link)
+    (by_memory : IsIndexed memory_digest after.memories.items after.by_memory) where
   grows : GoOn parts before after
   grows = record {
     grow = record {
@@ -213,13 +220,17 @@ module _ (parts : Parts) (before after : Pools) (at : Numbers) (seat : Seat) (le
     };
   }
     where
-      listed : (k : ℕ) (s : Seat) → (slice_get before.seats.items k ≡ Some s) ⊎ ((k ≡ length before.seats.items) × (let n : Seat = record { regs = left.regs; status = status; list = list } in n ≡ s)) → s.list < suc (length after.links.items)
+      listed : (k : ℕ) (s : Seat) → (slice_get before.seats.items k ≡ Some s) ⊎ ((k ≡ length before.seats.items) × (let n : Seat = record { regs = left.regs; status = status; list = list } in n ≡ s))
+          → s.list < suc (length after.links.items)
       listed k s (inl old) = let l = pools.lists k s old in let f = ap length links.front.is in omega (arith, l, f, length-append before.links.items links.front.more)
       listed k s (inr new) = let same : list ≡ s.list = ap (λ (x : Seat). x.list) new.1 in let w = words.exists in omega (arith, same, w)
 
-      sized : (k : ℕ) (m : List Line) → (slice_get before.memories.items k ≡ Some m) ⊎ ((k ≡ length before.memories.items) × (written (memory_in before at.memory) left.wrote ≡ m)) → length m ≡ line_count parts
+      sized : (k : ℕ) (m : List Line) → (slice_get before.memories.items k ≡ Some m) ⊎ ((k ≡ length before.memories.items) × (written (memory_in before at.memory) left.wrote ≡ m))
+          → length m ≡ line_count parts
       sized k m (inl old) = pools.sizes k m old
-      sized k m (inr new) = ap length (sym new.1) ∙ length-written (memory_in before at.memory) left.wrote ∙ pools.sizes at.memory (memory_in before at.memory) (slice_get-get_or before.memories.items at.memory [] inside.memory)
+      sized k m (inr new) =
+          ap length (sym new.1) ∙ length-written (memory_in before at.memory) left.wrote
+          ∙ pools.sizes at.memory (memory_in before at.memory) (slice_get-get_or before.memories.items at.memory [] inside.memory)
 
   pub stepped : Stepped parts before after at (record { memory = memory; seat = number }) left.outcome
   unfolding thread_in
@@ -229,7 +240,11 @@ module _ (parts : Parts) (before after : Pools) (at : Numbers) (seat : Seat) (le
       let seat_is : seat_in after number ≡ record { regs = left.regs; status = status; list = list } = get_or_from_slice_get after.seats.items number _ no_seat seat_get in
       let memory_is : memory_in after memory ≡ written (memory_in before at.memory) left.wrote = get_or_from_slice_get after.memories.items memory _ [] memory_get in
       let old_seat : seat_in before at.seat ≡ seat = get_or_from_slice_get before.seats.items at.seat seat no_seat read in
-      let done : effect_of parts (memory_in before at.memory) (seat_in before at.seat).regs ≡ record { memory = written (memory_in before at.memory) left.wrote; regs = left.regs; outcome = left.outcome } =
+      let done : effect_of parts (memory_in before at.memory) (seat_in before at.seat).regs ≡ record {
+        memory = written (memory_in before at.memory) left.wrote;
+        regs = left.regs;
+        outcome = left.outcome;
+      } =
       ap (λ (s : Seat). effect_of parts (memory_in before at.memory) s.regs) old_seat ∙ effect in
       record {
         grow = grows;
@@ -255,11 +270,14 @@ pub get_read : {A : Type 0} (xs : List A) (i : ℕ) (here : A) → i < length xs
 get_read xs i here within e = slice_get-get_or xs i here within ∙ ap (λ x. Some x) (sym e)
 
 -- the same, as code reads the pools
-pub stepped_read : (parts : Parts) (before after : Pools) (at : Numbers) (seat : Seat) (held : List Line) (left : Left) (status : Status) (list number memory : ℕ) → AreIn before at → ArePools parts before
+pub stepped_read : (parts : Parts) (before after : Pools) (at : Numbers) (seat : Seat) (held : List Line) (left : Left) (status : Status) (list number memory : ℕ) → AreIn before at
+    → ArePools parts before
     → seat ≡ slice_index_or before.seats.items at.seat seat → held ≡ slice_index_or before.memories.items at.memory held
     → effect_of parts held seat.regs ≡ record { memory = written held left.wrote; regs = left.regs; outcome = left.outcome }
-    → LinksGoOn before.links.items after.links.items → HasWords after.links.items list (words_after (slice_index_or (lists_of before.links.items) seat.list []) left.outcome) → status ≡ status_after left.regs left.outcome
-    → Numbered before.seats.items after.seats.items (record { regs = left.regs; status = status; list = list }) number → Numbered before.memories.items after.memories.items (written (memory_in before at.memory) left.wrote) memory
+    → LinksGoOn before.links.items after.links.items → HasWords after.links.items list (words_after (slice_index_or (lists_of before.links.items) seat.list []) left.outcome)
+    → status ≡ status_after left.regs left.outcome
+    → Numbered before.seats.items after.seats.items (record { regs = left.regs; status = status; list = list }) number
+    → Numbered before.memories.items after.memories.items (written (memory_in before at.memory) left.wrote) memory
     → IsIndexed seat_digest after.seats.items after.by_seat → IsIndexed link_digest after.links.items after.by_link → IsIndexed memory_digest after.memories.items after.by_memory
     → Stepped parts before after at (record { memory = memory; seat = number }) left.outcome
 stepped_read parts before after at seat held left status list number memory inside pools seat_is held_is effect links words status_is seats memories by_seat by_link by_memory =

@@ -37,7 +37,8 @@ use Rattle.alw_places.proofs.Independence.{IsToldBy, IsBrokenBy, told_from, can_
 pub can_before : (parts : Parts) (place there : Place) (turns : List ℕ) → IsRun parts place turns → places_after parts place turns ≡ there → CanEnd parts there → CanEnd parts place
 can_before parts place there turns run after can =
     let run' : IsRun parts (places_after parts place turns) can.turns = subst (λ (p : Place). IsRun parts p can.turns) (sym after) can.run in
-    let end : places_after parts place (turns ++ can.turns) ≡ places_after parts there can.turns = after-append parts place turns can.turns ∙ ap (λ (p : Place). places_after parts p can.turns) after in
+    let end : places_after parts place (turns ++ can.turns) ≡ places_after parts there can.turns =
+    after-append parts place turns can.turns ∙ ap (λ (p : Place). places_after parts p can.turns) after in
     record { turns = turns ++ can.turns; ending = can.ending; run = run-append parts place turns can.turns run run'; ends = subst (λ (p : Place). EndsIn parts p can.ending) (sym end) can.ends }
 
 pub can_here : (parts : Parts) (place : Place) (ending : Ending) → EndsIn parts place ending → CanEnd parts place
@@ -47,15 +48,23 @@ pub can_halt : (parts : Parts) (place : Place) → all_halted place ≡ true →
 can_halt parts place all = can_here parts place (Halts place.printed place.flat.memory) (all, refl, refl)
 
 -- what can end behind private turns can end before them
-can_held : (parts : Parts) (classes : List Class) (Among : Place → Type 0) → ((place : Place) → Among place → CanEnd parts place) → (place : Place) (context steps : ℕ) → PrivateTurns parts classes place context steps → Among (place_turns parts place context steps) → CanEnd parts place
+can_held : (parts : Parts) (classes : List Class) (Among : Place → Type 0) → ((place : Place) → Among place → CanEnd parts place) → (place : Place) (context steps : ℕ)
+    → PrivateTurns parts classes place context steps → Among (place_turns parts place context steps) → CanEnd parts place
 can_held parts classes Among can place context steps private among =
-    can_before parts place (place_turns parts place context steps) (replicate steps context) (private_run parts classes place context steps private) (turns_after parts place context steps) (can _ among)
+    can_before parts place (place_turns parts place context steps) (replicate steps context) (private_run parts classes place context steps private) (turns_after parts place context steps)
+    (can _ among)
 
 -- ---- where all places are marked
 
-pub all_can : (parts : Parts) (classes : List Class) (found : Found) (marks : List Bool) → IsReal parts found → IsClosed parts classes found → AreMarks parts found marks → length marks ≡ length found.places → ((k : ℕ) → k < length marks → slice_get marks k ≡ Some true) → CanAlwaysEnd parts
+pub all_can : (parts : Parts) (classes : List Class) (found : Found) (marks : List Bool) → IsReal parts found → IsClosed parts classes found → AreMarks parts found marks
+    → length marks ≡ length found.places → ((k : ℕ) → k < length marks → slice_get marks k ≡ Some true) → CanAlwaysEnd parts
 all_can parts classes found marks real closed are long all turns run =
-    can_be_had parts classes (place_start parts) (IsHeld parts classes (IsAmong found.places)) (IsFull parts classes found) (record { context = 0; steps = 0; private = tt; among = record { at = 0; there = real.start } })
+    can_be_had parts classes (place_start parts) (IsHeld parts classes (IsAmong found.places)) (IsFull parts classes found) (record {
+      context = 0;
+      steps = 0;
+      private = tt;
+      among = record { at = 0; there = real.start };
+    })
     (λ place held. held_next parts classes found closed.expanded place held.context held.steps held.private held.among) (λ place full. full.next)
     (CanEnd parts) (λ place held. can_held parts classes (IsAmong found.places) among_can place held.context held.steps held.private held.among)
     (λ place c private can. can_before parts place (place_turn parts place c) (c ∷ []) (private.goes.on, tt) refl can)
@@ -66,21 +75,27 @@ all_can parts classes found marks real closed are long all turns run =
 
 -- ---- where unmarked places lead to unmarked places alone
 
-held_stays : (parts : Parts) (classes : List Class) (Among : Place → Type 0) → ((place : Place) → Among place → IsStaying parts classes (IsHeld parts classes Among) place) → (place : Place) (context steps : ℕ) → PrivateTurns parts classes place context steps → Among (place_turns parts place context steps)
+held_stays : (parts : Parts) (classes : List Class) (Among : Place → Type 0) → ((place : Place) → Among place → IsStaying parts classes (IsHeld parts classes Among) place)
+    → (place : Place) (context steps : ℕ) → PrivateTurns parts classes place context steps → Among (place_turns parts place context steps)
     → IsStaying parts classes (IsHeld parts classes Among) place
 held_stays parts classes Among stays place context zero private among = stays place among
-held_stays parts classes Among stays place context (suc n) private among = inl (record { context = context; private = private.0; forward = private.1; next = record { context = context; steps = n; private = private.2; among = among } })
+held_stays parts classes Among stays place context (suc n) private among =
+    inl (record { context = context; private = private.0; forward = private.1; next = record { context = context; steps = n; private = private.2; among = among } })
 
-pub never : (parts : Parts) (classes : List Class) (Among : Place → Type 0) → ((place : Place) → Among place → IsStaying parts classes (IsHeld parts classes Among) place) → (place : Place) → Among place → CanEnd parts place → ⊥
+pub never : (parts : Parts) (classes : List Class) (Among : Place → Type 0) → ((place : Place) → Among place → IsStaying parts classes (IsHeld parts classes Among) place) → (place : Place)
+    → Among place → CanEnd parts place → ⊥
 never parts classes Among stays place among can =
     go (told_from parts classes place (IsHeld parts classes Among) (StaysAll parts classes (IsHeld parts classes Among)) (record { context = 0; steps = 0; private = tt; among = among })
     (λ p held. held_stays parts classes Among stays p held.context held.steps held.private held.among) (λ p all. all.next) can.ending can.turns can.run can.ends)
   where
-    go : IsToldBy parts (IsHeld parts classes Among) (StaysAll parts classes (IsHeld parts classes Among)) can.ending ⊎ IsBrokenBy parts classes (IsHeld parts classes Among) (StaysAll parts classes (IsHeld parts classes Among)) → ⊥
+    go : IsToldBy parts (IsHeld parts classes Among) (StaysAll parts classes (IsHeld parts classes Among)) can.ending
+        ⊎ IsBrokenBy parts classes (IsHeld parts classes Among) (StaysAll parts classes (IsHeld parts classes Among))
+        → ⊥
     go (inl told) = told.full.no_end can.ending told.ends
     go (inr broken) = broken.full.kept broken.context broken.breaks
 
-pub stuck_at : (parts : Parts) (classes : List Class) (found : Found) (marks : List Bool) (at : ℕ) → length marks ≡ length found.places → AreStaying parts classes found marks (length marks) → slice_get marks at ≡ Some false → IsStuckAt parts found at
+pub stuck_at : (parts : Parts) (classes : List Class) (found : Found) (marks : List Bool) (at : ℕ) → length marks ≡ length found.places → AreStaying parts classes found marks (length marks)
+    → slice_get marks at ≡ Some false → IsStuckAt parts found at
 stuck_at parts classes found marks at long stays unmarked =
     let m = some_member found.places at (let w = slice_get_within marks at false unmarked in omega (arith, w, long)) in
     record {
@@ -95,13 +110,19 @@ stuck_at parts classes found marks at long stays unmarked =
 
 module _ (parts : Parts) (classes : List Class) (found : Found) (marks : List Bool) (here : Place) (context : ℕ) where
   pub look_idle : is_ready (context_at here.flat context).status ≡ false → StaysAlong parts classes (HeldUnmarked parts classes found marks) here context
-  look_idle idle = record { next = λ goes. absurd (false≢true (sym idle ∙ goes.on.ready)); no_trap = λ pc type ends. absurd (false≢true (sym idle ∙ ends.0)); kept = λ breaks. absurd (false≢true (sym idle ∙ breaks.ready)) }
+  look_idle idle = record {
+    next = λ goes. absurd (false≢true (sym idle ∙ goes.on.ready));
+    no_trap = λ pc type ends. absurd (false≢true (sym idle ∙ ends.0));
+    kept = λ breaks. absurd (false≢true (sym idle ∙ breaks.ready));
+  }
 
   pub look_trap : (pc type : ℕ) → IsTrapOf parts classes context (thread_at here context) pc type → CanEnd parts here
   look_trap pc type is = can_here parts here (Traps context pc type) (is.ready, outcome_in parts here context ∙ is.trap, is.pc_is)
 
-  module _ (at target more : ℕ) (first mark : Bool) (pools : Pools) (to : Numbers) (real : IsReal parts found) (are : AreMarks parts found marks) (there : slice_get found.places at ≡ Some here) (exists : context < context_count parts)
-      (is : IsGoing parts classes context (thread_at here context) pools to more first) (row : slice_get found.places target ≡ Some (with_thread here context (thread_in pools to))) (marked : slice_get marks target ≡ Some mark) where
+  module _ (at target more : ℕ) (first mark : Bool) (pools : Pools) (to : Numbers) (real : IsReal parts found) (are : AreMarks parts found marks) (there : slice_get found.places at ≡ Some here)
+      (exists : context < context_count parts)
+      (is : IsGoing parts classes context (thread_at here context) pools to more first) (row : slice_get found.places target ≡ Some (with_thread here context (thread_in pools to)))
+      (marked : slice_get marks target ≡ Some mark) where
     sizes : HasSizes parts here
     sizes = sizes_found parts found real at here there
 
@@ -109,15 +130,23 @@ module _ (parts : Parts) (classes : List Class) (found : Found) (marks : List Bo
     there_is = turns_with parts here context (suc more) sizes exists ∙ ap (with_thread here context) (sym is.chain.end)
 
     privates : PrivateTurns parts classes (place_turn parts here context) context more
-    privates = privates_at parts classes context exists (place_turn parts here context) more (sizes_stay parts here context sizes) (subst (λ (t : Thread). ArePrivate parts classes context t more) (sym (thread_after parts here context sizes exists)) is.chain.private)
+    privates =
+        privates_at parts classes context exists (place_turn parts here context) more (sizes_stay parts here context sizes)
+        (subst (λ (t : Thread). ArePrivate parts classes context t more) (sym (thread_after parts here context sizes exists)) is.chain.private)
 
     target_can : mark ≡ true → CanEnd parts here
     target_can yes' =
-        can_before parts here (with_thread here context (thread_in pools to)) (context ∷ replicate more context) ((goes_at parts classes here context is.goes).on, private_run parts classes (place_turn parts here context) context more privates)
+        can_before parts here (with_thread here context (thread_in pools to)) (context ∷ replicate more context)
+        ((goes_at parts classes here context is.goes).on, private_run parts classes (place_turn parts here context) context more privates)
         (turns_after parts (place_turn parts here context) context more ∙ there_is) (are target _ (marked ∙ ap (λ (b : Bool). Some b) yes') row)
 
     held : mark ≡ false → HeldUnmarked parts classes found marks (place_turn parts here context)
-    held none = record { context = context; steps = more; private = privates; among = record { at = target; there = row ∙ ap (λ (p : Place). Some p) (sym there_is); unmarked = marked ∙ ap (λ (b : Bool). Some b) none } }
+    held none = record {
+      context = context;
+      steps = more;
+      private = privates;
+      among = record { at = target; there = row ∙ ap (λ (p : Place). Some p) (sym there_is); unmarked = marked ∙ ap (λ (b : Bool). Some b) none };
+    }
 
     along : mark ≡ false → StaysAlong parts classes (HeldUnmarked parts classes found marks) here context
     along none =
@@ -125,7 +154,10 @@ module _ (parts : Parts) (classes : List Class) (found : Found) (marks : List Bo
         record { next = λ _. held none; no_trap = λ pc type ends. absurd (false≢true (sym on.on.no_trap ∙ ap traps ends.1)); kept = λ breaks. absurd (false≢true (sym breaks.broken ∙ on.allowed)) }
 
     first_next : first ≡ true → mark ≡ false → HasPrivateNext parts classes (HeldUnmarked parts classes found marks) here
-    first_next yes' none = let private = is.first_is yes' in record { context = context; private = private_at parts classes context exists here private; forward = forward_at parts classes context exists here sizes private; next = held none }
+    first_next yes' none =
+        let private = is.first_is yes' in
+        let forward = forward_at parts classes context exists here sizes private in
+        record { context = context; private = private_at parts classes context exists here private; forward = forward; next = held none }
 
     pub look_going : LooksAlong parts classes found marks here context (look_of mark first)
     look_going = go mark first refl refl
@@ -140,7 +172,8 @@ module _ (parts : Parts) (classes : List Class) (found : Found) (marks : List Bo
 pub stays_none : (parts : Parts) (classes : List Class) (Held : Place → Type 0) (place : Place) (context : ℕ) → context < 0 → StaysAlong parts classes Held place context
 stays_none parts classes Held place context less = absurd (omega arith)
 
-pub looks_all : (parts : Parts) (classes : List Class) (found : Found) (Held : Place → Type 0) (at : ℕ) (place : Place) → IsReal parts found → slice_get found.places at ≡ Some place → all_halted place ≡ false → ((context : ℕ) → context < context_count parts → StaysAlong parts classes Held place context) → StaysAll parts classes Held place
+pub looks_all : (parts : Parts) (classes : List Class) (found : Found) (Held : Place → Type 0) (at : ℕ) (place : Place) → IsReal parts found → slice_get found.places at ≡ Some place
+    → all_halted place ≡ false → ((context : ℕ) → context < context_count parts → StaysAlong parts classes Held place context) → StaysAll parts classes Held place
 looks_all parts classes found Held at place real there none stays = record {
   next = λ context goes. (stays context (past_idle parts place context sizes goes.on.ready)).next goes;
   no_end = no_end;
@@ -181,11 +214,15 @@ module _ (parts : Parts) (before after : Explored) (keeps : KeepsFound parts bef
   pub closed_kept : IsClosed parts before.classes.items (found_in before) → IsClosed parts after.classes.items (found_in after)
   closed_kept closed = subst (λ (f : Found). IsClosed parts after.classes.items f) (sym keeps.same) (subst (λ (l : List Class). IsClosed parts l (found_in before)) (sym keeps.hint) closed)
 
-  pub along_back : (marks : List Bool) (at context : ℕ) (look : Look) → LooksAlongAt parts after.classes.items (found_in after) marks at context look → LooksAlongAt parts before.classes.items (found_in before) marks at context look
-  along_back marks at context look is = subst (λ (f : Found). LooksAlongAt parts before.classes.items f marks at context look) keeps.same (subst (λ (l : List Class). LooksAlongAt parts l (found_in after) marks at context look) keeps.hint is)
+  pub along_back : (marks : List Bool) (at context : ℕ) (look : Look) → LooksAlongAt parts after.classes.items (found_in after) marks at context look
+      → LooksAlongAt parts before.classes.items (found_in before) marks at context look
+  along_back marks at context look is =
+      subst (λ (f : Found). LooksAlongAt parts before.classes.items f marks at context look) keeps.same
+      (subst (λ (l : List Class). LooksAlongAt parts l (found_in after) marks at context look) keeps.hint is)
 
   pub staying_back : (marks : List Bool) (at : ℕ) → IsStayingAt parts after.classes.items (found_in after) marks at → IsStayingAt parts before.classes.items (found_in before) marks at
-  staying_back marks at is = subst (λ (f : Found). IsStayingAt parts before.classes.items f marks at) keeps.same (subst (λ (l : List Class). IsStayingAt parts l (found_in after) marks at) keeps.hint is)
+  staying_back marks at is =
+      subst (λ (f : Found). IsStayingAt parts before.classes.items f marks at) keeps.same (subst (λ (l : List Class). IsStayingAt parts l (found_in after) marks at) keeps.hint is)
 
   pub told_back : (stuck : Stuck) → TellsStuck parts (found_in after) stuck → TellsStuck parts (found_in before) stuck
   told_back stuck is = subst (λ (f : Found). TellsStuck parts f stuck) keeps.same is
@@ -207,7 +244,9 @@ module _ (parts : Parts) (classes : List Class) (found : Found) (marks : List Bo
   either_false false b e = (refl, e)
   either_false true b e = absurd (cc)
 
-  pub along_more : (past : ℕ) (open' more : Bool) (look : Look) → more ≡ (open' || is_open look) → tells look ≡ false → LooksAlongAt parts classes found marks at past look → (open' ≡ false → (context : ℕ) → context < past → StaysAlongAt parts classes found marks at context) → more ≡ false → (context : ℕ) → context < past + 1 → StaysAlongAt parts classes found marks at context
+  pub along_more : (past : ℕ) (open' more : Bool) (look : Look) → more ≡ (open' || is_open look) → tells look ≡ false → LooksAlongAt parts classes found marks at past look
+      → (open' ≡ false → (context : ℕ) → context < past → StaysAlongAt parts classes found marks at context) → more ≡ false → (context : ℕ) → context < past + 1
+      → StaysAlongAt parts classes found marks at context
   along_more past open' more look is untold here before none context less = go (cases_lt context past)
     where
       both : (open' ≡ false) × (is_open look ≡ false)
@@ -241,7 +280,8 @@ module _ (parts : Parts) (classes : List Class) (found : Found) (marks : List Bo
       go (inl old) = are k place old there
       go (inr same) = is place (ap (slice_get found.places) same ∙ there)
 
-  pub marked_so : (look : Look) (after : List Bool) → ends look ≡ true → LooksAt parts classes found marks at look → after ≡ slice_set marks at true → AreMarks parts found marks → AreMarks parts found after
+  pub marked_so : (look : Look) (after : List Bool) → ends look ≡ true → LooksAt parts classes found marks at look → after ≡ slice_set marks at true → AreMarks parts found marks
+      → AreMarks parts found after
   marked_so Alone after e is set are = absurd (cc)
   marked_so Stays after e is set are = absurd (cc)
   marked_so Open after e is set are = absurd (cc)
@@ -270,22 +310,28 @@ target_within e target place there = let w = slice_get_within (places_in e) targ
 pub place_is : (e : Explored) (at : ℕ) (place : Place) → at < length e.memories.items → slice_get (places_in e) at ≡ Some place → place_in e at ≡ place
 place_is e at place within there = same_member (places_in e) at (place_in e at) place (number_place e at within) there
 
-module _ (parts : Parts) (one two : Explored) (marks : List Bool) (at context : ℕ) (same : found_in two ≡ found_in one) (hint : two.classes.items ≡ one.classes.items) (within : at < length two.memories.items) where
+module _ (parts : Parts) (one two : Explored) (marks : List Bool) (at context : ℕ) (same : found_in two ≡ found_in one) (hint : two.classes.items ≡ one.classes.items)
+    (within : at < length two.memories.items) where
   here_is : (place : Place) → slice_get (places_in one) at ≡ Some place → place_in two at ≡ place
   here_is place there = place_is two at place within (ap (λ (f : Found). slice_get f.places at) same ∙ there)
 
   pub idle_along : is_ready (thread_at (place_in two at) context).context.status ≡ false → LooksAlongAt parts one.classes.items (found_in one) marks at context Stays
-  idle_along idle place there = look_idle parts one.classes.items (found_in one) marks place context (ap (λ (p : Place). is_ready (context_at p.flat context).status) (sym (here_is place there)) ∙ idle)
+  idle_along idle place there =
+      look_idle parts one.classes.items (found_in one) marks place context (ap (λ (p : Place). is_ready (context_at p.flat context).status) (sym (here_is place there)) ∙ idle)
 
   pub trap_along : (pc type : ℕ) → IsTrapOf parts two.classes.items context (thread_at (place_in two at) context) pc type → LooksAlongAt parts one.classes.items (found_in one) marks at context Ends
   trap_along pc type is place there =
       look_trap parts one.classes.items (found_in one) marks place context pc type
-      (subst (λ (p : Place). IsTrapOf parts one.classes.items context (thread_at p context) pc type) (here_is place there) (subst (λ (l : List Class). IsTrapOf parts l context (thread_at (place_in two at) context) pc type) hint is))
+      (subst (λ (p : Place). IsTrapOf parts one.classes.items context (thread_at p context) pc type) (here_is place there)
+      (subst (λ (l : List Class). IsTrapOf parts l context (thread_at (place_in two at) context) pc type) hint is))
 
-  pub goes_along : (to : Numbers) (more target : ℕ) (first mark : Bool) → IsReal parts (found_in one) → AreMarks parts (found_in one) marks → context < context_count parts → IsGoing parts two.classes.items context (thread_at (place_in two at) context) two.pools to more first
-      → slice_get (places_in two) target ≡ Some (with_thread (place_in two at) context (thread_in two.pools to)) → slice_get marks target ≡ Some mark → LooksAlongAt parts one.classes.items (found_in one) marks at context (look_of mark first)
+  pub goes_along : (to : Numbers) (more target : ℕ) (first mark : Bool) → IsReal parts (found_in one) → AreMarks parts (found_in one) marks → context < context_count parts
+      → IsGoing parts two.classes.items context (thread_at (place_in two at) context) two.pools to more first
+      → slice_get (places_in two) target ≡ Some (with_thread (place_in two at) context (thread_in two.pools to)) → slice_get marks target ≡ Some mark
+      → LooksAlongAt parts one.classes.items (found_in one) marks at context (look_of mark first)
   goes_along to more target first mark real are exists is row marked place there =
       look_going parts one.classes.items (found_in one) marks place context at target more first mark two.pools to real are there exists
-      (subst (λ (p : Place). IsGoing parts one.classes.items context (thread_at p context) two.pools to more first) (here_is place there) (subst (λ (l : List Class). IsGoing parts l context (thread_at (place_in two at) context) two.pools to more first) hint is))
+      (subst (λ (p : Place). IsGoing parts one.classes.items context (thread_at p context) two.pools to more first) (here_is place there)
+      (subst (λ (l : List Class). IsGoing parts l context (thread_at (place_in two at) context) two.pools to more first) hint is))
       (ap (λ (f : Found). slice_get f.places target) (sym same) ∙ row ∙ ap (λ (p : Place). Some (with_thread p context (thread_in two.pools to))) (here_is place there))
       marked

@@ -25,13 +25,16 @@ module _ (parts : Parts) (classes : List Class) (before after : Pools) (are : Ar
   known_grows : (known : Known) → IsLeadOf parts classes before known → IsLeadOf parts classes after known
   known_grows known is = record {
     inside = inside_grows before after known.at grow is.inside;
-    lead = subst (λ (t : Thread). IsLead parts classes known.context t after known.lead) (sym (thread_grows parts before after known.at are grow is.inside)) (lead_grows known.context (thread_in before known.at) known.lead is.lead);
+    lead =
+        subst (λ (t : Thread). IsLead parts classes known.context t after known.lead) (sym (thread_grows parts before after known.at are grow is.inside))
+        (lead_grows known.context (thread_in before known.at) known.lead is.lead);
   }
 
   pub leads_grow : (slots : List (Option Known)) → AreLeads parts classes before slots → AreLeads parts classes after slots
   leads_grow slots each known there = known_grows known (each known there)
 
-pub lead_noted : (parts : Parts) (classes : List Class) (pools : Pools) (before after : List (Option Known)) (one : Known) → AreLeads parts classes pools before → IsLeadOf parts classes pools one → NotesOne before after one → AreLeads parts classes pools after
+pub lead_noted : (parts : Parts) (classes : List Class) (pools : Pools) (before after : List (Option Known)) (one : Known) → AreLeads parts classes pools before → IsLeadOf parts classes pools one
+    → NotesOne before after one → AreLeads parts classes pools after
 lead_noted parts classes pools before after one each is noted known there = go (noted known there)
   where
     go : IsKnown before known ⊎ (one ≡ known) → IsLeadOf parts classes pools known

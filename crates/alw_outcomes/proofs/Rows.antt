@@ -20,7 +20,8 @@ pub rows_length : (width : ℕ) (memories rows : List ℕ) → length (rows_of w
 unfolding rows_of
 rows_length width memories rows = length-map-range_with_len (row_by width memories rows) 0 (length memories)
 
-pub row_get : (width : ℕ) (memories rows : List ℕ) (k : ℕ) → k < length memories → slice_get (rows_of width memories rows) k ≡ Some (record { memory = slice_index_or memories k 0; contexts = take width (drop (k * width) rows) })
+pub row_get : (width : ℕ) (memories rows : List ℕ) (k : ℕ) → k < length memories
+    → slice_get (rows_of width memories rows) k ≡ Some (record { memory = slice_index_or memories k 0; contexts = take width (drop (k * width) rows) })
 unfolding rows_of
 row_get width memories rows k within =
     let n = length memories in
@@ -46,7 +47,8 @@ there_is e at memory row there =
     }
 
 -- a row that was compared and is another one
-pub other_row : (e : Explored) (at memory : ℕ) (row : List ℕ) (told : Bool) → (IsRow e at memory row → IsTrue told) → told ≡ false → slice_get (rows_in e) at ≡ Some (record { memory = memory; contexts = row }) → ⊥
+pub other_row : (e : Explored) (at memory : ℕ) (row : List ℕ) (told : Bool) → (IsRow e at memory row → IsTrue told) → told ≡ false
+    → slice_get (rows_in e) at ≡ Some (record { memory = memory; contexts = row }) → ⊥
 other_row e at memory row told exact no' there = false≢true (sym no' ∙ exact (there_is e at memory row there))
 
 -- ---- one row more
@@ -57,7 +59,8 @@ rows_map f g (suc n) same =
     let one : suc n ≡ n + 1 = omega arith in
     let rest = rows_map f g n (λ k less. same k (omega arith)) in
     let last = same n (omega arith) in
-    ap (λ (m : ℕ). map f (range_with_len 0 m)) one ∙ map-range_with_len_more f 0 n n (omega arith) ∙ (λ i. rest i ++ last i ∷ []) ∙ sym (map-range_with_len_more g 0 n n (omega arith)) ∙ ap (λ (m : ℕ). map g (range_with_len 0 m)) (sym one)
+    ap (λ (m : ℕ). map f (range_with_len 0 m)) one ∙ map-range_with_len_more f 0 n n (omega arith) ∙ (λ i. rest i ++ last i ∷ []) ∙ sym (map-range_with_len_more g 0 n n (omega arith))
+    ∙ ap (λ (m : ℕ). map g (range_with_len 0 m)) (sym one)
 
 get_end : (xs : List ℕ) (x : ℕ) → slice_get (xs ++ x ∷ []) (length xs) ≡ Some x
 get_end [] x = refl
@@ -100,14 +103,17 @@ rows_same rows rows' digests digests' same same' indexed = subst (λ (l : List R
 
 -- the rows are apart still once another one was put behind them
 pub rows_apart : (before : Explored) (width memory : ℕ) (memories rows row digests : List ℕ) → width ≡ before.width → memories ≡ before.memories.items ++ memory ∷ [] → rows ≡ before.rows.items ++ row
-    → length before.rows.items ≡ length before.memories.items * before.width → length row ≡ before.width → digests ≡ before.by_row ++ row_digest memory row ∷ [] → ((at : ℕ) → IsRow before at memory row → ⊥)
+    → length before.rows.items ≡ length before.memories.items * before.width → length row ≡ before.width → digests ≡ before.by_row ++ row_digest memory row ∷ []
+    → ((at : ℕ) → IsRow before at memory row → ⊥)
     → IsIndexed digest_in (rows_in before) before.by_row → IsIndexed digest_in (rows_of width memories rows) digests
 rows_apart before width memory memories rows row digests width_is memories_is rows_is sizes long digests_is new indexed =
-    index_more digest_in (rows_in before) (rows_of width memories rows) before.by_row digests (record { memory = memory; contexts = row }) indexed (λ k there. new k (there_is before k memory row there))
+    index_more digest_in (rows_in before) (rows_of width memories rows) before.by_row digests (record { memory = memory; contexts = row }) indexed
+    (λ k there. new k (there_is before k memory row there))
     ((λ i. rows_of (width_is i) (memories_is i) (rows_is i)) ∙ rows_more before.width before.memories.items before.rows.items memory row sizes long) digests_is
 
 -- one row alone
-pub row_alone : (width memory : ℕ) (memories row digests : List ℕ) → memories ≡ memory ∷ [] → length row ≡ width → digests ≡ row_digest memory row ∷ [] → IsIndexed digest_in (rows_of width memories row) digests
+pub row_alone : (width memory : ℕ) (memories row digests : List ℕ) → memories ≡ memory ∷ [] → length row ≡ width → digests ≡ row_digest memory row ∷ []
+    → IsIndexed digest_in (rows_of width memories row) digests
 unfolding rows_of
 row_alone width memory memories row digests memories_is long digests_is =
     index_more digest_in [] (rows_of width memories row) [] digests (record { memory = memory; contexts = row }) (index_none digest_in [] [] refl refl) (λ k there. no_row k there)
@@ -117,10 +123,12 @@ row_alone width memory memories row digests memories_is long digests_is =
     no_row k e = cc
 
 -- the digest that was put behind the others is that of a row
-pub row_put : (before after : List ℕ) (digest memory : ℕ) (row row' : List ℕ) → after ≡ before ++ digest ∷ [] → digest ≡ row_digest memory row → row ≡ row' → after ≡ before ++ row_digest memory row' ∷ []
+pub row_put : (before after : List ℕ) (digest memory : ℕ) (row row' : List ℕ) → after ≡ before ++ digest ∷ [] → digest ≡ row_digest memory row → row ≡ row'
+    → after ≡ before ++ row_digest memory row' ∷ []
 row_put before after digest memory row row' put is same = put ∙ ap (λ (d : ℕ). before ++ d ∷ []) (is ∙ ap (row_digest memory) same)
 
-pub row_put_first : (before after : List ℕ) (digest memory : ℕ) (row row' : List ℕ) → before ≡ [] → after ≡ before ++ digest ∷ [] → digest ≡ row_digest memory row → row ≡ row' → after ≡ row_digest memory row' ∷ []
+pub row_put_first : (before after : List ℕ) (digest memory : ℕ) (row row' : List ℕ) → before ≡ [] → after ≡ before ++ digest ∷ [] → digest ≡ row_digest memory row → row ≡ row'
+    → after ≡ row_digest memory row' ∷ []
 row_put_first before after digest memory row row' none put is same = row_put before after digest memory row row' put is same ∙ ap (λ (l : List ℕ). l ++ row_digest memory row' ∷ []) none
 
 -- there is a digest for each place

@@ -67,7 +67,11 @@ up_by one two rest Less e not_less = absurd (false≢true (sym not_less))
 up_by one two rest Equal e not_less = inr (sym (slice_cmp-IsAntisymmetric nat_cmp-IsAntisymmetric two one e))
 up_by one two rest Greater e not_less = inl (nat_list_cmp_total.antisymm one two ∙ ap ordering_reverse e)
 
-pub rising : (sorted : List Keyed) → ((k : ℕ) (d : Keyed) → 0 ≤ k → k + 1 < length sorted → is_lt (ordering_then (list_cmp (slice_index_or sorted (k + 1) d).key.items (slice_index_or sorted k d).key.items) (nat_cmp (slice_index_or sorted (k + 1) d).number (slice_index_or sorted k d).number)) ≡ false) → IsRising sorted
+pub rising : (sorted : List Keyed)
+    →
+    ((k : ℕ) (d : Keyed) → 0 ≤ k → k + 1 < length sorted → is_lt (ordering_then (list_cmp (slice_index_or sorted (k + 1) d).key.items (slice_index_or sorted k d).key.items)
+    (nat_cmp (slice_index_or sorted (k + 1) d).number (slice_index_or sorted k d).number)) ≡ false)
+    → IsRising sorted
 rising sorted is k one two e f =
     let next : suc k ≡ k + 1 = omega arith in
     let here = get_or_from_slice_get sorted k one one e in
@@ -86,7 +90,8 @@ way_none key sorted kept empty = subst (IsUnderWay key sorted 0) (sym empty) (re
   last = λ k one e there. absurd (omega (arith, e));
 })
 
-module _ (key : ℕ → List ℕ) (sorted : List Keyed) (past : ℕ) (kept : List ℕ) (one : Keyed) (keyed : AreKeyed key sorted) (rises : IsRising sorted) (is : IsUnderWay key sorted past kept) (here : slice_get sorted past ≡ Some one) where
+module _ (key : ℕ → List ℕ) (sorted : List Keyed) (past : ℕ) (kept : List ℕ) (one : Keyed) (keyed : AreKeyed key sorted) (rises : IsRising sorted) (is : IsUnderWay key sorted past kept)
+    (here : slice_get sorted past ≡ Some one) where
   key_is : (k : ℕ) (x : Keyed) → slice_get sorted k ≡ Some x → x.key.items ≡ key x.number
   key_is k x e = keyed x (contains_get sorted k x e)
 
@@ -108,7 +113,9 @@ module _ (key : ℕ → List ℕ) (sorted : List Keyed) (past : ℕ) (kept : Lis
   below_last k before next e other = go (rises k before one e (ap (slice_get sorted) (sym next) ∙ here))
     where
       go : (list_cmp before.key.items one.key.items ≡ Less) ⊎ (before.key.items ≡ one.key.items) → Below
-      go (inl less) = below_all list_cmp nat_list_cmp_total (map key kept) (key before.number) (key one.number) (is.last k before next e) ((λ i. list_cmp (sym (key_is k before e) i) (sym (key_is past one here) i)) ∙ less)
+      go (inl less) =
+          below_all list_cmp nat_list_cmp_total (map key kept) (key before.number) (key one.number) (is.last k before next e)
+          ((λ i. list_cmp (sym (key_is k before e) i) (sym (key_is past one here) i)) ∙ less)
       go (inr same) = absurd (other same)
 
   at_past : (k : ℕ) (x : Keyed) → k < past + 1 → (k < past → Contains (map key kept) (key x.number)) → (k ≡ past → Contains (map key kept) (key x.number)) → Contains (map key kept) (key x.number)
@@ -123,10 +130,14 @@ module _ (key : ℕ → List ℕ) (sorted : List Keyed) (past : ℕ) (kept : Lis
       let keys : key before.number ≡ key one.number = sym (key_is k before e) ∙ same ∙ key_is past one here in
       record {
         within = is.within;
-        every = λ j x less f. at_past j x less (λ l. is.every j x l f) (λ last. subst (Contains (map key kept)) (keys ∙ ap (λ (y : Keyed). key y.number) (same_one x j last f)) (is.every k before (omega arith) e));
+        every =
+            λ j x less f. at_past j x less (λ l. is.every j x l f) (λ last. subst (Contains (map key kept)) (keys ∙ ap (λ (y : Keyed). key y.number) (same_one x j last f))
+            (is.every k before (omega arith) e));
         ascending = is.ascending;
         none = λ zero_is. absurd (omega (arith, zero_is));
-        last = λ j x is_suc f. subst (λ (n : List ℕ). AllByRecursion (λ y. IsUpTo y n) (map key kept)) (keys ∙ ap (λ (y : Keyed). key y.number) (same_one x j (omega (arith, is_suc)) f)) (is.last k before next e);
+        last =
+            λ j x is_suc f. subst (λ (n : List ℕ). AllByRecursion (λ y. IsUpTo y n) (map key kept)) (keys ∙ ap (λ (y : Keyed). key y.number) (same_one x j (omega (arith, is_suc)) f))
+            (is.last k before next e);
       }
 
   way_push : Below → IsUnderWay key sorted (past + 1) (kept ++ one.number ∷ [])
@@ -150,7 +161,8 @@ module _ (key : ℕ → List ℕ) (sorted : List Keyed) (past : ℕ) (kept : Lis
 
       there : (j : ℕ) (x : Keyed) → j < past + 1 → slice_get sorted j ≡ Some x → (j < past) ⊎ (past ≤ j) → Contains (map key kept ++ key one.number ∷ []) (key x.number)
       there j x less f (inl earlier) = Contains-append_left (map key kept) (key one.number ∷ []) (key x.number) (is.every j x earlier f)
-      there j x less f (inr late) = subst (Contains (map key kept ++ key one.number ∷ [])) (ap (λ (y : Keyed). key y.number) (same_one x j (omega arith) f)) (Contains-push (map key kept) (key one.number))
+      there j x less f (inr late) =
+          subst (Contains (map key kept ++ key one.number ∷ [])) (ap (λ (y : Keyed). key y.number) (same_one x j (omega arith) f)) (Contains-push (map key kept) (key one.number))
 
   pub way_first : past ≡ 0 → IsUnderWay key sorted (past + 1) (kept ++ one.number ∷ [])
   way_first first = way_push (below_none first)
@@ -173,18 +185,21 @@ module _ (key : ℕ → List ℕ) (sorted : List Keyed) (past : ℕ) (kept : Lis
       go (suc k) e = let b = some_member sorted k (let w = slice_get_within sorted past one here in omega (arith, w, e)) in way_same k b.0 e b.1 (again.1 k b.0 one e b.1 here)
 
 -- the same, as code reads the list
-pub way_kept : (key : ℕ → List ℕ) (sorted : List Keyed) (past : ℕ) (kept after : List ℕ) (one : Keyed) → AreKeyed key sorted → IsRising sorted → IsUnderWay key sorted past kept → past < length sorted → one ≡ slice_index_or sorted past one → IsNew sorted past true → after ≡ kept ++ one.number ∷ [] → IsUnderWay key sorted (past + 1) after
+pub way_kept : (key : ℕ → List ℕ) (sorted : List Keyed) (past : ℕ) (kept after : List ℕ) (one : Keyed) → AreKeyed key sorted → IsRising sorted → IsUnderWay key sorted past kept → past < length sorted
+    → one ≡ slice_index_or sorted past one → IsNew sorted past true → after ≡ kept ++ one.number ∷ [] → IsUnderWay key sorted (past + 1) after
 way_kept key sorted past kept after one keyed rises is less read new pushed =
     subst (IsUnderWay key sorted (past + 1)) (sym pushed) (way_new key sorted past kept one keyed rises is (get_read sorted past one less read) new)
 
-pub way_left : (key : ℕ → List ℕ) (sorted : List Keyed) (past : ℕ) (kept : List ℕ) → AreKeyed key sorted → IsRising sorted → IsUnderWay key sorted past kept → past < length sorted → IsNew sorted past false → IsUnderWay key sorted (past + 1) kept
+pub way_left : (key : ℕ → List ℕ) (sorted : List Keyed) (past : ℕ) (kept : List ℕ) → AreKeyed key sorted → IsRising sorted → IsUnderWay key sorted past kept → past < length sorted
+    → IsNew sorted past false → IsUnderWay key sorted (past + 1) kept
 way_left key sorted past kept keyed rises is less again = let m = some_member sorted past less in way_again key sorted past kept m.0 keyed rises is m.1 again
 
 pub keyed_sorted : (key : ℕ → List ℕ) (all sorted : List Keyed) → IsPermutation all sorted → AreKeyed key all → AreKeyed key sorted
 keyed_sorted key all sorted moved keyed one has = keyed one (Contains-permutation sorted all one (IsPermutation-sym all sorted moved) has)
 
 -- at the end of the list
-pub way_all : (key : ℕ → List ℕ) (all sorted : List Keyed) (past : ℕ) (kept : List ℕ) → IsPermutation all sorted → length sorted ≤ past → AreKeyed key all → IsUnderWay key sorted past kept → AreOneOfEach key (numbers_of all) kept
+pub way_all : (key : ℕ → List ℕ) (all sorted : List Keyed) (past : ℕ) (kept : List ℕ) → IsPermutation all sorted → length sorted ≤ past → AreKeyed key all → IsUnderWay key sorted past kept
+    → AreOneOfEach key (numbers_of all) kept
 way_all key all sorted past kept moved long keyed is = record {
   within = λ n has.
       let from = from_map (λ (x : Keyed). x.number) sorted n (is.within n has) in
@@ -212,7 +227,8 @@ pub numbers_more : (keyed after : List Keyed) (one : Keyed) → after ≡ keyed 
 numbers_more keyed after one pushed = ap numbers_of pushed ∙ map-append (λ (x : Keyed). x.number) keyed (one ∷ [])
 
 -- a comparison of two keys says whether the second is new
-pub new_by : (keyed : List Keyed) (i : ℕ) (before here : Keyed) (r : Bool) → (i ≡ 0 → ⊥) → i < length keyed → before ≡ slice_index_or keyed (i - 1) before → here ≡ slice_index_or keyed i here → r ≡ not (pointwise nat_eq before.key.items here.key.items) → IsNew keyed i r
+pub new_by : (keyed : List Keyed) (i : ℕ) (before here : Keyed) (r : Bool) → (i ≡ 0 → ⊥) → i < length keyed → before ≡ slice_index_or keyed (i - 1) before → here ≡ slice_index_or keyed i here
+    → r ≡ not (pointwise nat_eq before.key.items here.key.items) → IsNew keyed i r
 new_by keyed i before here r some less read read' is = go (pointwise nat_eq before.key.items here.key.items) refl
   where
     there : slice_get keyed (i - 1) ≡ Some before
@@ -231,8 +247,12 @@ new_by keyed i before here r some less read read' is = go (pointwise nat_eq befo
     second two f = some_same here two (sym there' ∙ f)
 
     go : (b : Bool) → pointwise nat_eq before.key.items here.key.items ≡ b → IsNew keyed i r
-    go true e = subst (IsNew keyed i) (sym (is ∙ ap not e)) (positive, λ k one two next f g. (λ j. (sym (first k one next f) j).key.items) ∙ (bytes_decides before.key.items here.key.items).0 e ∙ (λ j. (second two g j).key.items))
+    go true e =
+        subst (IsNew keyed i) (sym (is ∙ ap not e))
+        (positive, λ k one two next f g. (λ j. (sym (first k one next f) j).key.items) ∙ (bytes_decides before.key.items here.key.items).0 e ∙ (λ j. (second two g j).key.items))
       where
         positive : 0 < i
         positive = omega arith
-    go false e = subst (IsNew keyed i) (sym (is ∙ ap not e)) (λ k one two next f g same. false≢true (sym e ∙ (bytes_decides before.key.items here.key.items).1 ((λ j. (first k one next f j).key.items) ∙ same ∙ (λ j. (sym (second two g) j).key.items))))
+    go false e =
+        subst (IsNew keyed i) (sym (is ∙ ap not e))
+        (λ k one two next f g same. false≢true (sym e ∙ (bytes_decides before.key.items here.key.items).1 ((λ j. (first k one next f j).key.items) ∙ same ∙ (λ j. (sym (second two g) j).key.items))))

@@ -15,7 +15,8 @@ pub read_none : (links : List Link) (whole : ℕ) (words : List ℕ) → whole <
 read_none links whole words within empty =
     record { within = within; is = ap (λ (l : List ℕ). slice_index_or (lists_of links) whole [] ++ reverse l) empty ∙ append-nil (slice_index_or (lists_of links) whole []) }
 
-pub read_more : (links : List Link) (whole rest at : ℕ) (link : Link) (words after : List ℕ) → ((k : ℕ) (l : Link) → slice_get links k ≡ Some l → l.before < suc k) → slice_get links at ≡ Some link → rest ≡ at + 1 → at < length links → after ≡ words ++ link.word ∷ [] → IsReadTo links whole rest words → IsReadTo links whole link.before after
+pub read_more : (links : List Link) (whole rest at : ℕ) (link : Link) (words after : List ℕ) → ((k : ℕ) (l : Link) → slice_get links k ≡ Some l → l.before < suc k) → slice_get links at ≡ Some link
+    → rest ≡ at + 1 → at < length links → after ≡ words ++ link.word ∷ [] → IsReadTo links whole rest words → IsReadTo links whole link.before after
 read_more links whole rest at link words after back there next less pushed is = record {
   within = let b = back at link there in omega arith;
   is =

@@ -104,7 +104,8 @@ map_range f g (suc n) same =
     let one : suc n ≡ n + 1 = omega arith in
     let rest = map_range f g n (λ k less. same k (omega arith)) in
     let last = same n (omega arith) in
-    ap (λ (m : ℕ). map f (range_with_len 0 m)) one ∙ map-range_with_len_more f 0 n n (omega arith) ∙ (λ i. rest i ++ last i ∷ []) ∙ sym (map-range_with_len_more g 0 n n (omega arith)) ∙ ap (λ (m : ℕ). map g (range_with_len 0 m)) (sym one)
+    ap (λ (m : ℕ). map f (range_with_len 0 m)) one ∙ map-range_with_len_more f 0 n n (omega arith) ∙ (λ i. rest i ++ last i ∷ []) ∙ sym (map-range_with_len_more g 0 n n (omega arith))
+    ∙ ap (λ (m : ℕ). map g (range_with_len 0 m)) (sym one)
 
 -- the pools have grown, leads may be others, and all else is as it was
 pub record IsGrown (parts : Parts) (before after : Explored) : Type 0 where
@@ -159,12 +160,14 @@ unfolding place_of
 printed_length parts e at stored within = length-map (row_in e at) (words_in e.pools) ∙ row_length parts e at stored within
 
 -- the memory at a place, as code reads it
-pub memory_read : (parts : Parts) (e : Explored) (at : ℕ) (memory : List Line) → IsStored parts e → at < length e.memories.items → memory ≡ slice_index_or e.pools.memories.items (slice_index_or e.memories.items at 0) memory → memory ≡ (place_in e at).flat.memory
+pub memory_read : (parts : Parts) (e : Explored) (at : ℕ) (memory : List Line) → IsStored parts e → at < length e.memories.items
+    → memory ≡ slice_index_or e.pools.memories.items (slice_index_or e.memories.items at 0) memory → memory ≡ (place_in e at).flat.memory
 unfolding place_of
 memory_read parts e at memory stored within read = sym (at_place e.pools.memories.items (slice_index_or e.memories.items at 0) [] memory (memory_inside parts e at stored within) read)
 
 -- the thread of a context at a place
-pub thread_read : (parts : Parts) (e : Explored) (at context seat : ℕ) (memory : ℕ) → IsStored parts e → at < length e.memories.items → context < context_count parts → memory ≡ slice_index_or e.memories.items at 0 → seat ≡ slice_index_or (row_in e at) context 0
+pub thread_read : (parts : Parts) (e : Explored) (at context seat : ℕ) (memory : ℕ) → IsStored parts e → at < length e.memories.items → context < context_count parts
+    → memory ≡ slice_index_or e.memories.items at 0 → seat ≡ slice_index_or (row_in e at) context 0
     → thread_in e.pools (record { memory = memory; seat = seat }) ≡ thread_at (place_in e at) context
 unfolding thread_in place_of
 thread_read parts e at context seat memory stored within exists memory_is seat_is =
@@ -172,15 +175,22 @@ thread_read parts e at context seat memory stored within exists memory_is seat_i
     let empty : List ℕ = [] in
     let long = row_length parts e at stored within in
     let less : context < length (row_in e at) = omega (arith, long) in
-    let here : slice_index_or (map (context_in e.pools) (row_in e at)) context none ≡ context_in e.pools (slice_index_or (row_in e at) context 0) = get_or-map (context_in e.pools) (row_in e at) context 0 none less in
-    let words : slice_index_or (map (words_in e.pools) (row_in e at)) context empty ≡ words_in e.pools (slice_index_or (row_in e at) context 0) = get_or-map (words_in e.pools) (row_in e at) context 0 empty less in
+    let here : slice_index_or (map (context_in e.pools) (row_in e at)) context none ≡ context_in e.pools (slice_index_or (row_in e at) context 0) =
+    get_or-map (context_in e.pools) (row_in e at) context 0 none less in
+    let words : slice_index_or (map (words_in e.pools) (row_in e at)) context empty ≡ words_in e.pools (slice_index_or (row_in e at) context 0) =
+    get_or-map (words_in e.pools) (row_in e at) context 0 empty less in
     λ i. record { memory = memory_in e.pools (memory_is i); context = (ap (context_in e.pools) seat_is ∙ sym here) i; printed = (ap (words_in e.pools) seat_is ∙ sym words) i }
 
-pub numbers_inside : (parts : Parts) (e : Explored) (at context seat memory : ℕ) → IsStored parts e → at < length e.memories.items → context < context_count parts → memory ≡ slice_index_or e.memories.items at 0 → seat ≡ slice_index_or (row_in e at) context 0
+pub numbers_inside : (parts : Parts) (e : Explored) (at context seat memory : ℕ) → IsStored parts e → at < length e.memories.items → context < context_count parts
+    → memory ≡ slice_index_or e.memories.items at 0 → seat ≡ slice_index_or (row_in e at) context 0
     → AreIn e.pools (record { memory = memory; seat = seat })
 numbers_inside parts e at context seat memory stored within exists memory_is seat_is = record {
   memory = let m = memory_inside parts e at stored within in omega (arith, m, memory_is);
-  seat = let long = row_length parts e at stored within in let r = row_inside parts e at stored within context (slice_index_or (row_in e at) context 0) (slice_get-get_or (row_in e at) context 0 (omega (arith, long))) in omega (arith, r, seat_is);
+  seat =
+      let long = row_length parts e at stored within in
+      let there = slice_get-get_or (row_in e at) context 0 (omega (arith, long)) in
+      let r = row_inside parts e at stored within context (slice_index_or (row_in e at) context 0) there in
+      omega (arith, r, seat_is);
 }
 
 -- ---- one place more
@@ -200,13 +210,15 @@ module _ (parts : Parts) (before : Explored) (at context : ℕ) (to : Numbers) (
       let words = map-set (words_in before.pools) (row_in before at) context to.seat in
       λ i. record { flat = record { memory = memory_in before.pools to.memory; contexts = contexts i }; printed = words i }
 
-  pub row_there : (k : ℕ) → IsRow before k to.memory (slice_set (row_in before at) context to.seat) → slice_get (places_in before) k ≡ Some (with_thread (place_in before at) context (thread_in before.pools to))
+  pub row_there : (k : ℕ) → IsRow before k to.memory (slice_set (row_in before at) context to.seat)
+      → slice_get (places_in before) k ≡ Some (with_thread (place_in before at) context (thread_in before.pools to))
   row_there k is =
       number_place before k is.exists
       ∙ (λ i. Some (place_of before.pools (get_or_from_slice_get before.memories.items k to.memory 0 is.memory_is i) (is.row_is i)))
       ∙ ap (λ (p : Place). Some p) target
 
-  pub rows_there : (number : Option ℕ) (row : List ℕ) → row ≡ slice_set (row_in before at) context to.seat → IfSome number (λ k. IsRow before k to.memory row) → IfSome number (λ k. slice_get (places_in before) k ≡ Some (with_thread (place_in before at) context (thread_in before.pools to)))
+  pub rows_there : (number : Option ℕ) (row : List ℕ) → row ≡ slice_set (row_in before at) context to.seat → IfSome number (λ k. IsRow before k to.memory row)
+      → IfSome number (λ k. slice_get (places_in before) k ≡ Some (with_thread (place_in before at) context (thread_in before.pools to)))
   rows_there None row same is = is
   rows_there (Some k) row same is = row_there k (subst (λ (l : List ℕ). IsRow before k to.memory l) same is)
 
@@ -217,7 +229,8 @@ module _ (parts : Parts) (before : Explored) (at context : ℕ) (to : Numbers) (
     long : length row ≡ before.width
     long = ap length added.row_is ∙ length-set (row_in before at) context to.seat ∙ row_length parts before at stored within ∙ sym stored.width
 
-    place_told : (k : ℕ) → place_in after k ≡ place_of before.pools (slice_index_or (before.memories.items ++ to.memory ∷ []) k 0) (take before.width (drop (k * before.width) (before.rows.items ++ row)))
+    place_told : (k : ℕ)
+        → place_in after k ≡ place_of before.pools (slice_index_or (before.memories.items ++ to.memory ∷ []) k 0) (take before.width (drop (k * before.width) (before.rows.items ++ row)))
     place_told k =
         ap (λ (e : Explored). place_in e k) added.rest
         ∙ (λ i. place_of before.pools (slice_index_or (added.memories i) k 0) (take before.width (drop (k * before.width) (added.rows i))))
@@ -235,7 +248,8 @@ module _ (parts : Parts) (before : Explored) (at context : ℕ) (to : Numbers) (
     new_place : place_in after (length before.memories.items) ≡ with_thread (place_in before at) context (thread_in before.pools to)
     new_place =
         let n = length before.memories.items in
-        let first : slice_index_or (before.memories.items ++ to.memory ∷ []) n 0 ≡ to.memory = get_or_from_slice_get (before.memories.items ++ to.memory ∷ []) n to.memory 0 (get-end before.memories.items to.memory) in
+        let first : slice_index_or (before.memories.items ++ to.memory ∷ []) n 0 ≡ to.memory =
+        get_or_from_slice_get (before.memories.items ++ to.memory ∷ []) n to.memory 0 (get-end before.memories.items to.memory) in
         let rest : drop (n * before.width) (before.rows.items ++ row) ≡ row = drop_at before.rows.items row (n * before.width) stored.rows in
         let whole : take before.width row ≡ row = take_whole before.width row long in
         place_told n
@@ -276,7 +290,8 @@ module _ (parts : Parts) (before : Explored) (at context : ℕ) (to : Numbers) (
         held k m (inl old) = stored.memory_in k m old
         held k m (inr new) = let i = inside.memory in let e = new.1 in omega (arith, i, e)
 
-        set_in : (xs : List ℕ) (j k s : ℕ) → ((i t : ℕ) → slice_get xs i ≡ Some t → t < length before.pools.seats.items) → slice_get (slice_set xs j to.seat) k ≡ Some s → s < length before.pools.seats.items
+        set_in : (xs : List ℕ) (j k s : ℕ) → ((i t : ℕ) → slice_get xs i ≡ Some t → t < length before.pools.seats.items) → slice_get (slice_set xs j to.seat) k ≡ Some s
+            → s < length before.pools.seats.items
         set_in [] j k s each e = absurd (cc)
         set_in (x ∷ xs) zero zero s each e = let i = inside.seat in let same : to.seat ≡ s = some_is to.seat s e in omega (arith, i, same)
         set_in (x ∷ xs) zero (suc k) s each e = each (suc k) s e
@@ -313,14 +328,16 @@ still_there before after at within grows =
 abbrev context_by : List Seat → ℕ → Context
 context_by seats n = context_of (slice_index_or seats n no_seat)
 
-contexts_stay : (before after : List Seat) (rows : List ℕ) → IsFront before after → ((k s : ℕ) → slice_get rows k ≡ Some s → s < length before) → map (context_by after) rows ≡ map (context_by before) rows
+contexts_stay : (before after : List Seat) (rows : List ℕ) → IsFront before after → ((k s : ℕ) → slice_get rows k ≡ Some s → s < length before)
+    → map (context_by after) rows ≡ map (context_by before) rows
 contexts_stay before after [] front inside = refl
 contexts_stay before after (s ∷ rows) front inside =
     let first : context_by after s ≡ context_by before s = ap context_of (front_or before after s no_seat front (inside 0 s refl)) in
     let rest = contexts_stay before after rows front (λ k t e. inside (suc k) t e) in
     λ i. first i ∷ rest i
 
-pub start_more : (parts : Parts) (before after : List Seat) (rows rows' : List ℕ) (n at : ℕ) (seat : Seat) → AreAtStart parts before rows n → Numbered before after seat at → context_of seat ≡ context_start parts n → seat.list ≡ 0 → rows' ≡ rows ++ at ∷ [] → AreAtStart parts after rows' (n + 1)
+pub start_more : (parts : Parts) (before after : List Seat) (rows rows' : List ℕ) (n at : ℕ) (seat : Seat) → AreAtStart parts before rows n → Numbered before after seat at
+    → context_of seat ≡ context_start parts n → seat.list ≡ 0 → rows' ≡ rows ++ at ∷ [] → AreAtStart parts after rows' (n + 1)
 start_more parts before after rows rows' n at seat start numbered context list pushed = subst (λ (l : List ℕ). AreAtStart parts after l (n + 1)) (sym pushed) (record {
   contexts =
       let front = numbered_front before after seat at numbered in
@@ -340,7 +357,8 @@ start_more parts before after rows rows' n at seat start numbered context list p
     listed k s (inl old) = start.lists k s old
     listed k s (inr new) = ap (λ (x : Seat). x.list) (sym new.1) ∙ list
 
-no_words : (pools : Pools) (rows : List ℕ) → pools.links.items ≡ [] → ((k : ℕ) (seat : Seat) → slice_get pools.seats.items k ≡ Some seat → seat.list ≡ 0) → ((k s : ℕ) → slice_get rows k ≡ Some s → s < length pools.seats.items) → (let none : List ℕ = [] in map (words_in pools) rows ≡ replicate (length rows) none)
+no_words : (pools : Pools) (rows : List ℕ) → pools.links.items ≡ [] → ((k : ℕ) (seat : Seat) → slice_get pools.seats.items k ≡ Some seat → seat.list ≡ 0)
+    → ((k s : ℕ) → slice_get rows k ≡ Some s → s < length pools.seats.items) → (let none : List ℕ = [] in map (words_in pools) rows ≡ replicate (length rows) none)
 unfolding lists_of
 no_words pools [] links lists inside = refl
 no_words pools (s ∷ rows) links lists inside =
@@ -378,7 +396,11 @@ module _ (parts : Parts) (found : Explored) (memory : List Line) (number : ℕ) 
   start_stored tables broken leads = record {
     width = begun.width;
     rows = let one : 1 * found.width ≡ found.width = omega arith in rows_long ∙ sym begun.width ∙ sym one ∙ (λ i. length (sym begun.memories i) * found.width);
-    memory_in = λ k m e. let same = one_member number m k (ap (λ (l : List ℕ). slice_get l k) (sym begun.memories) ∙ e) in let w = slice_get_within found.pools.memories.items number memory (numbered_get [] found.pools.memories.items memory number begun.numbered) in omega (arith, same, w);
+    memory_in =
+        λ k m e.
+        let same = one_member number m k (ap (λ (l : List ℕ). slice_get l k) (sym begun.memories) ∙ e) in
+        let w = slice_get_within found.pools.memories.items number memory (numbered_get [] found.pools.memories.items memory number begun.numbered) in
+        omega (arith, same, w);
     seat_in = begun.start.within;
     pools = record {
       lists = λ k seat e. let z = begun.start.lists k seat e in omega (arith, z);
@@ -408,10 +430,12 @@ module _ (parts : Parts) (found : Explored) (memory : List Line) (number : ℕ) 
   place_is =
       let none : List ℕ = [] in
       let first : slice_index_or found.memories.items 0 0 ≡ number = ap (λ (l : List ℕ). slice_index_or l 0 0) begun.memories in
-      let lines : memory_in found.pools number ≡ map (body_of parts) (range_with_len 0 (line_count parts)) = get_or_from_slice_get found.pools.memories.items number memory [] (numbered_get [] found.pools.memories.items memory number begun.numbered) ∙ begun.memory_is in
+      let lines : memory_in found.pools number ≡ map (body_of parts) (range_with_len 0 (line_count parts)) =
+      get_or_from_slice_get found.pools.memories.items number memory [] (numbered_get [] found.pools.memories.items memory number begun.numbered) ∙ begun.memory_is in
       let nought : 0 * found.width ≡ 0 = omega arith in
       let row : row_in found 0 ≡ found.rows.items = ap (λ (n : ℕ). take found.width (drop n found.rows.items)) nought ∙ take_whole found.width found.rows.items (rows_long ∙ sym begun.width) in
-      let words : map (words_in found.pools) found.rows.items ≡ replicate (context_count parts) none = no_words found.pools found.rows.items begun.links begun.start.lists begun.start.within ∙ ap (λ (n : ℕ). replicate n none) rows_long in
+      let words : map (words_in found.pools) found.rows.items ≡ replicate (context_count parts) none =
+      no_words found.pools found.rows.items begun.links begun.start.lists begun.start.within ∙ ap (λ (n : ℕ). replicate n none) rows_long in
       (λ i. place_of found.pools (first i) (row i)) ∙ (λ i. record { flat = record { memory = lines i; contexts = begun.start.contexts i }; printed = words i })
 
   pub start_real : (origin : Origin) → found.origins.items ≡ origin ∷ [] → found.halted.items ≡ [] → found.trapped.items ≡ [] → IsReal parts (found_in found)

@@ -16,5 +16,8 @@ loop-context-preserved c =
 
 pub returns : goal.returns
 returns c =
-    let all = take_all c.loop-context.context (place_in c.args.found.now c.args.at).printed (omega (arith, printed_length c.args.image.now c.args.found.now c.args.at c.requires.stored c.requires.at, c.loop-context-test.false, c.contexts_of-context-end.ensures)) in
-    c.in_ok-push_memory.ensures ∙ (λ i. c.loop-context.invariant i ++ words_key (memory_words (c.memory_at.ensures i))) ∙ (λ i. prints_key (all i) ++ words_key (memory_words (place_in c.args.found.now c.args.at).flat.memory))
+    let all =
+    take_all c.loop-context.context (place_in c.args.found.now c.args.at).printed
+    (omega (arith, printed_length c.args.image.now c.args.found.now c.args.at c.requires.stored c.requires.at, c.loop-context-test.false, c.contexts_of-context-end.ensures)) in
+    c.in_ok-push_memory.ensures ∙ (λ i. c.loop-context.invariant i ++ words_key (memory_words (c.memory_at.ensures i)))
+    ∙ (λ i. prints_key (all i) ++ words_key (memory_words (place_in c.args.found.now c.args.at).flat.memory))

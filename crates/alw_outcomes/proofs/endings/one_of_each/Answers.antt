@@ -11,5 +11,6 @@ loop-i-preserved c = λ key keyed. (rw c.deref.ensures.value at c.in_ok-keep_new
 
 pub returns : goal.returns
 returns c = λ key keyed.
-    way_all key c.args.keyed.items c.sort_unstable.new.self.items c.loop-i.i c.loop-i.kept.items c.sort_unstable.ensures.permutation (omega (arith, c.loop-i-test.false, c.len-i-end.ensures, c.sort_unstable.new.self.ok.0)) keyed
+    way_all key c.args.keyed.items c.sort_unstable.new.self.items c.loop-i.i c.loop-i.kept.items c.sort_unstable.ensures.permutation
+    (omega (arith, c.loop-i-test.false, c.len-i-end.ensures, c.sort_unstable.new.self.ok.0)) keyed
     (c.loop-i.invariant key (keyed_sorted key c.args.keyed.items c.sort_unstable.new.self.items c.sort_unstable.ensures.permutation keyed))

@@ -10,7 +10,8 @@ use Rattle.alw_outcomes.proofs.endings.push_memory.Goals as goal
 
 pub loop-line-preserved : goal.loop-line-preserved
 loop-line-preserved c =
-    key_more SHARED_BASE c.args.key.now.items c.loop-line.key.items c.push_line.new.key.items c.args.memory.now c.loop-line.line zero_line (omega (arith, c.loop-line-test.true, c.lines-line-end.ensures)) c.loop-line.invariant
+    key_more SHARED_BASE c.args.key.now.items c.loop-line.key.items c.push_line.new.key.items c.args.memory.now c.loop-line.line zero_line
+    (omega (arith, c.loop-line-test.true, c.lines-line-end.ensures)) c.loop-line.invariant
     (c.in_ok-push_line.ensures ∙ (λ i. c.loop-line.key.items ++ words_key (line_words (SHARED_BASE + 16 * c.loop-line.line) (c.value.ensures i))))
 
 pub returns : goal.returns

@@ -16,7 +16,8 @@ returns-in-Some-clause-lead c = (
 
 pub returns-in-Trap-clause-lead : goal.returns-in-Trap-clause-lead
 returns-in-Trap-clause-lead c =
-    thread_traps c.args.image.now c.args.classes.now c.args.context c.args.pools.now c.args.at c.index.result.now c.in_ok-next.outcome c.in-Trap.tt c.requires.at c.index.ensures (sym c.is_ready.ensures ∙ c.if-not-is_ready.false)
+    thread_traps c.args.image.now c.args.classes.now c.args.context c.args.pools.now c.args.at c.index.result.now c.in_ok-next.outcome c.in-Trap.tt c.requires.at c.index.ensures
+    (sym c.is_ready.ensures ∙ c.if-not-is_ready.false)
     c.in_default.ensures.kept c.in_ok-next.ensures.outcome c.in-Trap.is
 
 pub returns : goal.returns
@@ -27,8 +28,11 @@ returns c =
     c.in_default.ensures.kept c.in_ok-next.ensures.outcome (none_trap _ c.in_default-outcome.not-Trap) in
     record {
       grow = goes_on_trans c.args.image.now c.args.pools.now c.step.new.pools c.chain.new.pools c.in_ok-next.ensures.grow c.in_ok-to.ensures.grow;
-      lead = going c.args.image.now c.args.classes.now c.args.context (thread_in c.args.pools.now c.args.at) _ c.chain.new.pools c.in_ok-to.to c.in_ok-to.more c.goes_ahead-first.result c.in_ok-next.ensures.turn goes
-          (λ ahead. thread_private c.args.image.now c.args.classes.now c.args.context c.args.pools.now c.step.new.pools c.args.at c.in_ok-next.next c.index.result.now c.index-2.result.now c.requires.at c.in_ok-next.ensures.inside
+      lead =
+          going c.args.image.now c.args.classes.now c.args.context (thread_in c.args.pools.now c.args.at) _ c.chain.new.pools c.in_ok-to.to c.in_ok-to.more c.goes_ahead-first.result
+          c.in_ok-next.ensures.turn goes
+          (λ ahead. thread_private c.args.image.now c.args.classes.now c.args.context c.args.pools.now c.step.new.pools c.args.at c.in_ok-next.next c.index.result.now c.index-2.result.now
+          c.requires.at c.in_ok-next.ensures.inside
           c.index.ensures c.index-2.ensures c.in_ok-next.ensures.turn goes (c.goes_ahead-first.ensures.alone ahead) (c.goes_ahead-first.ensures.less ahead))
           c.in_ok-to.ensures.chain;
     }

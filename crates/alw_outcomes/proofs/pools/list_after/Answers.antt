@@ -7,7 +7,8 @@ use Rattle.alw_outcomes.proofs.Pooling.{links_go_on, words_longer}
 use Rattle.alw_outcomes.proofs.pools.list_after.Goals as goal
 
 pub returns-in_ok-at-in-Out-clause-links : goal.returns-in_ok-at-in-Out-clause-links
-returns-in_ok-at-in-Out-clause-links c = links_go_on c.args.links.now.items c.number_in.new.pool.items c.args.list c.in-Out.word c.in_ok-at-in-Out.at c.requires.list c.requires.back c.in_ok-at-in-Out.ensures.number
+returns-in_ok-at-in-Out-clause-links c =
+    links_go_on c.args.links.now.items c.number_in.new.pool.items c.args.list c.in-Out.word c.in_ok-at-in-Out.at c.requires.list c.requires.back c.in_ok-at-in-Out.ensures.number
 
 pub returns-in_ok-at-in-Out-clause-words : goal.returns-in_ok-at-in-Out-clause-words
 returns-in_ok-at-in-Out-clause-words c =

@@ -18,7 +18,8 @@ pub loop-rest-preserved : goal.loop-rest-preserved
 loop-rest-preserved c =
     let within = c.loop-rest.invariant.within in
     let some = c.loop-rest-test.true in
-    along_more (digests_of c.args.marks.now) (befores_of c.args.marks.now) c.args.heads.now (length c.args.heads.now) c.args.digest c.args.from c.loop-rest.rest (length c.args.marks.now) _ c.requires.table.chained c.requires.within
+    along_more (digests_of c.args.marks.now) (befores_of c.args.marks.now) c.args.heads.now (length c.args.heads.now) c.args.digest c.args.from c.loop-rest.rest (length c.args.marks.now) _
+    c.requires.table.chained c.requires.within
     (omega (arith, some))
     (λ same. c.if-mark-digest.false (sym (mark_digest c.args.marks.now (c.loop-rest.rest - 1) (record { digest = 0; before = 0 }) (omega (arith, within, some, c.requires.within))) ∙ same))
     (mark_before c.args.marks.now (c.loop-rest.rest - 1) (record { digest = 0; before = 0 }) (omega (arith, within, some, c.requires.within))) c.loop-rest.invariant
