@@ -14,6 +14,8 @@ HEAD_LINES = 4
 
 DONE = (f'pc (?P<pc>{WORD}) (?P<statement>{STATEMENT})'
         f'(?: sets (?P<register>{REGISTER}) (?P<set>{WORD}))?'
+        '(?: codes (?P<codes>[01]{4}))?'
+        f'(?: y (?P<y>{WORD}))?'
         f'(?: reads (?P<read_at>{WORD}) (?P<read_bytes>[124]) (?P<read>{WORD}))?'
         f'(?: writes (?P<written_at>{WORD}) (?P<written_bytes>[124]) (?P<written>{WORD}))?'
         f'(?: taken (?P<taken>{WORD})| (?P<annuls>annuls))?'

@@ -8,7 +8,6 @@ instruction's slot the current one.
 """
 import re
 
-import codes
 from alewife import LINE_BYTES, SHARED, WORD
 from saved import BODY, CLOCK, CODES, COPY_BODY, FROM_CACHE, NEXT_PC, PC, QUEUES, REGISTERS, SLOT, STATUS, TO_CACHE, Y, State
 
@@ -16,6 +15,7 @@ LONG = re.compile('0x[0-9a-f]{8}')
 DIGITS = re.compile('0x0*([0-9a-f]+)')
 ZERO = ['0x00000000'] * 4
 ANSWERS = {'RDATA', 'WDATA', 'BUSY'}
+AT_ONCE = 'ba,a '
 
 
 def spelled(number):
@@ -70,7 +70,6 @@ class Machine(State):
 
     def __init__(self, image, sets, lines):
         super().__init__(image, lines)
-        self.code = [int.from_bytes(image.code[at:at + WORD], 'big') for at in range(0, len(image.code), WORD)]
         self.sets, self.steps = sets, []
 
     # ---- steps
@@ -142,7 +141,7 @@ class Machine(State):
             return self.miss(event, node, key)
         if event.said['halts'] or event.said['traps'] is not None:
             return self.change(key, {STATUS: 'halted' if event.said['halts'] else f'trapped {event.said["traps"]}'})
-        changed = {STATUS: 'ready', **self.on(event, self.lines[key]), **self.beside(event, self.lines[key])}
+        changed = {STATUS: 'ready', **self.on(event, self.lines[key]), **self.beside(event)}
         if event.said['register']:
             changed[register_at(event.said['register'])] = event.said['set']
         if event.said['written'] is not None:
@@ -156,10 +155,6 @@ class Machine(State):
             self.put(f'p{node}.{line}', ['pending', line, event.said['mode'], event.said['slot']])
         self.change(key, {STATUS: f'wait {line}'})
 
-    def word(self, context):
-        """The word of code that a context is at."""
-        return self.code[int(context[PC], 16) // WORD]
-
     def on(self, event, context):
         """PC and nPC after an instruction."""
         beyond = int(context[NEXT_PC], 16)
@@ -167,18 +162,13 @@ class Machine(State):
             return {PC: spelled(beyond + 4), NEXT_PC: spelled(beyond + 8)}
         if event.said['taken'] is None:
             return onward(context)
-        if codes.goes_at_once(self.word(context)):
+        if event.said['statement'].startswith(AT_ONCE):
             return {PC: event.said['taken'], NEXT_PC: spelled(event.number('taken') + 4)}
         return {PC: context[NEXT_PC], NEXT_PC: event.said['taken']}
 
-    def beside(self, event, context):
-        """The condition codes and Y, where an instruction changes them."""
-        def register(number):
-            """A register's word."""
-            return int(context[REGISTERS + number], 16) if number else 0
-        word = self.word(context)
-        flags, y = codes.codes_of(word, register, int(context[CODES][3])), codes.y_of(word, register)
-        return ({CODES: flags} if flags else {}) | ({Y: spelled(y)} if y is not None else {})
+    def beside(self, event):
+        """The condition codes and Y, where an instruction changed them."""
+        return {at: event.said[name] for at, name in ((CODES, 'codes'), (Y, 'y')) if event.said[name] is not None}
 
     def write(self, event, node):
         """Bytes are written in a copy."""

@@ -5,6 +5,7 @@ Nothing here is taken from the program: docs/FORMATS.md says what a checkpoint a
 import struct
 from dataclasses import dataclass, field
 
+import codes
 from trials import expect
 
 SHARED, LINE, WORDS = 0x40000000, 16, 1 << 32
@@ -20,10 +21,11 @@ WRITE_Y, TRAP = 0x30, 0x3A
 
 @dataclass(frozen=True)
 class Context:
-    """A context: what it does, PC, nPC, the codes N Z V C, and its registers from register 0 on."""
+    """A context: what it does, PC, nPC, Y, the codes N Z V C, and its registers from register 0 on."""
     does: str
     pc: int
     npc: int
+    y: int
     codes: tuple
     registers: tuple
 
@@ -68,8 +70,8 @@ def message_of(words):
 def context_of(words):
     """The context of the words behind its number."""
     length = 1 if words[0] in ('ready', 'halted') else 2
-    pc, npc, _, codes, *registers = words[length:]
-    return Context(' '.join(words[:length]), int(pc, 16), int(npc, 16), tuple(map(int, codes)), (0, *(int(word, 16) for word in registers)))
+    pc, npc, y, flags, *registers = words[length:]
+    return Context(' '.join(words[:length]), int(pc, 16), int(npc, 16), int(y, 16), tuple(map(int, flags)), (0, *(int(word, 16) for word in registers)))
 
 
 def add_line(state, words):
@@ -102,9 +104,9 @@ def state_of(lines):
 # ---- an instruction
 
 
-def holds(condition, codes):
+def holds(condition, flags):
     """Whether a condition of a branch or a trap holds of the codes N Z V C (manual, B.21 and B.27)."""
-    n, z, v, c = codes
+    n, z, v, c = flags
     told = (0, z, z | (n ^ v), n ^ v, c | z, c, n, v)[condition & 7]
     return bool(told) != (condition >= 8)
 
@@ -228,12 +230,22 @@ def done(step, word, old, new):
     if register:
         text += f' sets %{"goli"[register // 8]}{register % 8} 0x{new.registers[register]:08x}'
     expect(all(old.registers[each] == new.registers[each] for each in range(32) if each != register), 'another register has changed')
+    text += beside(word, old, new)
     if word >> 30 == 3:
         text += moved(step, word, old)
     at_once = word >> 29 == 1 and word >> 22 & 7 == 2 and word >> 25 & 15 == 8
     if new.pc == old.npc:
         return text + (f' taken 0x{new.npc:08x}' if new.npc != (old.npc + 4) % WORDS else '')
     return text + (f' taken 0x{new.pc:08x}' if at_once else ' annuls')
+
+
+def beside(word, old, new):
+    """The codes and Y by the instruction's arithmetic, where they aren't those before it."""
+    flags, y = (of(word, old.registers.__getitem__, *more) for of, more in ((codes.codes_of, (old.codes[3],)), (codes.y_of, ())))
+    before = ''.join(map(str, old.codes))
+    flags, y = before if flags is None else flags, old.y if y is None else y
+    expect((flags, y) == (''.join(map(str, new.codes)), new.y), f'codes {flags} and y 0x{y:08x} have to be left')
+    return (f' codes {flags}' if flags != before else '') + (f' y 0x{y:08x}' if y != old.y else '')
 
 
 def moved(step, word, old):

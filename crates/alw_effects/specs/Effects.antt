@@ -1,10 +1,10 @@
 -- What a turn did, from what stood before it and after it.
-use Rattle.std.specs.Prelude.{ℕ, ◌+◌, ◌%◌, ◌^◌, ◌==◌, ◌&&◌, Bool, false, cond, Option, None, Some, Result, Ok, Err, List, [], ◌++◌, codes}
+use Rattle.std.specs.Prelude.{ℕ, ◌+◌, ◌%◌, ◌^◌, ◌==◌, ◌&&◌, ◌||◌, Bool, false, cond, Option, None, Some, Result, Ok, Err, List, [], ◌++◌, codes}
 use Rattle.alw_num.specs.declared.addresses.Line.{Line}
 use Rattle.alw_num.specs.Lanes.{lane_of}
 use Rattle.sparc_table.specs.Access.{width_of, is_load}
 use Rattle.sparc_table.specs.Operands.{address_of}
-use Rattle.sparc_table.specs.Registers.{register}
+use Rattle.sparc_table.specs.Registers.{register, differ}
 use Rattle.sparc_table.specs.Turns.{fetched}
 use Rattle.sparc_table.specs.declared.registers.Regs.{Regs}
 use Rattle.sparc_table.specs.declared.instructions.Instr.{Instr}
@@ -15,7 +15,7 @@ use Rattle.sparc_table.specs.declared.outcomes.Outcome.{Outcome}
 use Rattle.sparc_table.specs.declared.outcomes.Outcome.TheVariants.{Done, Miss, Out, Halt, Trap}
 use Rattle.sparc_text.specs.Statements.{is_store}
 use Rattle.alw_effects.specs.declared.before.SlotBefore.{SlotBefore}
-use Rattle.alw_effects.specs.Pieces.{sets_text, reads_text, writes_text, taken_text, prints_text, traps_text}
+use Rattle.alw_effects.specs.Pieces.{sets_text, codes_text, y_text, reads_text, writes_text, taken_text, prints_text, traps_text}
 
 -- ---- a turn that is done
 
@@ -34,6 +34,20 @@ written_by _ = None
 abbrev pub written_text : Option ℕ → Regs → List ℕ
 written_text None regs = []
 written_text (Some r) regs = cond (r == 0) [] (sets_text r (register regs r))
+
+-- a condition code isn't what it was
+abbrev pub codes_differ : Regs → Regs → Bool
+codes_differ before after = differ before.n after.n || (differ before.z after.z || (differ before.v after.v || differ before.c after.c))
+
+-- the condition codes and Y behind the turn, where they aren't those before it
+abbrev pub changed_codes_text : Regs → Regs → List ℕ
+changed_codes_text before after = cond (codes_differ before after) (codes_text after) []
+
+abbrev pub changed_y_text : Regs → Regs → List ℕ
+changed_y_text before after = cond (before.y == after.y) [] (y_text after.y)
+
+abbrev pub changed_text : Regs → Regs → List ℕ
+changed_text before after = changed_codes_text before after ++ changed_y_text before after
 
 -- what an access read, and what it wrote, given the bytes of its line before and after the turn
 abbrev pub access_text : ℕ → ℕ → Line → Line → List ℕ
@@ -64,7 +78,8 @@ control_text at_once before after =
 -- an instruction that was done, with what it needed, and the registers and the line's bytes before and after it
 abbrev pub done_text : Need → Instr → Regs → Regs → Line → Line → List ℕ
 done_text need instr before after line line' =
-    written_text (written_by instr) after ++ (moved_in need instr before line line' ++ control_text (goes_at_once instr) before after)
+    written_text (written_by instr) after
+    ++ (changed_text before after ++ (moved_in need instr before line line' ++ control_text (goes_at_once instr) before after))
 
 abbrev pub fetched_text : Result Instr ℕ → Need → Regs → Regs → Line → Line → List ℕ
 fetched_text (Ok instr) need before after line line' = done_text need instr before after line line'

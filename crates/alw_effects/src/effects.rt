@@ -5,6 +5,7 @@ ghost use Rattle.alw_effects.specs.Effects.{written_by, written_text, goes_at_on
 
 use crate::accesses::put_moved;
 use crate::before::SlotBefore;
+use crate::changes::put_changed;
 use crate::pieces::{put_sets, put_taken};
 use alw_num::{Line, NoMemory};
 use alw_text::Text;
@@ -24,6 +25,7 @@ pub fn put_done(
     ensures { OnOk result (text.new ≡ text.old ++ done_text before.now.need instr.now before.now.regs regs.now before.now.body body.now) }
 {
     put_written(text, written(instr), regs)?;
+    put_changed(text, &before.regs, regs)?;
     put_moved(text, instr, before, body)?;
     put_control(text, goes_at_once(instr), &before.regs, regs)?;
     Ok(())

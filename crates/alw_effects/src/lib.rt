@@ -3,6 +3,7 @@
 
 mod accesses;
 mod before;
+mod changes;
 mod effects;
 mod outcomes;
 mod pieces;

@@ -1,9 +1,10 @@
 ghost use Rattle.std.specs.Prelude.{◌≡◌, ◌<◌, ◌++◌, OnOk};
 ghost use Rattle.alw_text.specs.Numbers.{hex_byte, hex_word};
-ghost use Rattle.alw_effects.specs.Pieces.{stood_text, sets_text, moved_text, reads_text, writes_text, taken_text, prints_text, traps_text};
+ghost use Rattle.alw_effects.specs.Pieces.{stood_text, sets_text, flag_digit, flags_text, codes_text, y_text, moved_text, reads_text, writes_text, taken_text, prints_text, traps_text};
 
 use alw_num::{NoMemory, Width};
 use alw_text::{Spell, Text, put_number};
+use sparc_table::Regs;
 use sparc_text::{put_register, put_statement_at};
 
 /// A PC, and the statement there, each behind a blank: ` pc 0x00000010 ld [%g1], %o0`.
@@ -36,6 +37,38 @@ pub fn put_sets(text: &mut Text, register: u8, word: u32) -> Result<(), NoMemory
     put_register(text, register)?;
     put_word(text, b" ", word)?;
     Ok(())
+}
+
+/// The condition codes.
+#[tactic(auto, unfolding(crate::specs::Pieces::codes_text))]
+pub fn put_codes(text: &mut Text, regs: &Regs) -> Result<(), NoMemory>
+    ensures { OnOk result (text.new ≡ text.old ++ codes_text regs.now) }
+{
+    text.put(b" codes ")?;
+    put_flags(text, regs)?;
+    Ok(())
+}
+
+// The same without the word.
+fn put_flags(text: &mut Text, regs: &Regs) -> Result<(), NoMemory>
+    ensures { OnOk result (text.new ≡ text.old ++ flags_text regs.now) }
+{
+    text.put(&[flag(regs.n), flag(regs.z), flag(regs.v), flag(regs.c)])
+}
+
+// A condition code as a digit.
+fn flag(set: bool) -> u8
+    ensures { result ≡ flag_digit set }
+{
+    if set { b'1' } else { b'0' }
+}
+
+/// Y with the word that it was given.
+#[tactic(auto, unfolding(crate::specs::Pieces::y_text))]
+pub fn put_y(text: &mut Text, word: u32) -> Result<(), NoMemory>
+    ensures { OnOk result (text.new ≡ text.old ++ y_text word) }
+{
+    put_word(text, b" y ", word)
 }
 
 /// Bytes that were read.

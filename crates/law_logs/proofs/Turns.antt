@@ -1,5 +1,5 @@
 -- What a log tells of an instruction has no LF.
-use Rattle.std.proofs.Common.{ℕ, ◌+◌, ◌%◌, ◌^◌, ◌==◌, Bool, true, false, Option, Some, None, List, [], codes, refl}
+use Rattle.std.proofs.Common.{◌≡◌, ℕ, ◌+◌, ◌%◌, ◌^◌, ◌==◌, Bool, true, false, Option, Some, None, List, [], ◌∷◌, codes, refl}
 use Rattle.std.specs.Prelude.{Result, Ok, Err}
 use Rattle.alw_num.specs.declared.addresses.Line.{Line}
 use Rattle.alw_num.specs.declared.addresses.Width.{Width}
@@ -25,11 +25,11 @@ use Rattle.alw_model.specs.declared.steps.Did.TheVariants.{Turn, Missed}
 use Rattle.alw_model.specs.Contexts.{slot_at, running}
 use Rattle.alw_model.specs.NodeStates.{NodeState}
 use Rattle.alw_report.specs.Names.{mode_text}
-use Rattle.alw_effects.specs.Pieces.{stood_text, sets_text, moved_text, reads_text, writes_text, taken_text, prints_text, traps_text}
-use Rattle.alw_effects.specs.Effects.{written_by, written_text, access_text, moved_by, moved_in, goes_at_once, control_text, fetched_text, outcome_text}
+use Rattle.alw_effects.specs.Pieces.{stood_text, sets_text, flag_digit, flags_text, codes_text, y_text, moved_text, reads_text, writes_text, taken_text, prints_text, traps_text}
+use Rattle.alw_effects.specs.Effects.{written_by, written_text, codes_differ, changed_text, access_text, moved_by, moved_in, goes_at_once, control_text, fetched_text, outcome_text}
 use Rattle.alw_turns.specs.Pieces.{slot_text, ends_text}
 use Rattle.alw_turns.specs.Turns.{bytes_needed, is_waited, opens_text, misses_text, missed_text, did_text, need_in, slot_did, running_did, instr_text}
-use Rattle.law_logs.proofs.Lines.{IsUnbroken, plain, beside, fronted, either, number, word, byte_word}
+use Rattle.law_logs.proofs.Lines.{is_unbroken, IsUnbroken, plain, beside, fronted, either, longer, number, word, byte_word}
 use Rattle.law_logs.proofs.Statements.{register, statement}
 
 -- where a context stands
@@ -51,6 +51,30 @@ sets r value = fronted (codes " sets ") refl (beside (register r) (fronted (code
 written : (r : Option ℕ) (regs : Regs) → IsUnbroken (written_text r regs)
 written None regs = plain [] refl
 written (Some r) regs = either (r == 0) (plain [] refl) (sets r (register_value regs r))
+
+flag_is : (set : Bool) → (flag_digit set == 10) ≡ false
+flag_is true = refl
+flag_is false = refl
+
+flags : (regs : Regs) → IsUnbroken (flags_text regs)
+flags regs =
+    let c : is_unbroken (flag_digit regs.c ∷ []) ≡ true = longer (flag_digit regs.c) [] (flag_is regs.c) refl in
+    let v : is_unbroken (flag_digit regs.v ∷ flag_digit regs.c ∷ []) ≡ true = longer (flag_digit regs.v) (flag_digit regs.c ∷ []) (flag_is regs.v) c in
+    let z : is_unbroken (flag_digit regs.z ∷ flag_digit regs.v ∷ flag_digit regs.c ∷ []) ≡ true =
+    longer (flag_digit regs.z) (flag_digit regs.v ∷ flag_digit regs.c ∷ []) (flag_is regs.z) v in
+    record { test = longer (flag_digit regs.n) (flag_digit regs.z ∷ flag_digit regs.v ∷ flag_digit regs.c ∷ []) (flag_is regs.n) z }
+
+codes_are : (regs : Regs) → IsUnbroken (codes_text regs)
+unfolding codes_text
+codes_are regs = fronted (codes " codes ") refl (flags regs)
+
+y_is : (value : ℕ) → IsUnbroken (y_text value)
+unfolding y_text
+y_is value = fronted (codes " y ") refl (word value)
+
+changed : (before after : Regs) → IsUnbroken (changed_text before after)
+changed before after =
+    beside (either (codes_differ before after) (codes_are after) (plain [] refl)) (either (before.y == after.y) (plain [] refl) (y_is after.y))
 
 moved : (address : ℕ) (width : Width) (value : ℕ) → IsUnbroken (moved_text address width value)
 moved address width value = beside (word address) (fronted (codes " ") refl (beside (number (bytes_in width)) (fronted (codes " ") refl (word value))))
@@ -88,7 +112,8 @@ control at_once before after =
 
 done : (read : Result Instr ℕ) (need : Need) (before after : Regs) (line line' : Line) → IsUnbroken (fetched_text read need before after line line')
 done (Ok instr) need before after line line' =
-    beside (written (written_by instr) after) (beside (needed need instr before line line') (control (goes_at_once instr) before after))
+    beside (written (written_by instr) after)
+    (beside (changed before after) (beside (needed need instr before line line') (control (goes_at_once instr) before after)))
 done (Err tt) need before after line line' = plain [] refl
 
 -- ---- a turn by its outcome

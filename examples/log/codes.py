@@ -1,7 +1,7 @@
-"""What an instruction leaves in the condition codes and in Y, which a log doesn't tell (SPARC V8 manual, B.11 to B.13, B.18 and B.29)."""
+"""What an instruction leaves in the condition codes and in Y (SPARC V8 manual, B.11 to B.13, B.18 and B.29)."""
 
 WORDS, SIGN = 1 << 32, 1 << 31
-UMUL, SMUL, WRITE_Y, BRANCH, ALWAYS = 0x0A, 0x0B, 0x30, 2, 8
+UMUL, SMUL, WRITE_Y = 0x0A, 0x0B, 0x30
 LOGICAL = {1: lambda x, y: x & y, 2: lambda x, y: x | y, 3: lambda x, y: x ^ y, 5: lambda x, y: x & ~y, 6: lambda x, y: x | ~y, 7: lambda x, y: x ^ ~y}
 ADDS = {0: 0, 8: 1}
 SUBTRACTS = {4: 0, 12: 1}
@@ -16,11 +16,6 @@ def is_arithmetic(word):
 def kind_of(word):
     """Which instruction of its format a word of code is."""
     return word >> 19 & 63
-
-
-def goes_at_once(word):
-    """Whether a word of code is `ba,a`, whose target comes next."""
-    return word >> 29 == 1 and word >> 22 & 7 == BRANCH and word >> 25 & 15 == ALWAYS
 
 
 def operands(word, register):
