@@ -17,3 +17,4 @@ pub mod InOrder
 pub mod ByNode
 pub mod Sorted
 pub mod Sorting
+pub mod Following

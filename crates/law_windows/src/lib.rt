@@ -2,13 +2,15 @@
 //! least to another node.
 #![tactic(auto)]
 
-ghost use Rattle.std.specs.Prelude.{◌≡◌, ◌≢◌, ◌+◌, ◌<◌, ℕ, true, List, ◌↔◌};
+ghost use Rattle.std.specs.Prelude.{◌≡◌, ◌≢◌, ◌+◌, ◌*◌, ◌<◌, ◌≤◌, ℕ, true, List, ◌↔◌, length};
 ghost use Rattle.alw_msg.specs.declared.events.Event.{Event};
 ghost use Rattle.alw_msg.specs.Events.{node_of};
 ghost use Rattle.alw_image.specs.Images.{node_count};
 ghost use Rattle.alw_mesh.specs.Histories.{History, IsRun, may_be_next, grown};
 ghost use Rattle.alw_times.specs.declared.costs.Costs.{Costs};
+ghost use Rattle.alw_due.specs.Due.{times_in, IsFirstDue, EventsAreTimed};
 ghost use Rattle.law_windows.specs.Windows.{lookahead, arrivals_between, GoOnFrom, start_next, key_next, ComesBelow, LiftsNoLimit};
+ghost use Rattle.law_windows.specs.Following.{GoesOnTo, AreWindows, WhereWindowsFollow};
 ghost use Rattle.law_windows.specs.Turns.{in_turn, GoInTurn, IsSortOf, WhereNodesGoInTurn, AreAlike, events_told, sort_by_start};
 ghost use Rattle.law_windows.specs.Windows.{RunsAlone, grown_by, IsRunAlone, IsWindow, NothingIsLeft, events_of, timeline, told_of, AreMerged, IsMergeOf, IsFrontOf};
 
@@ -69,4 +71,17 @@ pub fn nodes_may_go_in_turn()
     ensures told { WhereNodesGoInTurn (λ h costs from turns sorted. timeline h costs (events_told sorted) ≡ sorted) }
     ensures left { WhereNodesGoInTurn (λ h costs from turns sorted. NothingIsLeft (grown_by h (events_told sorted)) costs (from + lookahead costs)) }
     ensures after { WhereNodesGoInTurn (λ h costs from turns sorted. AreAlike costs (grown_by h (events_told sorted)) (grown_by h turns)) }
+{}
+
+/// Windows follow one on another. Where nothing is left below a time a window may begin there, and what nodes do
+/// in turn, once it is sorted, goes on to its end. Whatever the timed schedule takes up to one bound after
+/// another, each the lookahead behind the last and nothing left below it, is a window each time. The events of
+/// all, joined, are timed, and ascend by start and then by node; nothing is left below the last bound.
+pub fn windows_follow()
+    ensures begins { (h : History) → (costs : Costs) → (from : ℕ) → NothingIsLeft h costs from → (event : Event) → IsFirstDue h costs (times_in h costs) event → from ≤ start_next h costs event }
+    ensures turns { WhereNodesGoInTurn (λ h costs from turns sorted. GoesOnTo h costs (from + lookahead costs) (events_told sorted)) }
+    ensures windows { WhereWindowsFollow (λ h costs from windows after. AreWindows h costs from windows) }
+    ensures timed { WhereWindowsFollow (λ h costs from windows after. EventsAreTimed h costs (in_turn windows) after) }
+    ensures ascends { WhereWindowsFollow (λ h costs from windows after. AreMerged (timeline h costs (in_turn windows))) }
+    ensures left { WhereWindowsFollow (λ h costs from windows after. NothingIsLeft after costs (from + length windows * lookahead costs)) }
 {}
