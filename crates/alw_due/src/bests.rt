@@ -43,10 +43,12 @@ impl Bests {
 
     /// The first of all of them.
     #[inline(always)]
-    pub fn first(&self) -> Option<Due>
-        ensures { IsFirstKept self.now result }
+    pub fn first(&mut self) -> Option<Due>
+        ensures same { self.new ≡ self.old }
+        ensures first { IsFirstKept self.old result }
     {
-        self.dues[usize::from(self.starts.first())]
+        let place = self.starts.first();
+        self.dues[usize::from(place)]
     }
 
     /// What stands for a node.

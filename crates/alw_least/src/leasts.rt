@@ -1,27 +1,29 @@
-ghost use Rattle.std.specs.Prelude.{◌≡◌, ◌<◌, ◌≤◌, ◌+◌, ◌*◌, length, replicate, slice_set};
-ghost use Rattle.alw_least.specs.Leasts.{least_of_four, IsFirstOfFour, IsLesser, IsFirstLeast};
+ghost use Rattle.std.specs.Prelude.{◌≡◌, ◌<◌, ◌≤◌, ◌+◌, replicate, slice_set, slice_index, length, ℕ};
+ghost use Rattle.alw_least.specs.Days.{NothingStands};
+ghost use Rattle.alw_least.specs.Leasts.{IsFirstLeast, IsDayOf, IsLeastBelow, AreDated};
 
+use crate::days::{DAYS, Days};
 use std::marker::Model;
 
-/// 256 numbers by place. A tree of four levels, in which each place has the least of the four below it, leads to the
-/// first place of the least number. Contracts see the numbers.
+/// 256 numbers by place, and the first place of the least of them. Those that aren't far above the least stand on
+/// days: each place on the day of its number, counted from a first one (a calendar queue: R. Brown, 1988). Contracts
+/// see the numbers.
 #[derive(Drop)]
 pub struct Leasts {
-    ones: [u64; 256],
-    fours: [u64; 64],
-    sixteens: [u64; 16],
-    quarters: [u64; 4],
+    numbers: [u64; 256],
+    first: u64,
+    days: Days,
 }
 
 impl Model for Leasts {
     ghost use Rattle.std.specs.Prelude.{List, ℕ};
-    ghost use Rattle.alw_least.specs.Leasts.{AreLevels};
+    ghost use Rattle.alw_least.specs.Leasts.{AreOnDays};
 
     ghost Value = { List ℕ };
 
-    ghost view = { λ l. l.ones };
+    ghost view = { λ l. l.numbers };
 
-    ghost invariant = { λ l. AreLevels l.ones l.fours l.sixteens l.quarters };
+    ghost invariant = { λ l. AreOnDays l.numbers l.first l.days };
 }
 
 impl Leasts {
@@ -29,11 +31,13 @@ impl Leasts {
     pub fn all(number: u64) -> Leasts
         ensures { result ≡ replicate 256 number }
     {
+        let numbers = [number; 256];
+        let mut days = Days::none();
+        date(&mut days, &numbers, number);
         Leasts {
-            ones: [number; 256],
-            fours: [number; 64],
-            sixteens: [number; 16],
-            quarters: [number; 4],
+            numbers,
+            first: number,
+            days,
         }
     }
 
@@ -42,62 +46,78 @@ impl Leasts {
     pub fn set(&mut self, place: u8, number: u64)
         ensures { self.new ≡ slice_set self.old place number }
     {
-        let one = usize::from(place);
-        if self.ones[one] == number {
+        let at = usize::from(place);
+        let before = self.numbers[at];
+        if before == number {
             return;
         }
-        self.ones[one] = number;
-        self.fours[one / 4] = least_of_four(&self.ones, one / 4);
-        self.sixteens[one / 16] = least_of_four(&self.fours, one / 16);
-        self.quarters[one / 64] = least_of_four(&self.sixteens, one / 64);
+        self.numbers[at] = number;
+        if number < self.first {
+            self.first = number;
+            self.days = Days::none();
+            date(&mut self.days, &self.numbers, number);
+            return;
+        }
+        if let Some(day) = day_of(self.first, before) {
+            self.days.remove(day, place);
+        }
+        if let Some(day) = day_of(self.first, number) {
+            self.days.add(day, place);
+        }
     }
 
     /// The first place of the least number.
     #[inline(always)]
-    pub fn first(&self) -> u8
-        ensures { IsFirstLeast self.now result }
+    pub fn first(&mut self) -> u8
+        ensures same { self.new ≡ self.old }
+        ensures first { IsFirstLeast self.old result }
     {
-        let quarter = first_of_four(&self.quarters, 0);
-        let sixteen = first_of_four(&self.sixteens, quarter);
-        let four = first_of_four(&self.fours, sixteen);
-        first_of_four(&self.ones, four) as u8
+        if let Some(place) = self.days.first() {
+            return place;
+        }
+        self.first = least_of(&self.numbers);
+        date(&mut self.days, &self.numbers, self.first);
+        let Some(place) = self.days.first() else {
+            unreachable!();
+        };
+        place
     }
 }
 
-// The least of the four numbers of a part.
+// The day of a number, counted from a first one.
 #[inline(always)]
-fn least_of_four(numbers: &[u64], part: usize) -> u64
-    requires { 4 * part + 4 ≤ length numbers.now }
-    ensures { result ≡ least_of_four numbers.now part }
+fn day_of(first: u64, number: u64) -> Option<u8>
+    requires { first ≤ number }
+    ensures { IsDayOf first number result }
 {
-    let at = 4 * part;
-    let low = numbers[at].min(numbers[at + 1]);
-    let high = numbers[at + 2].min(numbers[at + 3]);
-    low.min(high)
-}
-
-// The first place of the least of them.
-#[inline(always)]
-fn first_of_four(numbers: &[u64], part: usize) -> usize
-    requires { 4 * part + 4 ≤ length numbers.now }
-    ensures { IsFirstOfFour numbers.now part result }
-{
-    let at = 4 * part;
-    let low = lesser(numbers, at, at + 1);
-    let high = lesser(numbers, at + 2, at + 3);
-    lesser(numbers, low, high)
-}
-
-// Of two places the one with the lesser number, and the first where neither is less.
-#[inline(always)]
-fn lesser(numbers: &[u64], one: usize, other: usize) -> usize
-    requires one { one < length numbers.now }
-    requires other { other < length numbers.now }
-    ensures { IsLesser numbers.now one other result }
-{
-    if numbers[other] < numbers[one] {
-        other
+    let day = number - first;
+    if day < u64::from(DAYS) {
+        Some(day as u8)
     } else {
-        one
+        None
     }
+}
+
+// Each place stands on the day of its number, counted from a first one, where nothing stood.
+fn date(days: &mut Days, numbers: &[u64; 256], first: u64)
+    requires none { NothingStands days.old }
+    requires after { (k : ℕ) → k < length numbers.now → first ≤ slice_index numbers.now k }
+    ensures { AreDated numbers.now first 256 days.new }
+{
+    for place in 0..DAYS {
+        if let Some(day) = day_of(first, numbers[usize::from(place)]) {
+            days.add(day, place as u8);
+        }
+    }
+}
+
+// The least of some numbers.
+fn least_of(numbers: &[u64; 256]) -> u64
+    ensures { IsLeastBelow numbers.now 256 result }
+{
+    let mut least = numbers[0];
+    for place in 1..256 {
+        least = least.min(numbers[place]);
+    }
+    least
 }

@@ -1,13 +1,15 @@
--- Level by level.
-use Rattle.std.proofs.Common.{arith}
-use Rattle.alw_least.proofs.Levels.{first_of_all, first_below}
+use Rattle.std.proofs.Common.{ℕ, arith}
+use Rattle.alw_least.proofs.Dating.{first_least, some_stands}
 use Rattle.alw_least.proofs.leasts.Leasts.first.Goals as goal
 
-pub returns : goal.returns
-returns c =
-    let s = c.self.inside in
-    let i = c.self.invariant in
-    let quarter = first_of_all s.quarters c.first_of_four-quarter.result (omega arith) c.first_of_four-quarter.ensures in
-    let sixteen = first_below s.sixteens s.quarters _ c.first_of_four-sixteen.result i.of_sixteens (omega arith) quarter c.first_of_four-sixteen.ensures in
-    let four = first_below s.fours s.sixteens _ c.first_of_four-four.result i.of_fours (omega arith) sixteen c.first_of_four-four.ensures in
-    rw (← c.self.view_is) (first_below s.ones s.fours _ c.first_of_four.result i.of_ones (omega arith) four c.first_of_four.ensures)
+pub returns-in-Some-clause-first : goal.returns-in-Some-clause-first
+returns-in-Some-clause-first c = rw (← c.self.view_is)
+    (first_least c.self.inside.numbers c.self.inside.first c.self.inside.days (omega arith) c.self.invariant.dated c.in-Some.place c.self.invariant.none_before c.in-Some.ensures)
+
+pub unreachable-requires : goal.unreachable-requires
+unreachable-requires c =
+    some_stands c.self.inside.numbers c.least_of-self-inside.result c.date.new.days (omega arith) c.date.ensures c.least_of-self-inside.ensures c.in_default-first.ensures
+
+pub returns-clause-first : goal.returns-clause-first
+returns-clause-first c = rw (← c.self.view_is)
+    (first_least c.self.inside.numbers c.least_of-self-inside.result c.date.new.days (omega arith) c.date.ensures c.in-Some-first.place c.least_of-self-inside.ensures.lowest c.in-Some-first.ensures)
