@@ -1,3 +1,4 @@
+mod Coded
 mod Products
 pub mod Lanes
 mod Lines

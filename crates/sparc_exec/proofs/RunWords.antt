@@ -14,11 +14,19 @@ use Rattle.sparc_table.specs.Turns.{or_illegal, or_no_access, fetched, need_at, 
 use Rattle.sparc_table.specs.declared.registers.Regs.{Regs}
 use Rattle.sparc_table.specs.declared.instructions.Operand.{Operand}
 use Rattle.sparc_table.specs.declared.instructions.Instr.{Instr}
-use Rattle.sparc_table.specs.declared.instructions.Instr.TheVariants.{Call, Sethi, Branch, Arith, Shift, ReadY, WriteY, Jmpl, TrapOn, Memory}
+use Rattle.sparc_table.specs.declared.instructions.Instr.TheVariants.{Call, Sethi, Branch, Arith, ReadY, WriteY, Jmpl, TrapOn, Memory}
+use Rattle.sparc_table.specs.declared.instructions.Instr.TheVariants as instructions
 use Rattle.sparc_table.specs.declared.outcomes.Need.{Need}
 use Rattle.sparc_table.specs.declared.outcomes.Need.TheVariants as needs
 use Rattle.sparc_table.specs.declared.outcomes.Outcome.{Outcome}
 use Rattle.sparc_table.specs.declared.outcomes.Outcome.TheVariants as ends
+use Rattle.sparc_exec.specs.Rows.{low_of, op3_of_arithmetic, op3_of_shift}
+use Rattle.sparc_exec.specs.declared.arithmetic.Operation.{Operation}
+use Rattle.sparc_exec.specs.declared.arithmetic.Operation.TheVariants.{Add, And, Or, Xor, Sub, Andn, Orn, Xnor, Addx, Subx}
+use Rattle.sparc_exec.specs.declared.arithmetic.Arithmetic.{Arithmetic}
+use Rattle.sparc_exec.specs.declared.arithmetic.Arithmetic.TheVariants.{Plain, Coded, Umul, Smul}
+use Rattle.sparc_exec.specs.declared.arithmetic.Shift.{Shift}
+use Rattle.sparc_exec.specs.declared.arithmetic.Shift.TheVariants.{Left, Right, SignedRight}
 use Rattle.sparc_exec.specs.Runs.{Seen, seen, IsRunWith}
 use Rattle.sparc_exec.specs.Words.{row_of, rows, value_of, IsRunOf, IsRunBeside}
 
@@ -75,24 +83,49 @@ call_is word before after op h = quiet word (Call (bits_of 0 30 word)) before af
 
 -- ---- format 3
 
-pub arith_row : (word op3 : ℕ) → op_of word ≡ 2 → op3_of word ≡ op3 → is_in arithmetic op3 ≡ true → instr_of word ≡ option_map (Arith op3 (rd_of word) (rs1_of word)) (operand_in word)
+-- each instruction of arithmetic is in its list, and each shift in that of shifts
+listed : (operation : Operation) → (is_in arithmetic (low_of operation) ≡ true) × (is_in arithmetic (0x10 + low_of operation) ≡ true)
+listed Add = (refl, refl)
+listed And = (refl, refl)
+listed Or = (refl, refl)
+listed Xor = (refl, refl)
+listed Sub = (refl, refl)
+listed Andn = (refl, refl)
+listed Orn = (refl, refl)
+listed Xnor = (refl, refl)
+listed Addx = (refl, refl)
+listed Subx = (refl, refl)
+
+arithmetic_listed : (row : Arithmetic) → is_in arithmetic (op3_of_arithmetic row) ≡ true
+arithmetic_listed (Plain operation) = (listed operation).0
+arithmetic_listed (Coded operation) = (listed operation).1
+arithmetic_listed Umul = refl
+arithmetic_listed Smul = refl
+
+shift_listed : (row : Shift) → (is_in shifts (op3_of_shift row) ≡ true) × (is_in arithmetic (op3_of_shift row) ≡ false)
+shift_listed Left = (refl, refl)
+shift_listed Right = (refl, refl)
+shift_listed SignedRight = (refl, refl)
+
+pub arith_row : (word : ℕ) (row : Arithmetic) → op_of word ≡ 2 → op3_of word ≡ op3_of_arithmetic row
+    → instr_of word ≡ option_map (Arith (op3_of_arithmetic row) (rd_of word) (rs1_of word)) (operand_in word)
 unfolding instr_of
-arith_row word op3 op is row = rw (op, is, row) refl
+arith_row word row op is = rw (op, is, arithmetic_listed row) refl
 
-pub arith_is : (word op3 y : ℕ) (before after : Regs) → op_of word ≡ 2 → op3_of word ≡ op3 → is_in arithmetic op3 ≡ true → Some y ≡ value_of (operand_in word) before
-    → after ≡ next (values.arithmetic op3 (rd_of word) (register before (rs1_of word)) y before) → IsRunBeside word before after ends.Done
+pub arith_is : (word : ℕ) (row : Arithmetic) (y : ℕ) (before after : Regs) → op_of word ≡ 2 → op3_of word ≡ op3_of_arithmetic row → Some y ≡ value_of (operand_in word) before
+    → after ≡ next (values.arithmetic (op3_of_arithmetic row) (rd_of word) (register before (rs1_of word)) y before) → IsRunBeside word before after ends.Done
 unfolding need effect
-arith_is word op3 y before after op is row there h = some word y _ before after _ _ (arith_row word op3 op is row) there (λ operand e. ((λ lines. refl), (λ line. rw (h, e) refl)))
+arith_is word row y before after op is there h = some word y _ before after _ _ (arith_row word row op is) there (λ operand e. ((λ lines. refl), (λ line. rw (h, e) refl)))
 
-pub shift_row : (word op3 : ℕ) → op_of word ≡ 2 → op3_of word ≡ op3 → is_in shifts op3 ≡ true → is_in arithmetic op3 ≡ false
-    → instr_of word ≡ option_map (Shift op3 (rd_of word) (rs1_of word)) (short_operand_in 5 word)
+pub shift_row : (word : ℕ) (row : Shift) → op_of word ≡ 2 → op3_of word ≡ op3_of_shift row
+    → instr_of word ≡ option_map (instructions.Shift (op3_of_shift row) (rd_of word) (rs1_of word)) (short_operand_in 5 word)
 unfolding instr_of
-shift_row word op3 op is row other = rw (op, is, other, row) refl
+shift_row word row op is = let listed = shift_listed row in rw (op, is, listed.1, listed.0) refl
 
-pub shift_is : (word op3 y : ℕ) (before after : Regs) → op_of word ≡ 2 → op3_of word ≡ op3 → is_in shifts op3 ≡ true → is_in arithmetic op3 ≡ false → Some y ≡ value_of (short_operand_in 5 word) before
-    → after ≡ next (with_register before (rd_of word) (values.shifted op3 (register before (rs1_of word)) y)) → IsRunBeside word before after ends.Done
+pub shift_is : (word : ℕ) (row : Shift) (y : ℕ) (before after : Regs) → op_of word ≡ 2 → op3_of word ≡ op3_of_shift row → Some y ≡ value_of (short_operand_in 5 word) before
+    → after ≡ next (with_register before (rd_of word) (values.shifted (op3_of_shift row) (register before (rs1_of word)) y)) → IsRunBeside word before after ends.Done
 unfolding need effect
-shift_is word op3 y before after op is row other there h = some word y _ before after _ _ (shift_row word op3 op is row other) there (λ operand e. ((λ lines. refl), (λ line. rw (h, e) refl)))
+shift_is word row y before after op is there h = some word y _ before after _ _ (shift_row word row op is) there (λ operand e. ((λ lines. refl), (λ line. rw (h, e) refl)))
 
 read_y_row : (word : ℕ) → op_of word ≡ 2 → op3_of word ≡ 0x28 → instr_of word ≡ only_if (bits_of 0 19 word == 0) (Some (ReadY (rd_of word)))
 unfolding instr_of

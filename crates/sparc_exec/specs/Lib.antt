@@ -1,3 +1,4 @@
 pub mod Ports
+pub mod Rows
 pub mod Runs
 pub mod Words

@@ -1,10 +1,48 @@
 ghost use Rattle.std.specs.Prelude.{◌≡◌, ◌<◌, ◌*◌};
 ghost use Rattle.std.specs.Int.{from_bool};
 ghost use Rattle.sparc_table.specs.Operands.{sign_extended, operand_of, address_of};
-ghost use Rattle.sparc_table.specs.Arithmetic.{sign_of, added, subtracted, logical, computed, with_codes, signed_product, multiplied, assigned, arithmetic, shifted};
+ghost use Rattle.sparc_table.specs.Arithmetic.{sign_of, added, subtracted, computed, with_codes, signed_product, multiplied, arithmetic, shifted};
 ghost use Rattle.sparc_table.specs.Table.{FitsOperand};
+ghost use Rattle.sparc_exec.specs.Rows.{low_of, op3_of_arithmetic, op3_of_shift};
 
 use sparc_table::{Operand, Regs};
+
+/// What arithmetic or logic computes of two words, by its name in the manual (SPARC V8 manual,
+/// appendix B.11, B.13 and B.15).
+#[derive(Clone, Copy)]
+pub enum Operation {
+    Add,
+    And,
+    Or,
+    Xor,
+    Sub,
+    Andn,
+    Orn,
+    Xnor,
+    Addx,
+    Subx,
+}
+
+/// An instruction of arithmetic or logic.
+#[derive(Clone, Copy)]
+pub enum Arithmetic {
+    /// Leaves the codes.
+    Plain(Operation),
+    /// Sets the codes.
+    Coded(Operation),
+    /// The product of two numbers without signs.
+    Umul,
+    /// The product of two signed numbers.
+    Smul,
+}
+
+/// A shift: SLL, SRL and SRA.
+#[derive(Clone, Copy)]
+pub enum Shift {
+    Left,
+    Right,
+    SignedRight,
+}
 
 // A result with the overflow and carry codes that come with it.
 #[derive(Clone, Copy, PartialEq, Eq)]
@@ -77,53 +115,49 @@ fn subtract(x: u32, y: u32, borrow: bool) -> Computed
     }
 }
 
-// AND, OR, XOR, ANDN, ORN and XNOR.
-fn combine(low: u8, x: u32, y: u32) -> u32
-    ensures { result ≡ logical low x y }
-{
-    match low {
-        0x1 => x & y,
-        0x2 => x | y,
-        0x3 => x ^ y,
-        0x5 => x & !y,
-        0x6 => x | !y,
-        _ => x ^ !y,
-    }
-}
-
-// All arithmetic but products, by the low four bits of op3.
-#[tactic(auto, unfolding(sparc_table::specs::Arithmetic::computed))]
-#[inline(always)]
-fn compute(low: u8, x: u32, y: u32, carry: bool) -> Computed
-    ensures value { result.value ≡ (computed low x y (from_bool carry)).value }
-    ensures overflow { result.overflow ≡ (computed low x y (from_bool carry)).overflow }
-    ensures carry { result.carry ≡ (computed low x y (from_bool carry)).carry }
-{
-    match low {
-        0x0 => add(x, y, false),
-        0x4 => subtract(x, y, false),
-        0x8 => add(x, y, carry),
-        0xc => subtract(x, y, carry),
-        _ => Computed {
-            value: combine(low, x, y),
-            overflow: false,
-            carry: false,
-        },
-    }
-}
-
 // The value alone.
 #[tactic(auto, unfolding(sparc_table::specs::Arithmetic::computed))]
 #[inline(always)]
-fn value(low: u8, x: u32, y: u32, carry: bool) -> u32
-    ensures { result ≡ (computed low x y (from_bool carry)).value }
+fn value(operation: Operation, x: u32, y: u32, carry: bool) -> u32
+    ensures { result ≡ (computed (low_of operation) x y (from_bool carry)).value }
 {
-    match low {
-        0x0 => x.wrapping_add(y),
-        0x4 => x.wrapping_sub(y),
-        0x8 => x.wrapping_add(y).wrapping_add(u32::from(carry)),
-        0xc => x.wrapping_sub(y).wrapping_sub(u32::from(carry)),
-        _ => combine(low, x, y),
+    match operation {
+        Operation::Add => x.wrapping_add(y),
+        Operation::And => x & y,
+        Operation::Or => x | y,
+        Operation::Xor => x ^ y,
+        Operation::Sub => x.wrapping_sub(y),
+        Operation::Andn => x & !y,
+        Operation::Orn => x | !y,
+        Operation::Xnor => x ^ !y,
+        Operation::Addx => x.wrapping_add(y).wrapping_add(u32::from(carry)),
+        Operation::Subx => x.wrapping_sub(y).wrapping_sub(u32::from(carry)),
+    }
+}
+
+// The value with its codes. Logic clears overflow and carry.
+#[tactic(auto, unfolding(sparc_table::specs::Arithmetic::computed))]
+#[inline(always)]
+fn compute(operation: Operation, x: u32, y: u32, carry: bool) -> Computed
+    ensures value { result.value ≡ (computed (low_of operation) x y (from_bool carry)).value }
+    ensures overflow { result.overflow ≡ (computed (low_of operation) x y (from_bool carry)).overflow }
+    ensures carry { result.carry ≡ (computed (low_of operation) x y (from_bool carry)).carry }
+{
+    match operation {
+        Operation::Add => add(x, y, false),
+        Operation::Sub => subtract(x, y, false),
+        Operation::Addx => add(x, y, carry),
+        Operation::Subx => subtract(x, y, carry),
+        Operation::And
+        | Operation::Or
+        | Operation::Xor
+        | Operation::Andn
+        | Operation::Orn
+        | Operation::Xnor => Computed {
+            value: value(operation, x, y, carry),
+            overflow: false,
+            carry: false,
+        },
     }
 }
 
@@ -146,19 +180,19 @@ fn assign_product(rd: u8, product: u64, regs: &mut Regs)
 // The rows of arithmetic and of the forms that set codes.
 #[tactic(auto, unfolding(sparc_table::specs::Arithmetic::arithmetic))]
 #[inline(always)]
-pub fn calculate(op3: u8, rd: u8, x: u32, y: u32, regs: &mut Regs)
+pub fn calculate(row: Arithmetic, rd: u8, x: u32, y: u32, regs: &mut Regs)
     requires { rd < 32 }
-    ensures { regs.new ≡ arithmetic op3 rd x y regs.old }
+    ensures { regs.new ≡ arithmetic (op3_of_arithmetic row) rd x y regs.old }
 {
-    match op3 {
-        0x0a => assign_product(rd, u64::from(x) * u64::from(y), regs),
-        0x0b => assign_product(rd, multiply_signed(x, y), regs),
-        0x00..=0x0f => regs.set(rd, value(op3, x, y, regs.c)),
-        _ => {
-            let computed = compute(op3 & 0xf, x, y, regs.c);
+    match row {
+        Arithmetic::Plain(operation) => regs.set(rd, value(operation, x, y, regs.c)),
+        Arithmetic::Coded(operation) => {
+            let computed = compute(operation, x, y, regs.c);
             set_codes(computed, regs);
             regs.set(rd, computed.value);
         }
+        Arithmetic::Umul => assign_product(rd, u64::from(x) * u64::from(y), regs),
+        Arithmetic::Smul => assign_product(rd, multiply_signed(x, y), regs),
     }
 }
 
@@ -172,15 +206,15 @@ fn set_codes(computed: Computed, regs: &mut Regs)
     regs.c = computed.carry;
 }
 
-// SLL, SRL and SRA.
+// The word that a shift makes.
 #[tactic(auto, unfolding(sparc_table::specs::Arithmetic::shifted))]
-pub fn shift(op3: u8, x: u32, y: u32) -> u32
-    ensures { result ≡ shifted op3 x y }
+pub fn shift_word(row: Shift, x: u32, y: u32) -> u32
+    ensures { result ≡ shifted (op3_of_shift row) x y }
 {
     let count = y & 0x1f;
-    match op3 {
-        0x25 => x << count,
-        0x26 => x >> count,
-        _ => (x.cast_signed() >> count).cast_unsigned(),
+    match row {
+        Shift::Left => x << count,
+        Shift::Right => x >> count,
+        Shift::SignedRight => (x.cast_signed() >> count).cast_unsigned(),
     }
 }

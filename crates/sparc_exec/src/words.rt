@@ -3,17 +3,18 @@ ghost use Rattle.alw_num.specs.Lanes.{IsAligned};
 ghost use Rattle.alw_num.specs.declared.addresses.LineNo.{LineNo};
 ghost use Rattle.alw_num.specs.declared.states.Mode.{Mode};
 ghost use Rattle.sparc_table.specs.Fields.{bits_of, op_of, op2_of, op3_of, rd_of, rs1_of, annul_of, cond_of};
-ghost use Rattle.sparc_table.specs.Table.{is_in, arithmetic, shifts, accesses, register_in, operand_in, short_operand_in};
+ghost use Rattle.sparc_table.specs.Table.{is_in, accesses, register_in, operand_in, short_operand_in};
 ghost use Rattle.sparc_table.specs.Registers.{register, with_register};
 ghost use Rattle.sparc_table.specs.Access.{width_of, is_load};
 ghost use Rattle.sparc_table.specs.Control.{next};
 ghost use Rattle.sparc_table.specs.Meaning.{accessed};
 ghost use Rattle.sparc_exec.specs.Ports.{granted};
+ghost use Rattle.sparc_exec.specs.Rows.{op3_of_arithmetic, op3_of_shift};
 ghost use Rattle.sparc_exec.specs.Runs.{seen, IsRunOn};
 ghost use Rattle.sparc_exec.specs.Words.{row_of, rows, value_of, IsRunOf, IsRunBeside};
 
 use crate::accesses::{is_load, line_at, load, store};
-use crate::arithmetic::{calculate, shift, sign_extend_13};
+use crate::arithmetic::{Arithmetic, Operation, Shift, calculate, shift_word, sign_extend_13};
 use crate::control::{advance, branch, call, jump, trap_on};
 use crate::ports::Port;
 use alw_num::{LineNo, Mode};
@@ -30,31 +31,31 @@ pub fn run_word<P: Port>(word: u32, regs: &mut Regs, port: &mut P) -> Outcome
 {
     let row = row(word);
     match row {
-        0x80 => arith(0x00, word, regs),
-        0x81 => arith(0x01, word, regs),
-        0x82 => arith(0x02, word, regs),
-        0x83 => arith(0x03, word, regs),
-        0x84 => arith(0x04, word, regs),
-        0x85 => arith(0x05, word, regs),
-        0x86 => arith(0x06, word, regs),
-        0x87 => arith(0x07, word, regs),
-        0x88 => arith(0x08, word, regs),
-        0x8a => arith(0x0a, word, regs),
-        0x8b => arith(0x0b, word, regs),
-        0x8c => arith(0x0c, word, regs),
-        0x90 => arith(0x10, word, regs),
-        0x91 => arith(0x11, word, regs),
-        0x92 => arith(0x12, word, regs),
-        0x93 => arith(0x13, word, regs),
-        0x94 => arith(0x14, word, regs),
-        0x95 => arith(0x15, word, regs),
-        0x96 => arith(0x16, word, regs),
-        0x97 => arith(0x17, word, regs),
-        0x98 => arith(0x18, word, regs),
-        0x9c => arith(0x1c, word, regs),
-        0xa5 => shifted(0x25, word, regs),
-        0xa6 => shifted(0x26, word, regs),
-        0xa7 => shifted(0x27, word, regs),
+        0x80 => arith(Arithmetic::Plain(Operation::Add), word, regs),
+        0x81 => arith(Arithmetic::Plain(Operation::And), word, regs),
+        0x82 => arith(Arithmetic::Plain(Operation::Or), word, regs),
+        0x83 => arith(Arithmetic::Plain(Operation::Xor), word, regs),
+        0x84 => arith(Arithmetic::Plain(Operation::Sub), word, regs),
+        0x85 => arith(Arithmetic::Plain(Operation::Andn), word, regs),
+        0x86 => arith(Arithmetic::Plain(Operation::Orn), word, regs),
+        0x87 => arith(Arithmetic::Plain(Operation::Xnor), word, regs),
+        0x88 => arith(Arithmetic::Plain(Operation::Addx), word, regs),
+        0x8a => arith(Arithmetic::Umul, word, regs),
+        0x8b => arith(Arithmetic::Smul, word, regs),
+        0x8c => arith(Arithmetic::Plain(Operation::Subx), word, regs),
+        0x90 => arith(Arithmetic::Coded(Operation::Add), word, regs),
+        0x91 => arith(Arithmetic::Coded(Operation::And), word, regs),
+        0x92 => arith(Arithmetic::Coded(Operation::Or), word, regs),
+        0x93 => arith(Arithmetic::Coded(Operation::Xor), word, regs),
+        0x94 => arith(Arithmetic::Coded(Operation::Sub), word, regs),
+        0x95 => arith(Arithmetic::Coded(Operation::Andn), word, regs),
+        0x96 => arith(Arithmetic::Coded(Operation::Orn), word, regs),
+        0x97 => arith(Arithmetic::Coded(Operation::Xnor), word, regs),
+        0x98 => arith(Arithmetic::Coded(Operation::Addx), word, regs),
+        0x9c => arith(Arithmetic::Coded(Operation::Subx), word, regs),
+        0xa5 => shifted(Shift::Left, word, regs),
+        0xa6 => shifted(Shift::Right, word, regs),
+        0xa7 => shifted(Shift::SignedRight, word, regs),
         0xa8 => read_y(word, regs),
         0xb0 => write_y(word, regs),
         0xb8 => jump_to(word, regs),
@@ -249,33 +250,30 @@ fn call_to(word: u32, regs: &mut Regs) -> Outcome
 
 // Arithmetic and logic, with and without codes.
 #[inline(always)]
-fn arith(op3: u8, word: u32, regs: &mut Regs) -> Outcome
+fn arith(row: Arithmetic, word: u32, regs: &mut Regs) -> Outcome
     requires op { op_of word ≡ 2 }
-    requires op3 { op3_of word ≡ op3 }
-    requires row { IsTrue (is_in arithmetic op3) }
+    requires op3 { op3_of word ≡ op3_of_arithmetic row }
     ensures { IsRunBeside word regs.old regs.new result }
 {
     let Some(y) = second(word, regs) else {
         return OUTSIDE;
     };
-    calculate(op3, rd(word), first(word, regs), y, regs);
+    calculate(row, rd(word), first(word, regs), y, regs);
     advance(regs);
     Outcome::Done
 }
 
 // SLL, SRL and SRA.
 #[inline(always)]
-fn shifted(op3: u8, word: u32, regs: &mut Regs) -> Outcome
+fn shifted(row: Shift, word: u32, regs: &mut Regs) -> Outcome
     requires op { op_of word ≡ 2 }
-    requires op3 { op3_of word ≡ op3 }
-    requires row { IsTrue (is_in shifts op3) }
-    requires other { IsFalse (is_in arithmetic op3) }
+    requires op3 { op3_of word ≡ op3_of_shift row }
     ensures { IsRunBeside word regs.old regs.new result }
 {
     let Some(y) = shift_count(word, regs) else {
         return OUTSIDE;
     };
-    let value = shift(op3, first(word, regs), y);
+    let value = shift_word(row, first(word, regs), y);
     assign(rd(word), value, regs)
 }
 
