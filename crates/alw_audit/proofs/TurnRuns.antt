@@ -15,7 +15,7 @@ use Rattle.alw_audit.specs.declared.verdicts.Verdict.TheVariants.{Differs}
 use Rattle.alw_audit.specs.Verdicts.{stop_number, turns_verdict}
 
 -- what the turns that are left say, behind those that are taken, is what all say
-pub record IsUnderWay (parts : Parts) (first now : Flat) (turns left : List ℕ) (k : ℕ) (printed prints : List (ℕ × ℕ)) : Type 0 where
+pub record TurnsAreUnderWay (parts : Parts) (first now : Flat) (turns left : List ℕ) (k : ℕ) (printed prints : List (ℕ × ℕ)) : Type 0 where
   pub verdict : turns_verdict parts now k left ≡ turns_verdict parts first 0 turns
   pub prints_are : prints ++ turns_print parts now left ≡ printed ++ turns_print parts first turns
   pub after : turns_after parts now left ≡ turns_after parts first turns
@@ -24,7 +24,7 @@ pub turn_ready : (parts : Parts) (now : Flat) (k context : ℕ) (rest : List ℕ
 turn_ready parts now k context rest ready = ap (λ (b : Bool). if b then turns_verdict parts (flat_turn parts now context).0 (k + 1) rest else Differs (Turn k) context (stop_number (context_at now context).status)) ready
 
 pub goes_on : (parts : Parts) (first now next : Flat) (turns left rest : List ℕ) (k context : ℕ) (outcome : Outcome) (printed prints more : List (ℕ × ℕ)) → left ≡ context ∷ rest → is_ready (context_at now context).status ≡ true → next ≡ (flat_turn parts now context).0 → outcome ≡ (flat_turn parts now context).1
-    → more ≡ prints ++ print_of context outcome → IsUnderWay parts first now turns left k printed prints → IsUnderWay parts first next turns rest (k + 1) printed more
+    → more ≡ prints ++ print_of context outcome → TurnsAreUnderWay parts first now turns left k printed prints → TurnsAreUnderWay parts first next turns rest (k + 1) printed more
 goes_on parts first now next turns left rest k context outcome printed prints more head ready moved ended grown way = record {
   verdict = ap (λ (f : Flat). turns_verdict parts f (k + 1) rest) moved ∙ sym (turn_ready parts now k context rest ready) ∙ ap (turns_verdict parts now k) (sym head) ∙ way.verdict;
   prints_are = ap (λ (f : Flat). more ++ turns_print parts f rest) moved

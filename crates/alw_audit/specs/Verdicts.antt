@@ -37,9 +37,9 @@ stop_number (Trapped pc tt) = 2
 stop_number _ = 0
 
 -- the values of a verdict are of 32 bits
-abbrev pub AreWords : Verdict → Type 0
-AreWords Sound = ⊤
-AreWords (Differs place claimed real) = (claimed < 2 ^ 32) × (real < 2 ^ 32)
+abbrev pub VerdictIsOfWords : Verdict → Type 0
+VerdictIsOfWords Sound = ⊤
+VerdictIsOfWords (Differs place claimed real) = (claimed < 2 ^ 32) × (real < 2 ^ 32)
 
 -- the first difference, or else the second
 abbrev pub or_else : Verdict → Verdict → Verdict

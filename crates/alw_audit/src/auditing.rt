@@ -3,7 +3,7 @@ ghost use Rattle.std.specs.List.{AllByRecursion};
 ghost use Rattle.alw_image.specs.Images.{context_count};
 ghost use Rattle.alw_model.specs.Flat.{print_of, turns_after, turns_print};
 ghost use Rattle.alw_audit.specs.declared.verdicts.Verdict.TheVariants.{Sound};
-ghost use Rattle.alw_audit.specs.Verdicts.{AreWords, IsAuditable, ClaimIsSound, stop_number, turns_verdict, verdict_of};
+ghost use Rattle.alw_audit.specs.Verdicts.{VerdictIsOfWords, IsAuditable, ClaimIsSound, stop_number, turns_verdict, verdict_of};
 
 use crate::memory::words_verdict;
 use crate::prints::prints_verdict;
@@ -22,7 +22,7 @@ pub fn audit(alloc: Global, claim: &Claim) -> Result<Verdict, NoMemory>
     requires { IsAuditable claim.now }
     ensures verdict { IfOk result (λ verdict. verdict ≡ verdict_of claim.now) }
     ensures sound { IfOk result (λ verdict. (verdict ≡ Sound) ↔ ClaimIsSound claim.now) }
-    ensures words { IfOk result AreWords }
+    ensures words { IfOk result VerdictIsOfWords }
 {
     first_difference(alloc, claim)
 }
@@ -31,7 +31,7 @@ pub fn audit(alloc: Global, claim: &Claim) -> Result<Verdict, NoMemory>
 fn first_difference(alloc: Global, claim: &Claim) -> Result<Verdict, NoMemory>
     requires { IsAuditable claim.now }
     ensures verdict { IfOk result (λ verdict. verdict ≡ verdict_of claim.now) }
-    ensures words { IfOk result AreWords }
+    ensures words { IfOk result VerdictIsOfWords }
 {
     let (turn_count, print_count) = (claim.turns.len(), claim.prints.len());
     prove!(turn_count <= u32::MAX && print_count <= u32::MAX);
@@ -58,7 +58,7 @@ fn run_turns(flat: &mut Flat, turns: &[u32], prints: &mut Prints) -> Result<Verd
     requires prints { length prints.old ≡ 0 }
     ensures verdict { IfOk result (λ verdict. verdict ≡ turns_verdict flat.old.parts flat.old.flat 0 turns.now) }
     ensures prints { IfOk result (λ verdict. verdict ≡ Sound → prints.new ≡ turns_print flat.old.parts flat.old.flat turns.now) }
-    ensures words { IfOk result AreWords }
+    ensures words { IfOk result VerdictIsOfWords }
     ensures state { IfOk result (λ verdict. verdict ≡ Sound → flat.new ≡ record flat.old { flat = turns_after flat.old.parts flat.old.flat turns.now }) }
 {
     let mut k = 0;

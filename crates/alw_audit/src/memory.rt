@@ -1,6 +1,6 @@
 ghost use Rattle.std.specs.Prelude.{◌≡◌, ◌<◌, ◌≤◌, ◌+◌, ◌*◌, ◌%◌, ◌^◌, ℕ};
 ghost use Rattle.alw_image.specs.Images.{line_count};
-ghost use Rattle.alw_audit.specs.Verdicts.{WordsAreFrom, AreWords, claimed_word, words_verdict};
+ghost use Rattle.alw_audit.specs.Verdicts.{WordsAreFrom, VerdictIsOfWords, claimed_word, words_verdict};
 
 use crate::verdicts::{Difference, Verdict};
 use alw_flat::Flat;
@@ -12,7 +12,7 @@ pub fn words_verdict(flat: &Flat, lines: u32, memory: &[(u32, u32)]) -> Verdict
     requires few { lines ≤ MOST_LINES }
     requires words { WordsAreFrom SHARED_BASE memory.now }
     ensures verdict { result ≡ words_verdict memory.now flat.now.flat SHARED_BASE (4 * lines) }
-    ensures words { AreWords result }
+    ensures words { VerdictIsOfWords result }
 {
     let mut rest = memory;
     for number in 0..4 * lines {

@@ -1,5 +1,5 @@
 ghost use Rattle.std.specs.Prelude.{◌≡◌, ◌<◌, ◌^◌, [], ◌∷◌, length};
-ghost use Rattle.alw_audit.specs.Verdicts.{AreWords, pairs_verdict, prints_verdict};
+ghost use Rattle.alw_audit.specs.Verdicts.{VerdictIsOfWords, pairs_verdict, prints_verdict};
 
 use crate::verdicts::{Difference, Verdict};
 
@@ -8,7 +8,7 @@ pub fn prints_verdict(claimed: &[(u32, u32)], real: &[(u32, u32)]) -> Verdict
     requires claimed { length claimed.now < 2 ^ 32 }
     requires real { length real.now < 2 ^ 32 }
     ensures verdict { result ≡ prints_verdict claimed.now real.now }
-    ensures words { AreWords result }
+    ensures words { VerdictIsOfWords result }
 {
     if claimed.len() != real.len() {
         return Verdict::Differs {
@@ -29,7 +29,7 @@ pub fn prints_verdict(claimed: &[(u32, u32)], real: &[(u32, u32)]) -> Verdict
 // One print: its context, and its word.
 fn pair_verdict(k: u32, claimed: (u32, u32), real: (u32, u32)) -> Verdict
     ensures verdict { result ≡ pairs_verdict k (claimed ∷ []) (real ∷ []) }
-    ensures words { AreWords result }
+    ensures words { VerdictIsOfWords result }
 {
     if claimed.0 != real.0 {
         return Verdict::Differs {

@@ -51,18 +51,18 @@ found_start cell senders found are empty from none = ap (λ S. has_node S from) 
     ∙ (has-none from ∙ sym (false_from_ne_true (may_happen cell (delivery from cell.node.number)) (λ may. true≢false (sym (has_come cell from may) ∙ (sym (are from) ∙ none)))))
 
 -- what is asked of a cell's row
-pub record IsRow (cell : Cell) (row : Row) : Type 0 where
+pub record IsCellRow (cell : Cell) (row : Row) : Type 0 where
   pub in_time : row.in_time ≡ true
   pub instr : row.instr ≡ may_happen cell (instr_at cell.node.number)
   pub handle : row.handle ≡ may_happen cell (handle_at cell.node.number)
   pub senders : (from : ℕ) → has_node (nodes_of row.senders) from ≡ may_happen cell (delivery from cell.node.number)
 
-pub row_says : (cell : Cell) (row : Row) → IsRow cell row → row_events cell.node.number row ≡ next_events cell
+pub row_says : (cell : Cell) (row : Row) → IsCellRow cell row → row_events cell.node.number row ≡ next_events cell
 row_says cell row is =
     row_is (may_happen cell) (node_count cell.node.parts) cell.node.number row (λ _. record { instr = is.instr; handle = is.handle; senders = λ from aside. is.senders from })
     (λ late. absurd (true≢false (sym is.in_time ∙ late))) (sender_exists cell)
 
-pub row_counts : (cell : Cell) (row : Row) → IsRow cell row → row_count row ≡ length (next_events cell)
+pub row_counts : (cell : Cell) (row : Row) → IsCellRow cell row → row_count row ≡ length (next_events cell)
 row_counts cell row is = sym (row_length cell.node.number row) ∙ ap length (row_says cell row is)
 
 -- where nothing may be delivered, the others alone count
@@ -88,7 +88,7 @@ pub picks : (cell : Cell) (number : ℕ) (event : Event) → 0 < length (next_ev
 picks cell number event some is =
     ap (λ b. cond b (cond (is_evicted cell number) (Some (asked_eviction cell number)) (slice_get (next_events cell) (number % length (next_events cell)))) None) (some_there (next_events cell) some) ∙ is
 
-pub picks_evicted : (cell : Cell) (row : Row) (number : ℕ) (event : Event) → IsRow cell row → 0 < row_count row → cond (is_evicted cell number) (Some (asked_eviction cell number)) None ≡ Some event
+pub picks_evicted : (cell : Cell) (row : Row) (number : ℕ) (event : Event) → IsCellRow cell row → 0 < row_count row → cond (is_evicted cell number) (Some (asked_eviction cell number)) None ≡ Some event
     → picked_event cell number ≡ Some event
 picks_evicted cell row number event is some evicted = picks cell number event (subst (λ n. 0 < n) (row_counts cell row is) some) (go (is_evicted cell number) evicted)
   where
@@ -96,7 +96,7 @@ picks_evicted cell row number event is some evicted = picks cell number event (s
     go true is = is
     go false is = absurd (cc)
 
-pub picks_nth : (cell : Cell) (row : Row) (number at count : ℕ) (event : Event) → IsRow cell row → at ≡ cell.node.number → count ≡ row_count row → 0 < count
+pub picks_nth : (cell : Cell) (row : Row) (number at count : ℕ) (event : Event) → IsCellRow cell row → at ≡ cell.node.number → count ≡ row_count row → 0 < count
     → ((asked : Event) → cond (is_evicted cell number) (Some (asked_eviction cell number)) None ≡ Some asked → ⊥) → slice_get (row_events at row) (number % count) ≡ Some event → picked_event cell number ≡ Some event
 picks_nth cell row number at count event is at_is count_is some none nth =
     let whole : count ≡ length (next_events cell) = count_is ∙ row_counts cell row is in
@@ -122,7 +122,7 @@ picks_instr cell senders number are none quiet evict happens =
     empty : (from : ℕ) → has_node (nodes_of senders) from ≡ false
     empty from = ap (λ S. has_node S from) none ∙ has-none from
 
-    is_row : IsRow cell row
+    is_row : IsCellRow cell row
     is_row = record {
       in_time = refl;
       instr = sym happens;

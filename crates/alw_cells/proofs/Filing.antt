@@ -11,10 +11,10 @@ use Rattle.alw_model.specs.NodeStates.{NodeState, node_start, stamp_of}
 use Rattle.alw_model.specs.NodeSteps.{node_step}
 use Rattle.alw_model.specs.Threads.{Logged, takes_rightly, node_after}
 use Rattle.alw_model.proofs.Journals.{and_parts}
-use Rattle.alw_node.specs.Nodes.{Whole, Steps}
+use Rattle.alw_node.specs.Nodes.{Whole, IsNodeStep}
 use Rattle.alw_cells.specs.Cells.{Cell, IsCell}
 use Rattle.alw_cells.specs.Choice.{taken_by, may_happen}
-use Rattle.alw_cells.specs.Records.{BodyIsPlain, SendsAreOfEvent, IsRecord, AreBelow}
+use Rattle.alw_cells.specs.Records.{BodyIsPlain, SendsAreOfEvent, IsRecord, StampsAreBelow}
 use Rattle.alw_cells.proofs.Runs.{enabled, may_be, takes, stamps_within}
 use Rattle.alw_cells.proofs.Sends.{step_so}
 use Rattle.law_order.proofs.Clocks.{stamp_above}
@@ -22,24 +22,24 @@ use Rattle.law_order.proofs.Clocks.{stamp_above}
 -- its stamp is above those of the log
 pub rises : (cell : Cell) (event : Event) (taken : Option Msg) (sent sent' : Sending) (after : Whole) (did : Did) (stamp : ℕ) (log : List Logged)
     → IsCell cell → log ≡ cell.log
-    → Steps cell.node after sent sent' did (node_step cell.node.parts cell.node.parameters cell.node.number cell.node.state event taken)
-    → stamp ≡ after.state.clock → AreBelow stamp log
+    → IsNodeStep cell.node after sent sent' did (node_step cell.node.parts cell.node.parameters cell.node.number cell.node.state event taken)
+    → stamp ≡ after.state.clock → StampsAreBelow stamp log
 rises cell event taken sent sent' after did stamp log is log_is steps stamp_is =
     let stamped : stamp ≡ stamp_of cell.node.state.clock taken = stamp_is ∙ ap (λ (w : Whole). w.state.clock) steps.node in
     let node = cell.node in
     let clock : node.state.clock ≡ (node_after node.parts node.parameters node.number (node_start node.parts node.number) cell.log).clock =
     ap (λ (n : NodeState). n.clock) is.state in
-    subst (AreBelow stamp) (sym log_is) (below cell.log _ (omega (arith, stamped, clock, stamp_above node.state.clock taken))
+    subst (StampsAreBelow stamp) (sym log_is) (below cell.log _ (omega (arith, stamped, clock, stamp_above node.state.clock taken))
     (stamps_within node.parts node.parameters node.number (node_start node.parts node.number) cell.log is.run))
   where
-    below : (log : List Logged) (clock : ℕ) → clock < stamp → AllByRecursion (λ (logged : Logged). logged.entry.stamp ≤ clock) log → AreBelow stamp log
+    below : (log : List Logged) (clock : ℕ) → clock < stamp → AllByRecursion (λ (logged : Logged). logged.entry.stamp ≤ clock) log → StampsAreBelow stamp log
     below [] clock above all = tt
     below (first ∷ rest) clock above all = (omega (arith, above, all.0), below rest clock above all.1)
 
 -- as the calls in it say
 pub filed : (cell : Cell) (event : Event) (taken : Option Msg) (sent sent' : Sending) (after : Whole) (did : Did) (stamp number : ℕ)
     → may_happen cell event ≡ true → taken ≡ taken_by cell.come event → IfSome taken BodyIsPlain
-    → Steps cell.node after sent sent' did (node_step cell.node.parts cell.node.parameters cell.node.number cell.node.state event taken)
+    → IsNodeStep cell.node after sent sent' did (node_step cell.node.parts cell.node.parameters cell.node.number cell.node.state event taken)
     → stamp ≡ after.state.clock → number ≡ cell.node.number → length sent'.messages < 2 ^ 16
     → IsRecord number (record { entry = record { stamp = stamp; event = event }; taken = taken; sent = sent'.messages })
 filed cell event taken sent sent' after did stamp number may taken_is plain steps stamp_is own few =

@@ -18,7 +18,7 @@ use Rattle.alw_image.specs.Parameters.{Parameters}
 use Rattle.alw_model.specs.declared.steps.Did.{Did}
 use Rattle.alw_model.specs.NodeSteps.{node_step}
 use Rattle.alw_model.specs.Threads.{Logged, sent_to}
-use Rattle.alw_node.specs.Nodes.{Whole, Steps, whole_start}
+use Rattle.alw_node.specs.Nodes.{Whole, IsNodeStep, whole_start}
 use Rattle.alw_node.proofs.KeptMembers.{start_same}
 use Rattle.alw_cells.specs.Logs.{Written}
 use Rattle.alw_cells.specs.Cells.{Cell, IsBackPart, in_from, picked, without_first}
@@ -136,7 +136,7 @@ length_taken come (Handle at) = refl
 length_taken come (Deliver from to) = length-set come from.0 (behind (in_from come from.0))
 length_taken come (Evict at emptied) = refl
 
-module _ (cell : Cell) (event : Event) (sent sent' : Sending) (after : Whole) (did : Did) (steps : Steps cell.node after sent sent' did (stepped_by cell event)) where
+module _ (cell : Cell) (event : Event) (sent sent' : Sending) (after : Whole) (did : Did) (steps : IsNodeStep cell.node after sent sent' did (stepped_by cell event)) where
   -- its record as it was put in the log
   abbrev pub put_in : Logged
   put_in = record { entry = record { stamp = after.state.clock; event = event }; taken = taken_by cell.come event; sent = sent'.messages }
@@ -162,13 +162,13 @@ module _ (cell : Cell) (event : Event) (sent sent' : Sending) (after : Whole) (d
 -- what an event leaves, as the calls in it say
 module _ (cell : Cell) (event : Event) (taken : Option Msg) (sent sent' : Sending) (after : Whole) (did : Did) (stamp : ℕ) (log log' : List Logged) (come' : List (List Msg)) (pending pending' : List (ℕ × Msg)) (dids dids' : List Did)
     (taken_is : taken ≡ taken_by cell.come event)
-    (raw : Steps cell.node after sent sent' did (node_step cell.node.parts cell.node.parameters cell.node.number cell.node.state event taken))
+    (raw : IsNodeStep cell.node after sent sent' did (node_step cell.node.parts cell.node.parameters cell.node.number cell.node.state event taken))
     (stamp_is : stamp ≡ after.state.clock) (log_is : log ≡ cell.log)
     (put : log' ≡ log ++ record { entry = record { stamp = stamp; event = event }; taken = taken; sent = sent'.messages } ∷ [])
     (come_is : come' ≡ come_taken cell.come event) (pending_is : pending ≡ cell.pending) (more : pending' ≡ pending ++ sent'.messages)
     (dids_is : dids ≡ cell.dids) (answered : dids' ≡ dids ++ did ∷ []) where
-  steps : Steps cell.node after sent sent' did (stepped_by cell event)
-  steps = subst (λ (o : Option Msg). Steps cell.node after sent sent' did (node_step cell.node.parts cell.node.parameters cell.node.number cell.node.state event o)) taken_is raw
+  steps : IsNodeStep cell.node after sent sent' did (stepped_by cell event)
+  steps = subst (λ (o : Option Msg). IsNodeStep cell.node after sent sent' did (node_step cell.node.parts cell.node.parameters cell.node.number cell.node.state event o)) taken_is raw
 
   abbrev its_log : List Logged
   its_log = cell.log ++ record { entry = record { stamp = after.state.clock; event = event }; taken = taken_by cell.come event; sent = sent'.messages } ∷ []

@@ -14,7 +14,7 @@ use Rattle.alw_model.specs.Threads.{Logged, takes_rightly}
 use Rattle.alw_cells.specs.Layout.{word, half, tag_of, argument_of, taken_bytes, sent_bytes, front_bytes, back_bytes, record_bytes, log_bytes}
 use Rattle.alw_cells.specs.Records.{BodyIsPlain, IsRecord, FitsMsg, FitsEvent, FitsRecord, AreRecords, word_in, half_in, event_by, event_in}
 use Rattle.alw_cells.specs.Records.{sends_in, behind_sends, HasSends, taken_in, taken_size, entry_in, count_in, sends_at, behind_record, logged_in, records_in}
-use Rattle.alw_cells.specs.Records.{HasRecords, AreBelow, Ascends, ArePacked}
+use Rattle.alw_cells.specs.Records.{HasRecords, StampsAreBelow, Ascends, ArePacked}
 use Rattle.alw_cells.proofs.Packing.{word_back, half_back, half_length, taken_back, msg_size_is, taken_length, sends_back}
 
 -- ---- the front of a record
@@ -180,7 +180,7 @@ module _ (number events : ℕ) (bytes : List ℕ) (packed : bytes ≡ log_bytes 
 
 -- ---- what each call of a log leaves
 
-ascends_push : (log : List Logged) (logged : Logged) → Ascends log → AreBelow logged.entry.stamp log → Ascends (log ++ logged ∷ [])
+ascends_push : (log : List Logged) (logged : Logged) → Ascends log → StampsAreBelow logged.entry.stamp log → Ascends (log ++ logged ∷ [])
 ascends_push [] logged ascends below = (tt, tt)
 ascends_push (first ∷ log) logged ascends below = (push log ascends.0, ascends_push log logged ascends.1 below.1)
   where
@@ -215,7 +215,7 @@ put_none logged before after none empty is =
 
 pub packed_more : (number events : ℕ) (bytes after : List ℕ) (room capacity grown : ℕ) (logged : Logged) → ArePacked number events bytes room capacity
     → IsRecord number logged → FitsRecord logged → after ≡ bytes ++ record_bytes logged
-    → AreBelow logged.entry.stamp (records_in number events bytes) → 1 ≤ room → length after ≤ grown → ArePacked number (events + 1) after 0 grown
+    → StampsAreBelow logged.entry.stamp (records_in number events bytes) → 1 ≤ room → length after ≤ grown → ArePacked number (events + 1) after 0 grown
 packed_more number events bytes after room capacity grown logged are is fits put below some place =
     let read = read_more number events bytes are.packed are.records logged after is fits put in
     let log = records_in number events bytes in

@@ -77,8 +77,8 @@ abbrev pub AreRecords : ℕ → List Logged → Type 0
 AreRecords number log = AllByRecursion (λ (logged : Logged). IsRecord number logged × FitsRecord logged) log
 
 -- stamps rise: each event has a greater one than those before it
-abbrev pub AreBelow : ℕ → List Logged → Type 0
-AreBelow stamp log = AllByRecursion (λ (logged : Logged). logged.entry.stamp < stamp) log
+abbrev pub StampsAreBelow : ℕ → List Logged → Type 0
+StampsAreBelow stamp log = AllByRecursion (λ (logged : Logged). logged.entry.stamp < stamp) log
 
 abbrev pub Ascends : List Logged → Type 0
 Ascends [] = Unit {0}

@@ -2,7 +2,7 @@ ghost use Rattle.std.specs.Prelude.{◌≡◌, ◌<◌, ◌+◌, ◌↔◌, fals
 ghost use Rattle.alw_model.specs.Threads.{took_from, sent_to, IsFront};
 ghost use Rattle.alw_cells.specs.Layout.{log_bytes};
 ghost use Rattle.alw_msg.specs.declared.messages.Msg.{Msg};
-ghost use Rattle.alw_cells.specs.Records.{IsRecord, AreBelow, Ascends};
+ghost use Rattle.alw_cells.specs.Records.{IsRecord, StampsAreBelow, Ascends};
 ghost use Rattle.alw_cells.specs.Receiving.{took_by};
 ghost use Rattle.alw_cells.specs.Logs.{reading_of};
 
@@ -124,7 +124,7 @@ impl Log {
     #[inline(always)]
     pub fn push(&mut self, entry: Entry, taken: Option<Msg>, sent: &Sends)
         requires record { IsRecord self.old.number (record { entry = entry; taken = taken; sent = sent.now.messages }) }
-        requires stamp { AreBelow entry.stamp self.old.entries }
+        requires stamp { StampsAreBelow entry.stamp self.old.entries }
         requires room { length sent.now.messages < self.old.room }
         ensures { self.new ≡ record { number = self.old.number; entries = self.old.entries ++ record { entry = entry; taken = taken; sent = sent.now.messages } ∷ []; room = 0 } }
     {

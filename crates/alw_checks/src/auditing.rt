@@ -1,7 +1,7 @@
 ghost use Rattle.std.specs.Prelude.{◌≡◌, ◌<◌, ◌^◌, ◌++◌, IfOk, OnOk};
 ghost use Rattle.std.specs.List.{AllByRecursion};
 ghost use Rattle.alw_image.specs.Images.{context_count};
-ghost use Rattle.alw_audit.specs.Verdicts.{AreWords};
+ghost use Rattle.alw_audit.specs.Verdicts.{VerdictIsOfWords};
 ghost use Rattle.alw_checks.specs.Auditing.{Audits, IsNoClaim, audit_text, ending_of_verdict, told_before, verdict_text, place_text, print_context, values_text};
 ghost use Rattle.alw_answers.specs.Outputs.{Gives};
 
@@ -32,7 +32,7 @@ fn audit_text(
     verdict: Verdict,
 ) -> Result<Text, NoMemory>
     requires turns { AllByRecursion (λ context. context < context_count claim.now.image) claim.now.turns }
-    requires words { AreWords verdict }
+    requires words { VerdictIsOfWords verdict }
     ensures { IfOk result (λ text. text ≡ audit_text form claim.now verdict) }
 {
     let mut text = told_before(alloc, form, claim)?;
@@ -68,7 +68,7 @@ fn ending_of_verdict(verdict: Verdict) -> Ending
 // The line of a verdict.
 #[tactic(auto, unfolding(crate::specs::Auditing::sound_line))]
 fn put_verdict(text: &mut Text, verdict: Verdict) -> Result<(), NoMemory>
-    requires { AreWords verdict }
+    requires { VerdictIsOfWords verdict }
     ensures { OnOk result (text.new ≡ text.old ++ verdict_text verdict) }
 {
     match verdict {

@@ -31,11 +31,11 @@ by_row {X} P (row ∷ rest) word found all known = go (bytes_eq row.0 word) refl
     go false e this later = later this
 
 -- an option's row makes what its name makes among these options: the same choice, by the same values
-pub record Stands (options : Options) (word : List ℕ) (meaning : Meaning) : Type 0 where
+pub record MeaningStands (options : Options) (word : List ℕ) (meaning : Meaning) : Type 0 where
   pub makes_so : (k : ℕ) → makes options k word ≡ (meaning.choice == k)
   pub stands_for : (value : List ℕ) (v : Value) → value_of meaning.kind value ≡ Some v → value_behind options word value ≡ Some v
 
-itself : (options : Options) (word : List ℕ) (meaning : Meaning) → row_of options word ≡ Some meaning → Stands options word meaning
+itself : (options : Options) (word : List ℕ) (meaning : Meaning) → row_of options word ≡ Some meaning → MeaningStands options word meaning
 itself options word meaning known = record {
   makes_so = λ k. ap (λ (row : Option Meaning). option_map_or (λ (m : Meaning). m.choice == k) row false) known;
   stands_for = λ value v is. ap (option_and_then (λ (m : Meaning). value_of m.kind value)) known ∙ is;
@@ -53,10 +53,10 @@ written value v found = go (row_of forms value) refl found
         (by_row (λ word form. row_of timed_forms word ≡ Some (timed.Run form)) forms value form (refl, (refl, (refl, (refl, (refl, (refl, (refl, tt))))))) e) ∙ some
 
 -- each row of a run that isn't timed, among all rows of a run
-write_row : Stands (options_of names.Run) (codes "--write") (record { choice = 5; kind = kinds.RunForm })
+write_row : MeaningStands (options_of names.Run) (codes "--write") (record { choice = 5; kind = kinds.RunForm })
 write_row = record { makes_so = λ k. refl; stands_for = written }
 
-each_of_run : AllByRecursion (λ row. Stands (options_of names.Run) row.0 row.1) run_options
+each_of_run : AllByRecursion (λ row. MeaningStands (options_of names.Run) row.0 row.1) run_options
 each_of_run = let own = itself (options_of names.Run) in (own _ _ refl, (own _ _ refl, (own _ _ refl, (own _ _ refl, (own _ _ refl, (own _ _ refl, (write_row, tt)))))))
 
 -- a row of a timed run
@@ -70,14 +70,14 @@ row_of-append (row ∷ rest) more word meaning known = go (bytes_eq row.0 word) 
     go false found later = later found
 
 pub stands : (name : Name) (chosen : ℕ → Bool) (word : List ℕ) (meaning : Meaning) → row_of (open_by name chosen) word ≡ Some meaning
-    → Stands (options_of name) word meaning
+    → MeaningStands (options_of name) word meaning
 stands names.Run chosen word meaning known = go (chosen 6) (chosen 0 || chosen 4) known
   where
     go : (a b : Bool) → row_of (cond a timed_options (cond b run_options (cycles_option ∷ run_options))) word ≡ Some meaning
-        → Stands (options_of names.Run) word meaning
+        → MeaningStands (options_of names.Run) word meaning
     go true b found = itself (options_of names.Run) word meaning (row_of-append timed_options draw_options word meaning found)
-    go false true found = by_row (Stands (options_of names.Run)) run_options word meaning each_of_run found
-    go false false found = by_row (Stands (options_of names.Run)) (cycles_option ∷ run_options) word meaning (itself _ _ _ refl, each_of_run) found
+    go false true found = by_row (MeaningStands (options_of names.Run)) run_options word meaning each_of_run found
+    go false false found = by_row (MeaningStands (options_of names.Run)) (cycles_option ∷ run_options) word meaning (itself _ _ _ refl, each_of_run) found
 stands names.Timed chosen word meaning known = itself (options_of names.Timed) word meaning (row_of-append timed_options draw_options word meaning known)
 stands _ chosen word meaning known = itself _ word meaning known
 

@@ -18,10 +18,10 @@ use Rattle.alw_config.specs.Places.{IsRefusedBehind, is_bad_option, is_bad_name,
 use Rattle.alw_config.specs.Choices.{HavePlaces, ChoicesAreMade, ValuesAreAllowed, is_allowed, is_chosen, open_now, taken_now}
 use Rattle.alw_config.proofs.Allowed.{value_of_kind, row_allowed, chosen_allowed}
 use Rattle.alw_config.proofs.Made.{made_at, is_made-more, made-last, made-before, count, count-le, count-set, is_none}
-use Rattle.alw_config.proofs.Opened.{by_row, Stands, stands, open_same, taken_same, untimed_before, untimed_row}
+use Rattle.alw_config.proofs.Opened.{by_row, MeaningStands, stands, open_same, taken_same, untimed_before, untimed_row}
 use Rattle.alw_config.proofs.Stops.{bad_name, bad_value, right_behind}
 
-pub record IsUnderWay (name : Name) (words left : List (List ℕ)) (chosen : List (Option Made)) (at : ℕ) : Type 0 where
+pub record WordsAreUnderWay (name : Name) (words left : List (List ℕ)) (chosen : List (Option Made)) (at : ℕ) : Type 0 where
   pub done : List (List ℕ)
   pub parts : words ≡ done ++ left
   pub place : at ≡ length done + 1
@@ -33,7 +33,7 @@ pub record IsUnderWay (name : Name) (words left : List (List ℕ)) (chosen : Lis
   pub untimed : taken name done ≡ names.Run → ValuesAreAllowed run_options chosen
 
 pub begins : (name : Name) (words : List (List ℕ)) (chosen : List (Option Made)) → length chosen ≡ 17 → count chosen ≡ 0
-    → ((k : ℕ) → k < 17 → slice_index_or chosen k None ≡ None) → IsUnderWay name words words chosen 1
+    → ((k : ℕ) → k < 17 → slice_index_or chosen k None ≡ None) → WordsAreUnderWay name words words chosen 1
 begins name words chosen sized none each = record {
   done = [];
   parts = refl;
@@ -47,12 +47,12 @@ begins name words chosen sized none each = record {
 }
 
 -- no place is far, since few choices are left
-pub near : (name : Name) (words left : List (List ℕ)) (chosen : List (Option Made)) (at : ℕ) → IsUnderWay name words left chosen at →
+pub near : (name : Name) (words left : List (List ℕ)) (chosen : List (Option Made)) (at : ℕ) → WordsAreUnderWay name words left chosen at →
     at ≤ 2 * 17 + 1
 near name words left chosen at way = omega (arith, way.place, way.pairs, way.sized, count-le chosen)
 
 -- what stands open by the choices that are made does so behind the words that are read
-open_so : (name : Name) (words left : List (List ℕ)) (chosen : List (Option Made)) (at : ℕ) (way : IsUnderWay name words left chosen at) (word : List ℕ)
+open_so : (name : Name) (words left : List (List ℕ)) (chosen : List (Option Made)) (at : ℕ) (way : WordsAreUnderWay name words left chosen at) (word : List ℕ)
     (o : Option Meaning) → row_of (open_now name chosen) word ≡ o → row_of (open_options name way.done) word ≡ o
 open_so name words left chosen at way word o known =
     ap (λ (options : Options). row_of options word)
@@ -64,7 +64,7 @@ behind_is : (options : Options) (word value : List ℕ) (meaning : Meaning) → 
 behind_is options word value meaning known = ap (option_and_then (λ (m : Meaning). value_of m.kind value)) known
 
 module _ (name : Name) (words : List (List ℕ)) (word : List ℕ) (left : List (List ℕ)) (chosen : List (Option Made)) (at : ℕ)
-    (way : IsUnderWay name words (word ∷ left) chosen at) where
+    (way : WordsAreUnderWay name words (word ∷ left) chosen at) where
   -- refused at a name
   stops : is_bad_name name way.done word ≡ true → IsRefusedBehind name words at
   stops bad =
@@ -137,10 +137,10 @@ set_sized : (chosen : List (Option Made)) (k : ℕ) (o : Option Made) → length
 set_sized chosen k o = grind (arith, common_steps)
 
 pub goes_on : (name : Name) (words : List (List ℕ)) (word value : List ℕ) (left : List (List ℕ)) (chosen : List (Option Made)) (at : ℕ) →
-    IsUnderWay name words (word ∷ value ∷ left) chosen at
+    WordsAreUnderWay name words (word ∷ value ∷ left) chosen at
     → (meaning : Meaning) → row_of (open_now name chosen) word ≡ Some meaning → meaning.choice < 17 →
     is_some (slice_index_or chosen meaning.choice None) ≡ false → (v : Value) → value_of meaning.kind value ≡ Some v
-    → IsUnderWay name words left (slice_set chosen meaning.choice (Some (made_at (at + 1) v))) (at + 2)
+    → WordsAreUnderWay name words left (slice_set chosen meaning.choice (Some (made_at (at + 1) v))) (at + 2)
 goes_on name words word value left chosen at way meaning known within fresh v allowed = record {
   done = more;
   parts = way.parts ∙ sym (append_assoc way.done (word ∷ value ∷ []) left);
@@ -166,7 +166,7 @@ goes_on name words word value left chosen at way meaning known within fresh v al
     now : List (Option Made)
     now = slice_set chosen meaning.choice (Some (made_at (at + 1) v))
 
-    whole : Stands options word meaning
+    whole : MeaningStands options word meaning
     whole = stands name (is_chosen chosen) word meaning known
 
     longer : length more ≡ length way.done + 2
@@ -226,7 +226,7 @@ goes_on name words word value left chosen at way meaning known within fresh v al
         rw here (row_allowed run_options meaning.choice word meaning v row (eq-eqb meaning.choice meaning.choice refl)
         (value_of_kind meaning.kind value v allowed))
 
-pub ends : (name : Name) (words : List (List ℕ)) (chosen : List (Option Made)) (at : ℕ) → IsUnderWay name words [] chosen at →
+pub ends : (name : Name) (words : List (List ℕ)) (chosen : List (Option Made)) (at : ℕ) → WordsAreUnderWay name words [] chosen at →
     ChoicesAreMade name words chosen
 ends name words chosen at way = record {
   right = λ i. ⊎_elim (way.right i)

@@ -14,7 +14,7 @@ use Rattle.alw_runs.specs.Forms.{IsTold}
 use Rattle.alw_answers.specs.Tasks.{Task}
 
 -- a machine goes on by the draws of a seed, which begin anew, to one with this journal, which begins with its own
-pub record GoesOn (machine : History) (seed : ℕ) (journal : List Entry) : Type 0 where
+pub record GoesOnBySeed (machine : History) (seed : ℕ) (journal : List Entry) : Type 0 where
   pub later : List Entry
   pub begins : journal ≡ machine.journal ++ later
   pub seeded : MachineIsSeeded machine seed (record machine { journal = journal })
@@ -23,7 +23,7 @@ pub record GoesOn (machine : History) (seed : ℕ) (journal : List Entry) : Type
 pub record Resumes (seed evict : ℕ) (form : Form) (bytes : List ℕ) (output : Output) : Type 0 where
   pub machine : History
   pub checkpoint : IsCheckpoint bytes evict machine
-  pub goes_on : GoesOn machine seed output.journal
+  pub goes_on : GoesOnBySeed machine seed output.journal
   pub told : IsTold machine.image machine.parameters form output
   pub merged : output.merged ≡ 0
 

@@ -102,12 +102,12 @@ next_is h event entry may event_is stamp_is =
     record { enabled = rw event_is parts.0; within = rw event_is parts.1; stamp = stamp_is ∙ ap (λ e. stamp_at h.image (state_of h) e) (sym event_is) }
 
 -- the events so far are timed, and the times are kept
-pub record IsUnderWay (before : History) (start : Timekeeper) (h : History) (now : Timekeeper) : Type 0 where
+pub record FinishIsUnderWay (before : History) (start : Timekeeper) (h : History) (now : Timekeeper) : Type 0 where
   pub events : List Event
   pub timed_are : EventsAreTimed before start.costs events h
   pub kept : TimesAreKept start h now
 
-pub begins : (before : History) (start : Timekeeper) → TimesAreKept start before start → IsUnderWay before start before start
+pub begins : (before : History) (start : Timekeeper) → TimesAreKept start before start → FinishIsUnderWay before start before start
 begins before start kept = record { events = []; timed_are = refl; kept = kept }
 
 -- times that are kept on, from what was kept
@@ -122,8 +122,8 @@ kept_on start h now after later so_far more = record {
 }
 
 pub goes_on : (before : History) (start : Timekeeper) (h : History) (now : Timekeeper) (event : Event) (after : History) (later : Timekeeper) →
-    IsUnderWay before start h now → end_in h ≡ None → IsFirstDue h now.costs now.times.clocks event → after ≡ grown h event →
-    TimesAreKept now after later → IsUnderWay before start after later
+    FinishIsUnderWay before start h now → end_in h ≡ None → IsFirstDue h now.costs now.times.clocks event → after ≡ grown h event →
+    TimesAreKept now after later → FinishIsUnderWay before start after later
 goes_on before start h now event after later so_far going first after_is kept = record {
   events = so_far.events ++ event ∷ [];
   timed_are = rw after_is (timed_more before start.costs so_far.events h event so_far.timed_are (record { going = going; first = first_too }));

@@ -13,7 +13,7 @@ use Rattle.alw_model.specs.Contexts.{status_start}
 use Rattle.alw_model.specs.Flat as model
 use Rattle.alw_model.specs.Flat.{context_start}
 use Rattle.alw_flat.specs.declared.machines.Context.{Context}
-use Rattle.alw_flat.specs.Machines.{HasSizes}
+use Rattle.alw_flat.specs.Machines.{HasFlatSizes}
 use Rattle.alw_flat.specs.Contexts.{context_of, contexts_of, machine_of}
 use Rattle.std.proofs.lemmas.List.FromFn.{length-map-range_with_len, map-range_with_len_more}
 
@@ -54,7 +54,7 @@ started parts number count start regs status start_is regs_are count_is status_i
 -- ---- the sizes
 
 pub has_sizes : (image parts : Parts) (memory : List Line) (contexts : List Context) (lines count : ℕ) → line_count parts ≡ line_count image → context_count parts ≡ context_count image → lines ≡ line_count image → count ≡ context_count image
-    → memory ≡ map (body_of image) (range_with_len 0 lines) → contexts_of contexts ≡ map (context_start image) (range_with_len 0 count) → HasSizes (machine_of parts memory contexts)
+    → memory ≡ map (body_of image) (range_with_len 0 lines) → contexts_of contexts ≡ map (context_start image) (range_with_len 0 count) → HasFlatSizes (machine_of parts memory contexts)
 has_sizes image parts memory contexts lines count same_lines same_contexts lines_are count_is memory_is contexts_are = record {
   memory = ap length memory_is ∙ (length-map-range_with_len (body_of image) 0 lines ∙ (lines_are ∙ sym same_lines));
   contexts = ap length contexts_are ∙ (length-map-range_with_len (context_start image) 0 count ∙ (count_is ∙ sym same_contexts));

@@ -24,7 +24,7 @@ abbrev pub for_turns : Parts → Parts
 for_turns parts = record parts { bodies = []; starts = []; always = [] }
 
 -- all lines and all contexts that the sizes say
-pub record HasSizes (machine : FlatMachine) : Type 0 where
+pub record HasFlatSizes (machine : FlatMachine) : Type 0 where
   pub memory : length machine.flat.memory ≡ line_count machine.parts
   pub contexts : length machine.flat.contexts ≡ context_count machine.parts
 

@@ -41,14 +41,14 @@ pub struct Flat {
 
 impl Model for Flat {
     ghost use Rattle.std.specs.Prelude.{[]};
-    ghost use Rattle.alw_flat.specs.Machines.{FlatMachine, HasSizes};
+    ghost use Rattle.alw_flat.specs.Machines.{FlatMachine, HasFlatSizes};
     ghost use Rattle.alw_flat.specs.Contexts.{machine_of};
 
     ghost Value = { FlatMachine };
 
     ghost view = { λ f. machine_of (record { width = f.width; height = f.height; contexts = f.slots; per_node = f.per_node; code = f.code; bodies = []; starts = []; always = [] }) f.memory f.contexts.items };
 
-    ghost invariant = { λ f. HasSizes (machine_of (record { width = f.width; height = f.height; contexts = f.slots; per_node = f.per_node; code = f.code; bodies = []; starts = []; always = [] }) f.memory f.contexts.items) };
+    ghost invariant = { λ f. HasFlatSizes (machine_of (record { width = f.width; height = f.height; contexts = f.slots; per_node = f.per_node; code = f.code; bodies = []; starts = []; always = [] }) f.memory f.contexts.items) };
 }
 
 impl Flat {

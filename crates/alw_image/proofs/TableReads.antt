@@ -7,14 +7,14 @@ use Rattle.alw_image.specs.Faults.{table_of}
 use Rattle.alw_image.specs.TableReads.{IsMember, TableIsWhole}
 
 -- so many members are read, and the rest is to come
-pub record IsRead {X : Type 0} (read : List ℕ → X) (spell : X → List ℕ) (Good : X → Type 0) (size count : ℕ) (bytes : List ℕ) (so_far : List X) (rest : List ℕ) : Type 0 where
+pub record TableIsRead {X : Type 0} (read : List ℕ → X) (spell : X → List ℕ) (Good : X → Type 0) (size count : ℕ) (bytes : List ℕ) (so_far : List X) (rest : List ℕ) : Type 0 where
   pub left : ℕ
   pub number : length so_far + left ≡ count
   pub bytes_left : length rest ≡ size * left
   pub reading : table_of read size count bytes ≡ so_far ++ table_of read size left rest
   pub spelled : AllByRecursion Good so_far → bytes ≡ flat_map spell so_far ++ rest
 
-pub begins : {X : Type 0} (read : List ℕ → X) (spell : X → List ℕ) (Good : X → Type 0) (size count : ℕ) (bytes : List ℕ) → length bytes ≡ size * count → IsRead read spell Good size count bytes [] bytes
+pub begins : {X : Type 0} (read : List ℕ → X) (spell : X → List ℕ) (Good : X → Type 0) (size count : ℕ) (bytes : List ℕ) → length bytes ≡ size * count → TableIsRead read spell Good size count bytes [] bytes
 begins read spell Good size count bytes long = record { left = count; number = omega arith; bytes_left = long; reading = refl; spelled = λ good. refl }
 
 all-front : {X : Type 0} (Good : X → Type 0) (xs : List X) (x : X) → AllByRecursion Good (xs ++ x ∷ []) → AllByRecursion Good xs × Good x
@@ -27,7 +27,7 @@ flat_map-push spell (y ∷ ys) x rest = append_assoc (spell y) (flat_map spell (
 
 goes_on_by : {X : Type 0} (read : List ℕ → X) (spell : X → List ℕ) (Good : X → Type 0) (size count : ℕ) (bytes : List ℕ) (so_far : List X) (rest : List ℕ) (x : X) (after : List ℕ) (left : ℕ) → 1 ≤ size →
     length so_far + left ≡ count → length rest ≡ size * left → table_of read size count bytes ≡ so_far ++ table_of read size left rest → (AllByRecursion Good so_far → bytes ≡ flat_map spell so_far ++ rest) →
-    IsMember read spell Good size rest x after → IsRead read spell Good size count bytes (so_far ++ x ∷ []) after
+    IsMember read spell Good size rest x after → TableIsRead read spell Good size count bytes (so_far ++ x ∷ []) after
 goes_on_by read spell Good size count bytes so_far rest x after zero some number bytes_left reading spelled m =
     absurd (omega (arith, m.bytes_left, (let none : size * 0 ≡ 0 = omega arith in bytes_left ∙ none)))
 goes_on_by read spell Good size count bytes so_far rest x after (suc left) some number bytes_left reading spelled m = record {
@@ -39,11 +39,11 @@ goes_on_by read spell Good size count bytes so_far rest x after (suc left) some 
 }
 
 pub goes_on : {X : Type 0} (read : List ℕ → X) (spell : X → List ℕ) (Good : X → Type 0) (size count : ℕ) (bytes : List ℕ) (so_far : List X) (rest : List ℕ) (x : X) (after : List ℕ) → 1 ≤ size →
-    IsRead read spell Good size count bytes so_far rest → IsMember read spell Good size rest x after → IsRead read spell Good size count bytes (so_far ++ x ∷ []) after
+    TableIsRead read spell Good size count bytes so_far rest → IsMember read spell Good size rest x after → TableIsRead read spell Good size count bytes (so_far ++ x ∷ []) after
 goes_on read spell Good size count bytes so_far rest x after some r m = goes_on_by read spell Good size count bytes so_far rest x after r.left some r.number r.bytes_left r.reading r.spelled m
 
 -- there is room for one more while bytes are left
-pub has_left : {X : Type 0} (read : List ℕ → X) (spell : X → List ℕ) (Good : X → Type 0) (size count : ℕ) (bytes : List ℕ) (so_far : List X) (rest : List ℕ) → IsRead read spell Good size count bytes so_far rest → 1 ≤ length rest → length so_far < count
+pub has_left : {X : Type 0} (read : List ℕ → X) (spell : X → List ℕ) (Good : X → Type 0) (size count : ℕ) (bytes : List ℕ) (so_far : List X) (rest : List ℕ) → TableIsRead read spell Good size count bytes so_far rest → 1 ≤ length rest → length so_far < count
 has_left read spell Good size count bytes so_far rest r some = has_left_by size count (length so_far) (length rest) r.left some r.number r.bytes_left
   where
     has_left_by : (size count read rest left : ℕ) → 1 ≤ rest → read + left ≡ count → rest ≡ size * left → read < count
@@ -58,5 +58,5 @@ ends_by read spell Good size count bytes so_far rest zero number bytes_left read
     record { reading = reading ∙ append-nil so_far; spelled = λ good. spelled good ∙ ap (λ ys. flat_map spell so_far ++ ys) none ∙ append-nil (flat_map spell so_far); number = omega arith }
 ends_by read spell Good size count bytes so_far rest (suc left) number bytes_left reading spelled few = absurd (omega (arith, bytes_left ∙ mul-suc size left))
 
-pub ends : {X : Type 0} (read : List ℕ → X) (spell : X → List ℕ) (Good : X → Type 0) (size count : ℕ) (bytes : List ℕ) (so_far : List X) (rest : List ℕ) → IsRead read spell Good size count bytes so_far rest → length rest < size → TableIsWhole read spell Good size count bytes so_far
+pub ends : {X : Type 0} (read : List ℕ → X) (spell : X → List ℕ) (Good : X → Type 0) (size count : ℕ) (bytes : List ℕ) (so_far : List X) (rest : List ℕ) → TableIsRead read spell Good size count bytes so_far rest → length rest < size → TableIsWhole read spell Good size count bytes so_far
 ends read spell Good size count bytes so_far rest r few = ends_by read spell Good size count bytes so_far rest r.left r.number r.bytes_left r.reading r.spelled few

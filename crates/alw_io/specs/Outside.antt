@@ -28,14 +28,14 @@ pub record AppendsPart (before after : Option (List ℕ)) (bytes : List ℕ) : T
   pub appended : Appends before after sent
 
 -- what an answer says of the bytes that were taken, of which at most so many were wanted
-abbrev pub Told : ℕ → Option (List ℕ) → List ℕ → Result (List ℕ) ReadErr → Type 0
-Told most after taken (Ok bytes) = (bytes ≡ taken) × IsAtEnd after × (length taken ≤ most)
-Told most after taken (Err errors.TooLong) = most < length taken
-Told most after taken (Err errors.Failed) = length taken ≤ most
-Told most after taken (Err errors.NoMemory) = length taken ≤ most
+abbrev pub AnswerTells : ℕ → Option (List ℕ) → List ℕ → Result (List ℕ) ReadErr → Type 0
+AnswerTells most after taken (Ok bytes) = (bytes ≡ taken) × IsAtEnd after × (length taken ≤ most)
+AnswerTells most after taken (Err errors.TooLong) = most < length taken
+AnswerTells most after taken (Err errors.Failed) = length taken ≤ most
+AnswerTells most after taken (Err errors.NoMemory) = length taken ≤ most
 
 -- some bytes were taken from the front of the rest, and the answer tells the truth of them
 pub record Took (most : ℕ) (before after : Option (List ℕ)) (result : Result (List ℕ) ReadErr) : Type 0 where
   pub taken : List ℕ
   pub from_front : Consumes before after taken
-  pub told : Told most after taken result
+  pub told : AnswerTells most after taken result

@@ -12,7 +12,7 @@ use Rattle.alw_model.specs.declared.steps.Did.TheVariants.{Took, Packet}
 use Rattle.alw_model.specs.LimitLess.{Directory, is_trapped, is_in_progress, hardware_act, trapped}
 use Rattle.alw_model.specs.Messages.{to_caches}
 use Rattle.alw_model.specs.Sides.{Memory, entry_at}
-use Rattle.alw_model.specs.MemorySteps.{MemoryStep, Steps, home_at, with_entry, at_home, takes}
+use Rattle.alw_model.specs.MemorySteps.{MemoryStep, IsMemoryStep, home_at, with_entry, at_home, takes}
 use Rattle.law_entry.proofs.Soundness.{trapped_sound, hardware_sound}
 use Rattle.law_entry.proofs.Pointers.{hardware_points, trap_points}
 use Rattle.dir_full.specs.Reactions.{with_sends, HasRoom}
@@ -49,16 +49,16 @@ says msg goes = go msg.kind refl goes
 -- ---- a step
 
 -- what has become of a memory side is this step's, and is one again
-pub record Goes (m after : Memory) (sent sent' : Sending) (did : Did) (step : MemoryStep) : Type 0 where
-  pub steps : Steps m after sent sent' did step
+pub record DeliveryGoes (m after : Memory) (sent sent' : Sending) (did : Did) (step : MemoryStep) : Type 0 where
+  pub steps : IsMemoryStep m after sent sent' did step
   pub stands : IsMemory after
 
 pub goes_as : (m after after' : Memory) (sent sent' : Sending) (did did' : Did) (step step' : MemoryStep) → after ≡ after' → did ≡ did' → step ≡ step'
-    → Goes m after' sent sent' did' step' → Goes m after sent sent' did step
+    → DeliveryGoes m after' sent sent' did' step' → DeliveryGoes m after sent sent' did step
 goes_as m after after' sent sent' did did' step step' a b c goes =
-    subst (λ (x : Memory). Goes m x sent sent' did step) (sym a)
-    (subst (λ (x : Did). Goes m after' sent sent' x step) (sym b)
-    (subst (λ (x : MemoryStep). Goes m after' sent sent' did' x) (sym c) goes))
+    subst (λ (x : Memory). DeliveryGoes m x sent sent' did step) (sym a)
+    (subst (λ (x : Did). DeliveryGoes m after' sent sent' x step) (sym b)
+    (subst (λ (x : MemoryStep). DeliveryGoes m after' sent sent' did' x) (sym c) goes))
 
 -- the packets, and what was done, by whether the message trapped
 abbrev pub packets_after : List Msg → Msg → Bool → List Msg
@@ -97,7 +97,7 @@ module _ (m : Memory) (msg : Msg) (e : Directory) (result : Acted) (sent sent' :
 
   by_trap : (said : ToMemory) → content msg ≡ ForMemory said → (b : Bool) → is_trapped m.pointers (home_at m msg.line.0) msg.src.0 said ≡ b → (traps : Bool)
       → traps ≡ has_trapped result
-      → Goes m (left e traps) sent sent' (did_after traps) (takes sent.stamp m msg (content msg))
+      → DeliveryGoes m (left e traps) sent sent' (did_after traps) (takes sent.stamp m msg (content msg))
   by_trap said content_is true t traps when =
       let is_result : result ≡ acted.Trapped = delivers.outcome ∙ (ap (answer_of m.pointers D msg.src.0) content_is
       ∙ (ap (λ p. answer_by p (is_trapped m.pointers D msg.src.0 said)) free ∙ ap (answer_by false) t)) in
@@ -137,10 +137,10 @@ module _ (m : Memory) (msg : Msg) (e : Directory) (result : Acted) (sent sent' :
             (acted_stands m.pointers m.nodes D msg.src.0 said is.pointers (is.entries (msg.line.0 % m.per_node)) from t free) free free;
       })
 
-  pub delivered : (traps : Bool) → traps ≡ has_trapped result → Goes m (left e traps) sent sent' (did_after traps) (takes sent.stamp m msg (content msg))
+  pub delivered : (traps : Bool) → traps ≡ has_trapped result → DeliveryGoes m (left e traps) sent sent' (did_after traps) (takes sent.stamp m msg (content msg))
   delivered traps when = by_said (says msg goes)
     where
-      by_said : Says msg → Goes m (left e traps) sent sent' (did_after traps) (takes sent.stamp m msg (content msg))
+      by_said : Says msg → DeliveryGoes m (left e traps) sent sent' (did_after traps) (takes sent.stamp m msg (content msg))
       by_said (Said said content_is) = by_trap said content_is (is_trapped m.pointers (home_at m msg.line.0) msg.src.0 said) refl traps when
 
 -- there is room for the packet, and for the sends

@@ -15,7 +15,7 @@ use Rattle.alw_model.specs.declared.steps.Did.{Did}
 use Rattle.alw_model.specs.declared.steps.Did.TheVariants.{Handled}
 use Rattle.alw_model.specs.LimitLess.{Directory, full_map_of, is_in_progress}
 use Rattle.alw_model.specs.Sides.{Memory}
-use Rattle.alw_model.specs.MemorySteps.{MemoryStep, Steps, home_at, with_entry, takes, handle_front}
+use Rattle.alw_model.specs.MemorySteps.{MemoryStep, IsMemoryStep, home_at, with_entry, takes, handle_front}
 use Rattle.dir_full.specs.Reactions.{HasRoom, keeping_of}
 use Rattle.dir_hw.specs.declared.entries.HomeEntry.{HomeEntry}
 use Rattle.dir_soft.specs.Tables.{Table, set_of_line, used_lines}
@@ -26,7 +26,7 @@ use Rattle.alw_trap.specs.Handling.{Handles}
 use Rattle.alw_memory.specs.declared.memories.HomeLine.{HomeLine}
 use Rattle.alw_memory.specs.declared.memories.Memory.TheInside.{Inside}
 use Rattle.alw_memory.specs.Memories.{IsMemory, SendsAreBegun, IsPacket}
-use Rattle.alw_memory.specs.Lines.{entries_from, IsTable, has_trapped}
+use Rattle.alw_memory.specs.Lines.{entries_from, IsSoftTable, has_trapped}
 use Rattle.alw_memory.specs.Insides.{memory_in, MemoryIsKept}
 use Rattle.alw_memory.proofs.Entries.{home_line, entry_read, entries_set, line_is}
 use Rattle.alw_memory.proofs.Standing.{front_progress, packet_fits}
@@ -96,13 +96,13 @@ module _ (m : Inside) (v : Memory) (is : memory_in m ≡ v) (kept : MemoryIsKept
           sizes ∙ ((λ k. with_homes (memory_in m) (there k) (waits k))
           ∙ ap (λ (x : Memory). with_homes x (with_entry x line (directory_of e (set_of_line after.soft line) home.always)) packets) is)
 
-      pub kept_after : IsMemory (memory_in after) → IsTable m.number.0 m.per_node after.soft → m.per_node ≤ deque_capacity after.packets → MemoryIsKept after
+      pub kept_after : IsMemory (memory_in after) → IsSoftTable m.number.0 m.per_node after.soft → m.per_node ≤ deque_capacity after.packets → MemoryIsKept after
       kept_after memory table room =
           let size = ap (λ (x : Memory). x.per_node) sizes in
           record {
             memory = memory;
             lines = omega (arith, ap length homes, length-set m.homes.items place (home_line e home.always), kept.lines, size);
-            table = subst (λ (x : Memory). IsTable x.number x.per_node after.soft) (sym sizes) table;
+            table = subst (λ (x : Memory). IsSoftTable x.number x.per_node after.soft) (sym sizes) table;
             first = first ∙ (kept.first ∙ sym (ap (λ (x : Memory). x.number * x.per_node) sizes));
             room = omega (arith, room, size);
           }
@@ -114,7 +114,7 @@ with_line m place home = record m { homes = with_item m.homes place home }
 -- what has become of a memory side as it is kept is this step's
 pub record Becomes (v : Memory) (after : Inside) (sent sent' : Sending) (did : Did) (step : MemoryStep) : Type 0 where
   pub kept : MemoryIsKept after
-  pub steps : Steps v (memory_in after) sent sent' did step
+  pub steps : IsMemoryStep v (memory_in after) sent sent' did step
 
 -- ---- a message to memory
 
@@ -159,8 +159,8 @@ module _ (m : Inside) (v : Memory) (is : memory_in m ≡ v) (kept : MemoryIsKept
       record {
         kept = kept_after m v is kept msg.line.0 place placed home read of after e (packets_after m.packets.items msg traps) sizes first homes waits
             (λ l other. ap (λ (t : Table). set_of_line t l) soft) (subst IsMemory (sym becomes) step.stands)
-            (subst (IsTable m.number.0 m.per_node) (sym soft) kept.table) room;
-        steps = subst (λ (x : Memory). Steps v x sent sent' (did_after traps) (takes sent.stamp v msg (content msg))) (sym becomes) step.steps;
+            (subst (IsSoftTable m.number.0 m.per_node) (sym soft) kept.table) room;
+        steps = subst (λ (x : Memory). IsMemoryStep v x sent sent' (did_after traps) (takes sent.stamp v msg (content msg))) (sym becomes) step.steps;
       }
 
 -- ---- the handler
@@ -228,9 +228,9 @@ module _ (m : Inside) (v : Memory) (is : memory_in m ≡ v) (kept : MemoryIsKept
         let becomes = changed m v is kept packet.line.0 _ placed home read one.home after e rest sizes first homes waits others in
         record {
           kept = kept_after m v is kept packet.line.0 _ placed home read one.home after e rest sizes first homes waits others (subst IsMemory (sym becomes) step.stands)
-              (subst (IsTable m.number.0 m.per_node) (sym handles.soft)
+              (subst (IsSoftTable m.number.0 m.per_node) (sym handles.soft)
               (table_stands m.number.0 m.per_node packet.line.0 m.soft d.software keeping (rw (← is) at one.home) kept.table)) room;
-          steps = subst (λ (x : Memory). Steps v x sent sent' (Handled packet.kind home.entry.state) (handle_front sent.stamp v v.packets)) (sym becomes)
-              (subst (λ (x : Directory). Steps v (with_homes v (with_entry v packet.line.0 d) rest) sent sent' (Handled packet.kind x.state)
+          steps = subst (λ (x : Memory). IsMemoryStep v x sent sent' (Handled packet.kind home.entry.state) (handle_front sent.stamp v v.packets)) (sym becomes)
+              (subst (λ (x : Directory). IsMemoryStep v (with_homes v (with_entry v packet.line.0 d) rest) sent sent' (Handled packet.kind x.state)
               (handle_front sent.stamp v v.packets)) entry_is step.steps);
         }

@@ -20,7 +20,7 @@ use Rattle.alw_trap.specs.Handling.{Handles, handler_on}
 use Rattle.alw_memory.specs.Memories.{IsMemory, SendsAreBegun, IsPacket, Stands}
 use Rattle.alw_memory.proofs.Entries.{line_is}
 use Rattle.alw_memory.proofs.Standing.{handle_keeps}
-use Rattle.alw_memory.proofs.Deliveries.{Says, Said, says, Goes, goes_as, with_homes}
+use Rattle.alw_memory.proofs.Deliveries.{Says, Said, says, DeliveryGoes, goes_as, with_homes}
 
 handled_stands : (most nodes : ℕ) (d : Directory) (i : ℕ) (m : ToMemory) → 1 ≤ most → Stands most nodes d → i < nodes → Stands most nodes (handle d i m).0
 handled_stands most nodes d i m some is l = record { sound = handler_sound most d i m some is.sound; points = handler_points nodes i l d m is.points }
@@ -56,10 +56,10 @@ module _ (m : Memory) (packet : Msg) (rest : List Msg) (e : Directory) (table ta
   abbrev pub left : Directory → Memory
   left entry = with_homes m (with_entry m packet.line.0 entry) rest
 
-  pub handled : Goes m (left e) sent sent' (Handled packet.kind (home_at m packet.line.0).state) (handle_front sent.stamp m m.packets)
+  pub handled : DeliveryGoes m (left e) sent sent' (Handled packet.kind (home_at m packet.line.0).state) (handle_front sent.stamp m m.packets)
   handled = by_said (says packet one.to_memory)
     where
-      by_said : Says packet → Goes m (left e) sent sent' (Handled packet.kind (home_at m packet.line.0).state) (handle_front sent.stamp m m.packets)
+      by_said : Says packet → DeliveryGoes m (left e) sent sent' (Handled packet.kind (home_at m packet.line.0).state) (handle_front sent.stamp m m.packets)
       by_said (Said said content_is) =
           let after = handle D packet.src.0 said in
           let entry_is : e ≡ after.0 = handles.entry ∙ ap (λ c. (handler_on D packet.src.0 c).0) content_is in

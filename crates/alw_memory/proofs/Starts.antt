@@ -21,7 +21,7 @@ use Rattle.law_entry.proofs.Soundness.{start_sound}
 use Rattle.law_entry.proofs.Pointers.{no_points}
 use Rattle.dir_soft.specs.Tables.{Table, set_or_none, set_of_line, table_of}
 use Rattle.alw_memory.specs.Memories.{IsMemory, Stands, progress_of}
-use Rattle.alw_memory.specs.Lines.{IsTable, entries_from, line_start, lines_start}
+use Rattle.alw_memory.specs.Lines.{IsSoftTable, entries_from, line_start, lines_start}
 
 abbrev started : Parts → ℕ → Directory
 started parts line = directory_start (body_of parts line) (is_always parts line)
@@ -75,7 +75,7 @@ starts_as_one parts parameters number image allowed l = record {
 }
 
 -- an empty table
-pub table_starts : (number per_node : ℕ) → IsTable number per_node (table_of per_node per_node empty_map)
+pub table_starts : (number per_node : ℕ) → IsSoftTable number per_node (table_of per_node per_node empty_map)
 table_starts number per_node = record { lines = refl; keys = λ line set e. absurd (none (sym (value-empty line) ∙ e)) }
   where
     none : {X : Type 0} {x : X} → None ≡ Some x → ⊥

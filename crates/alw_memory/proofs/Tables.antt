@@ -8,7 +8,7 @@ use Rattle.alw_model.specs.declared.steps.Keeping.{Keeping}
 use Rattle.alw_model.specs.declared.steps.Keeping.TheVariants.{Joined, Alone, Emptied, Kept}
 use Rattle.dir_soft.specs.Tables.{Table, set_or_none, set_of_line, used_lines}
 use Rattle.alw_trap.specs.Handling.{table_after}
-use Rattle.alw_memory.specs.Lines.{IsTable}
+use Rattle.alw_memory.specs.Lines.{IsSoftTable}
 use Rattle.alw_memory.proofs.Entries.{line_is}
 use Rattle.alw_memory.proofs.TableSizes.{free_place}
 
@@ -40,7 +40,7 @@ keys_without number per_node line sets keys l set e = go (l == line) (sym (value
     go false f = keys l set f
 
 pub table_stands : (number per_node line : ℕ) (table : Table) (software : Nodes) (keeping : Keeping) → line / per_node ≡ number
-    → IsTable number per_node table → IsTable number per_node (table_after table line software keeping)
+    → IsSoftTable number per_node table → IsSoftTable number per_node (table_after table line software keeping)
 table_stands number per_node line table software Joined home is =
     record { lines = is.lines; keys = keys_with number per_node line table.sets software home is.keys }
 table_stands number per_node line table software Alone home is = record { lines = is.lines; keys = keys_without number per_node line table.sets is.keys }
@@ -48,7 +48,7 @@ table_stands number per_node line table software Emptied home is = record { line
 table_stands number per_node line table software Kept home is = is
 
 -- a home line without a set finds a free place
-pub table_room : (number per_node line : ℕ) (table : Table) → 1 ≤ per_node → line / per_node ≡ number → IsTable number per_node table
+pub table_room : (number per_node line : ℕ) (table : Table) → 1 ≤ per_node → line / per_node ≡ number → IsSoftTable number per_node table
     → value_at table.sets line ≡ None → used_lines table < table.lines
 table_room number per_node line table some home is none =
     let range : (k : ℕ) → k / per_node ≡ number → (number * per_node ≤ k) × (k < number * per_node + per_node) = λ k e.

@@ -4,7 +4,7 @@ use Rattle.std.specs.VecDeque.{deque_capacity}
 use Rattle.alw_model.specs.Sides.{Memory}
 use Rattle.alw_memory.specs.declared.memories.Memory.TheInside.{Inside}
 use Rattle.alw_memory.specs.Memories.{IsMemory}
-use Rattle.alw_memory.specs.Lines.{entries_from, IsTable}
+use Rattle.alw_memory.specs.Lines.{entries_from, IsSoftTable}
 
 -- the memory side
 abbrev pub memory_in : Inside → Memory
@@ -22,5 +22,5 @@ pub record MemoryIsKept (m : Inside) : Type 0 where
   pub memory : IsMemory (memory_in m)
   pub lines : length m.homes.items ≡ m.per_node
   pub first : m.first ≡ m.number.0 * m.per_node
-  pub table : IsTable m.number.0 m.per_node m.soft
+  pub table : IsSoftTable m.number.0 m.per_node m.soft
   pub room : m.per_node ≤ deque_capacity m.packets

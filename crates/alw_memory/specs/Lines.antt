@@ -20,7 +20,7 @@ entries_from line [] table = []
 entries_from line (home ∷ rest) table = directory_of home.entry (set_of_line table line) home.always ∷ entries_from (line + 1) rest table
 
 -- a software table has room for each home line, and sets of home lines alone
-pub record IsTable (number per_node : ℕ) (table : Table) : Type 0 where
+pub record IsSoftTable (number per_node : ℕ) (table : Table) : Type 0 where
   pub lines : table.lines ≡ per_node
   pub keys : (line : ℕ) (set : Nodes) → value_at table.sets line ≡ Some set → line / per_node ≡ number
 

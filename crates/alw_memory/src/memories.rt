@@ -4,7 +4,7 @@ ghost use Rattle.alw_msg.specs.Contents.{content};
 ghost use Rattle.alw_msg.specs.Lists.{is_nonempty};
 ghost use Rattle.alw_image.specs.Images.{node_count, line_count};
 ghost use Rattle.alw_model.specs.LimitLess.{is_in_progress};
-ghost use Rattle.alw_model.specs.MemorySteps.{Steps, home_at, takes, handle_front};
+ghost use Rattle.alw_model.specs.MemorySteps.{IsMemoryStep, home_at, takes, handle_front};
 ghost use Rattle.alw_model.specs.NodeStates.{node_start, memory_of};
 ghost use Rattle.alw_memory.specs.Lines.{has_trapped, line_start, lines_start};
 ghost use Rattle.alw_memory.specs.Views.{IsViewOf};
@@ -162,7 +162,7 @@ impl Memory {
         requires from { msg.now.src.0 < self.old.nodes }
         requires home { msg.now.line.0 / self.old.per_node ≡ self.old.number }
         requires free { is_in_progress (home_at self.old msg.now.line.0).meta ≡ false }
-        ensures { Steps self.old self.new sent.old sent.new result (takes sent.old.stamp self.old msg.now (content msg.now)) }
+        ensures { IsMemoryStep self.old self.new sent.old sent.new result (takes sent.old.stamp self.old msg.now (content msg.now)) }
     {
         let place = self.place(msg.line);
         let acted = deliver(&mut self.homes[place].entry, self.pointers, msg, sent);
@@ -176,7 +176,7 @@ impl Memory {
     /// The handler takes the front packet. Where none waits, nothing happens.
     pub fn handle(&mut self, sent: &mut Sends) -> Did
         requires begun { SendsAreBegun self.old.number self.old.nodes sent.old }
-        ensures { Steps self.old self.new sent.old sent.new result (handle_front sent.old.stamp self.old self.old.packets) }
+        ensures { IsMemoryStep self.old self.new sent.old sent.new result (handle_front sent.old.stamp self.old self.old.packets) }
     {
         let Some(packet) = self.packets.pop_front() else {
             return Did::Took;

@@ -18,7 +18,7 @@ use Rattle.alw_cells.specs.Logs.{Written, logged, Reading, after_next, entry_of}
 use Rattle.alw_cells.specs.Records.{Ascends}
 use Rattle.alw_merge.specs.Heads.{Waiting, NoneBefore, IsLeast, HaveJoined}
 use Rattle.alw_merge.specs.Spans.{log_from, logs_from}
-use Rattle.alw_merge.specs.Streams.{left_of, all_left, key_of, head_in, heads_from, LogIsRead, AreHeads, StreamIsUnderWay, heads_of, GoesOn}
+use Rattle.alw_merge.specs.Streams.{left_of, all_left, key_of, head_in, heads_from, LogIsRead, AreHeads, StreamIsUnderWay, heads_of, ReadingGoesOn}
 use Rattle.alw_merge.proofs.Skipping.{next_ends, next_ascends}
 
 -- ---- one entry taken out of others
@@ -336,7 +336,7 @@ below (first ∷ rest) zero reading there = omega arith
 below (first ∷ rest) (suc k) reading there = omega (arith, below rest k reading there)
 
 -- the log of the head that comes first
-pub record Stands (readings : List Reading) (head : ℕ) : Type 0 where
+pub record HeadStands (readings : List Reading) (head : ℕ) : Type 0 where
   pub k : ℕ
   pub reading : Reading
   pub one : Logged
@@ -346,7 +346,7 @@ pub record Stands (readings : List Reading) (head : ℕ) : Type 0 where
   pub key : head ≡ key_of k one.entry
   pub few : k < 65536
 
-pub stands : (readings : List Reading) (waiting : Waiting) (head : ℕ) → StreamIsUnderWay readings waiting → IsLeast head waiting.heads → Stands readings head
+pub stands : (readings : List Reading) (waiting : Waiting) (head : ℕ) → StreamIsUnderWay readings waiting → IsLeast head waiting.heads → HeadStands readings head
 stands readings waiting head under least =
     let has = head_found readings waiting.heads head under.heads least.among in
     record {
@@ -361,8 +361,8 @@ stands readings waiting head under least =
     }
 
 -- without the head of a log, which goes on, and with its next one
-pub goes_to_next : (readings : List Reading) (waiting rest again : Waiting) (head : ℕ) (after : Reading) (at : Stands readings head) → StreamIsUnderWay readings waiting
-    → HaveJoined rest.heads (head ∷ []) waiting.heads → rest.most ≡ waiting.most → GoesOn at.k at.reading after rest again → StreamIsUnderWay (set readings at.k after) again
+pub goes_to_next : (readings : List Reading) (waiting rest again : Waiting) (head : ℕ) (after : Reading) (at : HeadStands readings head) → StreamIsUnderWay readings waiting
+    → HaveJoined rest.heads (head ∷ []) waiting.heads → rest.most ≡ waiting.most → ReadingGoesOn at.k at.reading after rest again → StreamIsUnderWay (set readings at.k after) again
 goes_to_next readings waiting rest again head after at under popped most goes =
     let same = length-set readings at.k after in
     record {

@@ -31,7 +31,7 @@ use Rattle.alw_merge.specs.declared.spans.Move.{Move}
 use Rattle.alw_merge.specs.declared.spans.Span.{Span}
 use Rattle.alw_merge.specs.declared.walks.Walked.{Walked}
 use Rattle.alw_merge.specs.Joins.{unheld}
-use Rattle.alw_merge.specs.Spans.{between, taking_of, sending_of, moves_of, moved_by, links_moved, MovesAreWithin, told_in, IsBegun, IsWalkedOn, IsWalkedTo}
+use Rattle.alw_merge.specs.Spans.{between, taking_of, sending_of, moves_of, moved_by, links_moved, MovesAreWithin, told_in, WalkIsBegun, IsWalkedOn, IsWalkedTo}
 
 -- the first members of a list up to a later place are those up to an earlier one, and those between
 take_on : {A : Type 0} (xs : List A) (i j : ℕ) → i ≤ j → take j xs ≡ take i xs ++ between i j xs
@@ -241,7 +241,7 @@ walked_on image parameters journal i j walked span more legal before within so_f
     }
 
 -- nothing has been walked at a journal's start
-pub walked_begins : (image : Parts) (parameters : Parameters) (journal : List Entry) (walked : Walked) → IsBegun (node_count image) walked → IsWalkedTo image parameters journal 0 walked
+pub walked_begins : (image : Parts) (parameters : Parameters) (journal : List Entry) (walked : Walked) → WalkIsBegun (node_count image) walked → IsWalkedTo image parameters journal 0 walked
 unfolding state moments
 walked_begins image parameters journal walked begun = record {
   entries_are = begun.entries_are;

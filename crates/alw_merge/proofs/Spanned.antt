@@ -14,7 +14,7 @@ use Rattle.alw_model.specs.Machine.{IsLegal}
 use Rattle.alw_merge.specs.declared.spans.Span.{Span}
 use Rattle.alw_merge.specs.declared.walks.Walked.{Walked}
 use Rattle.alw_merge.specs.Joins.{JournalIsWalked}
-use Rattle.alw_merge.specs.Spans.{place_of, end_of, bound, IsAtMost, MovesAreWithin, IsSpan, AreSpans, IsBegun, IsWalkedOn, IsWalkedTo, told_in}
+use Rattle.alw_merge.specs.Spans.{place_of, end_of, bound, IsAtMost, MovesAreWithin, IsSpan, AreSpans, WalkIsBegun, IsWalkedOn, IsWalkedTo, told_in}
 use Rattle.alw_merge.proofs.Spanning.{place_fits, place_before, place_start}
 use Rattle.alw_merge.proofs.Moving.{moves_within, walked_on, walked_begins}
 
@@ -53,14 +53,14 @@ bound_last : (count width k : ℕ) → count ≤ k → bound count width k ≡ N
 bound_last count width k past = ap (λ (b : Bool). cond b (Some (k * width)) None) (le-ltb k count past)
 
 -- all is one span
-module _ {image : Parts} {parameters : Parameters} {journal : List Entry} (legal : IsLegal image parameters journal) {begun : Walked} {nodes : ℕ} (nodes_are : nodes ≡ node_count image) (is_begun : IsBegun nodes begun)
+module _ {image : Parts} {parameters : Parameters} {journal : List Entry} (legal : IsLegal image parameters journal) {begun : Walked} {nodes : ℕ} (nodes_are : nodes ≡ node_count image) (is_begun : WalkIsBegun nodes begun)
     {span : Span} (is : IsSpan image parameters journal 0 None span) where
   pub whole_within : MovesAreWithin begun.links.nodes span.moves.items
   whole_within = span_within legal {low = 0} {high = None} tt is (is_begun.nodes_are ∙ nodes_are)
 
   pub whole_walked : {more : Walked} → IsWalkedOn begun span more → IsWalkedTo image parameters journal (length journal) more
   whole_walked {more} on = span_walked legal {low = 0} {high = None} tt is (subst (λ (i : ℕ). IsWalkedTo image parameters journal i begun) (sym (place_start journal))
-      (walked_begins image parameters journal begun (subst (λ (n : ℕ). IsBegun n begun) nodes_are is_begun))) on
+      (walked_begins image parameters journal begun (subst (λ (n : ℕ). WalkIsBegun n begun) nodes_are is_begun))) on
 
 -- all has been walked
 pub all_walked : {image : Parts} {parameters : Parameters} {journal : List Entry} {walked : Walked} → IsWalkedTo image parameters journal (length journal) walked
@@ -79,12 +79,12 @@ pub record AreUnderWay (image : Parts) (parameters : Parameters) (journal : List
 module _ {image : Parts} {parameters : Parameters} {journal : List Entry} {count width : ℕ} where
   -- none has been walked yet
   pub begins : 1 ≤ count → {spans left : List (Result Span NoMemory)} → AreSpans image parameters journal count width spans → left ≡ spans → {nodes : ℕ} → nodes ≡ node_count image
-      → {walked : Walked} → IsBegun nodes walked → AreUnderWay image parameters journal count width [] left walked
+      → {walked : Walked} → WalkIsBegun nodes walked → AreUnderWay image parameters journal count width [] left walked
   begins some are all nodes_are {walked} begun =
       let start : end_of (bound count width 0) journal ≡ 0 = ap (λ (begin : Option ℕ). end_of begin journal) (bound_is count width 0 some) ∙ (ap (λ (stamp : ℕ). place_of stamp journal) (omega arith) ∙ place_start journal) in
       record {
         are = subst (AreSpans image parameters journal count width) (sym all) are;
-        walked_is = subst (λ (i : ℕ). IsWalkedTo image parameters journal i walked) (sym start) (walked_begins image parameters journal walked (subst (λ (n : ℕ). IsBegun n walked) nodes_are begun));
+        walked_is = subst (λ (i : ℕ). IsWalkedTo image parameters journal i walked) (sym start) (walked_begins image parameters journal walked (subst (λ (n : ℕ). WalkIsBegun n walked) nodes_are begun));
       }
 
   module _ {before left : List (Result Span NoMemory)} {walked : Walked} (so_far : AreUnderWay image parameters journal count width before left walked) where

@@ -15,10 +15,10 @@ use Rattle.alw_cells.specs.Logs.{Reading, after_next, taken_of, sent_of, entry_o
 use Rattle.alw_cells.specs.Plain.{is_instr, is_plain}
 use Rattle.alw_merge.specs.Heads.{Waiting, IsLeast, HaveJoined}
 use Rattle.alw_merge.specs.Spans.{is_behind}
-use Rattle.alw_merge.specs.Streams.{left_of, all_left, StreamIsUnderWay, GoesOn, EventIsReadOff, IsPlain}
+use Rattle.alw_merge.specs.Streams.{left_of, all_left, StreamIsUnderWay, ReadingGoesOn, EventIsReadOff, IsPlain}
 use Rattle.alw_merge.proofs.Leasts.{joined_length}
 use Rattle.alw_merge.proofs.Skipping.{next_left}
-use Rattle.alw_merge.proofs.Merging.{Stands, stands, below, read_at, goes_to_next, heads_few, left_merged, nothing_left}
+use Rattle.alw_merge.proofs.Merging.{HeadStands, stands, below, read_at, goes_to_next, heads_few, left_merged, nothing_left}
 
 -- an instruction that took and sent nothing
 record IsPlainEvent (one : Logged) : Type 0 where
@@ -41,13 +41,13 @@ plain_event one plain =
     parts (Evict node set) taken sent is = absurd (true≢false (sym is))
 
 -- the node of the least head has 16 bits
-head_node : (readings : List Reading) (waiting : Waiting) (head : ℕ) → StreamIsUnderWay readings waiting → (at : Stands readings head) → node_of at.one.entry.event < 65536
+head_node : (readings : List Reading) (waiting : Waiting) (head : ℕ) → StreamIsUnderWay readings waiting → (at : HeadStands readings head) → node_of at.one.entry.event < 65536
 head_node readings waiting head under at =
     subst (λ (o : Option Logged). IfSome o (λ logged. node_of (entry_of logged).event < 65536)) at.given (read_at readings at.k at.reading at.there under.read).node
 
 -- whether an end is behind the entry that comes next
 module _ {readings : List Reading} {waiting : Waiting} {head : ℕ} (under : StreamIsUnderWay readings waiting) (least : IsLeast head waiting.heads) where
-  next : Stands readings head
+  next : HeadStands readings head
   next = stands readings waiting head under least
 
   comes : front (merged (map left_of readings)) ≡ Some next.one.entry
@@ -66,7 +66,7 @@ module _ {readings : List Reading} {waiting : Waiting} {head : ℕ} (under : Str
 
 module _ {readings : List Reading} {waiting : Waiting} {head place : ℕ} (under : StreamIsUnderWay readings waiting) (least : IsLeast head waiting.heads)
     (place_is : (others log : ℕ) → log < 65536 → head ≡ others * 65536 + log → place ≡ log) where
-  at : Stands readings head
+  at : HeadStands readings head
   at = stands readings waiting head under least
 
   same : place ≡ at.k
@@ -110,10 +110,10 @@ module _ {readings : List Reading} {waiting : Waiting} {head place : ℕ} (under
     entry_is = ap (option_map entry_of) given ∙ sym (ap front first)
 
     module _ {rest again : Waiting} {after : Reading} (popped : HaveJoined rest.heads (head ∷ []) waiting.heads) (most : rest.most ≡ waiting.most)
-        (goes : GoesOn place reading after rest again) where
+        (goes : ReadingGoesOn place reading after rest again) where
       pub goes_on : StreamIsUnderWay (set readings place after) again
       goes_on =
-          let moved : GoesOn at.k at.reading after rest again = subst (λ (k : ℕ). GoesOn k at.reading after rest again) same (subst (λ (r : Reading). GoesOn place r after rest again) is goes) in
+          let moved : ReadingGoesOn at.k at.reading after rest again = subst (λ (k : ℕ). ReadingGoesOn k at.reading after rest again) same (subst (λ (r : Reading). ReadingGoesOn place r after rest again) is goes) in
           subst (λ (k : ℕ). StreamIsUnderWay (set readings k after) again) (sym same) (goes_to_next readings waiting rest again head after at under popped most moved)
 
       pub left_is : merged (map left_of (set readings place after)) ≡ behind (merged (map left_of readings))
@@ -170,7 +170,7 @@ module _ {readings : List Reading} {waiting : Waiting} {head place : ℕ} (under
       pub is_plain_read : IsPlain (record { log = place; entry = entry; taken = None })
       is_plain_read = record { instr = ap is_instr event_is; taken = refl }
 
-      pub plain_is_next : {rest again : Waiting} {after : Reading} → HaveJoined rest.heads (head ∷ []) waiting.heads → rest.most ≡ waiting.most → GoesOn place reading after rest again
+      pub plain_is_next : {rest again : Waiting} {after : Reading} → HaveJoined rest.heads (head ∷ []) waiting.heads → rest.most ≡ waiting.most → ReadingGoesOn place reading after rest again
           → {logs : Logs} → map left_of readings ≡ logs → EventIsReadOff logs (record { log = place; entry = entry; taken = None }) [] (map left_of (set readings place after))
       plain_is_next popped most goes view =
           next_is popped most goes view (ap Some own ∙ sym (ap (option_map entry_of) given)) (sym (ap taken_of given ∙ its.taken)) (sym (ap sent_of given ∙ its.sent))

@@ -59,7 +59,7 @@ abbrev read_on : Course → Course
 read_on course = record { left = behind course.left; dids = behind course.dids }
 
 -- what is left of the courses behind a journal's first entries
-pub record IsRead (image : Parts) (parameters : Parameters) (journal : List Entry) (i : ℕ) (courses : List Course) : Type 0 where
+pub record CoursesAreLeft (image : Parts) (parameters : Parameters) (journal : List Entry) (i : ℕ) (courses : List Course) : Type 0 where
   pub counted : length courses ≡ node_count image
   pub each : (n : ℕ) → n < node_count image → course_at courses n ≡ course_of n (drop i (moments image parameters journal))
 
@@ -172,7 +172,7 @@ module _ (image : Parts) (parameters : Parameters) (allowed : IsImage image) (jo
   exists : n < node_count image
   exists = (enabled_is image parameters s event next.enabled).here
 
-  module _ {courses : List Course} (so_far : IsRead image parameters journal i courses) where
+  module _ {courses : List Course} (so_far : CoursesAreLeft image parameters journal i courses) where
     own : course_at courses n ≡ with_first moment (course_of n rest)
     own = so_far.each n exists ∙ (ap (course_of n) split ∙ course_first n moment rest refl)
 
@@ -212,7 +212,7 @@ module _ (image : Parts) (parameters : Parameters) (allowed : IsImage image) (jo
                 ∙ ap unheld (sym (told_push image before moment) ∙ ap (told_of image) (sym more))));
           }
 
-      pub goes_on : {courses' : List Course} → courses' ≡ set courses n (read_on (course_at courses n)) → IsRead image parameters journal (i + 1) courses'
+      pub goes_on : {courses' : List Course} → courses' ≡ set courses n (read_on (course_at courses n)) → CoursesAreLeft image parameters journal (i + 1) courses'
       goes_on {courses'} courses_are =
           let place : suc i ≡ i + 1 = omega arith in
           record {
@@ -231,7 +231,7 @@ pub record IsMerging (image : Parts) (parameters : Parameters) (journal : List E
   pub span_is : so_far ≡ between start (start + length so_far) journal
   pub left_is : merged logs ≡ drop (start + length so_far) journal
   pub as_many : length dids ≡ length logs
-  pub read : IsRead image parameters journal (start + length so_far) (courses_of logs dids)
+  pub read : CoursesAreLeft image parameters journal (start + length so_far) (courses_of logs dids)
   pub spanned : IsSpanned image (moments image parameters journal) start (start + length so_far) moves told
 
 module _ {image : Parts} {parameters : Parameters} {journal : List Entry} (allowed : IsImage image) (legal : IsLegal image parameters journal) {start : ℕ} {so_far : List Entry} {logs logs' : Logs} {dids : List (List Did)}
@@ -288,7 +288,7 @@ module _ {image : Parts} {parameters : Parameters} {journal : List Entry} (allow
         span_is = more ∙ (ap (λ (es : List Entry). es ++ read.entry ∷ []) merging.span_is ∙ (sym has ∙ ap (λ (k : ℕ). between start k journal) (sym long)));
         left_is = places.1.1 ∙ ap (λ (k : ℕ). drop k journal) (place ∙ sym long);
         as_many = ap length follows.rest_is ∙ (length-set dids n (behind (dids_at dids n)) ∙ (merging.as_many ∙ sym (ap length left ∙ length-set logs n (behind (log_at logs n)))));
-        read = subst (λ (k : ℕ). IsRead image parameters journal k (courses_of logs' dids')) (sym long)
+        read = subst (λ (k : ℕ). CoursesAreLeft image parameters journal k (courses_of logs' dids')) (sym long)
             (goes_on image parameters allowed journal legal i read.entry places.1.0 places.0 merging.read taken_is sends_are dids_are courses_are);
         spanned = subst (λ (k : ℕ). IsSpanned image (moments image parameters journal) start k moves' told') (sym long)
             (spans_on image parameters allowed journal legal i read.entry places.1.0 places.0 merging.read taken_is sends_are dids_are (omega arith) merging.spanned follows.moves_are follows.told_is);
@@ -318,7 +318,7 @@ merging_begins image parameters stamp logs dids told as_many are told_is =
       span_is = sym (between_none start journal);
       left_is = from_merged stamp logs ∙ ap (λ (k : ℕ). drop k journal) here;
       as_many = many;
-      read = subst (λ (k : ℕ). IsRead image parameters journal k (courses_of (logs_from stamp logs) (dids_behind (logs_from stamp logs) dids))) here (record {
+      read = subst (λ (k : ℕ). CoursesAreLeft image parameters journal k (courses_of (logs_from stamp logs) (dids_behind (logs_from stamp logs) dids))) here (record {
         counted = courses_long (logs_from stamp logs) (dids_behind (logs_from stamp logs) dids) many ∙ (length-map logs (log_from stamp) ∙ (sym (courses_long logs dids as_many) ∙ are.counted));
         each = courses_from image parameters stamp logs dids as_many are (merged_rises logs);
       });

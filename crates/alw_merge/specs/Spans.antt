@@ -137,7 +137,7 @@ abbrev pub told_in : Walked → Told
 told_in walked = record { turns = walked.turns; prints = walked.prints; counts = walked.counts; trap = None }
 
 -- nothing has been walked
-pub record IsBegun (nodes : ℕ) (walked : Walked) : Type 0 where
+pub record WalkIsBegun (nodes : ℕ) (walked : Walked) : Type 0 where
   pub entries_are : walked.journal ≡ []
   pub nodes_are : walked.links.nodes ≡ nodes
   pub links_are : walked.links.links ≡ replicate (nodes * nodes) []

@@ -58,7 +58,7 @@ abbrev pub heads_of : ℕ → Option Entry → List ℕ
 heads_of log entry = map (key_of log) (option_to_list entry)
 
 -- a log goes on, and its next head joins the others
-pub record GoesOn (log : ℕ) (reading reading' : Reading) (waiting waiting' : Waiting) : Type 0 where
+pub record ReadingGoesOn (log : ℕ) (reading reading' : Reading) (waiting waiting' : Waiting) : Type 0 where
   pub reading_is : reading' ≡ after_next reading
   pub joins : HaveJoined waiting.heads (head_in log (front reading.left)) waiting'.heads
   pub most : waiting'.most ≡ waiting.most

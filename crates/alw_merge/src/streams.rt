@@ -7,7 +7,7 @@ ghost use Rattle.alw_cells.specs.Logs.{entry_of, logged, sent_of};
 ghost use Rattle.alw_cells.specs.Records.{Ascends};
 ghost use Rattle.alw_merge.specs.Heads.{HaveJoined};
 ghost use Rattle.alw_merge.specs.Spans.{is_behind, log_from, logs_from};
-ghost use Rattle.alw_merge.specs.Streams.{key_of, heads_of, left_of, GoesOn, EventIsReadOff, IsPlain, Reads};
+ghost use Rattle.alw_merge.specs.Streams.{key_of, heads_of, left_of, ReadingGoesOn, EventIsReadOff, IsPlain, Reads};
 ghost use Rattle.std.specs.Option.{option_map};
 
 use crate::heads::Heads;
@@ -213,7 +213,7 @@ fn skip_to(reading: &mut Cursor<'_>, stamp: u64) -> Option<Entry>
 fn go_on(heads: &mut Heads, log: u32, last: u64, reading: &mut Cursor<'_>)
     requires log { log < 65536 }
     requires room { length heads.old.heads < heads.old.most }
-    ensures goes { GoesOn log reading.old reading.new heads.old heads.new }
+    ensures goes { ReadingGoesOn log reading.old reading.new heads.old heads.new }
 {
     add(heads, log, last, reading.next());
 }

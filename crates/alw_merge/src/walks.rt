@@ -5,7 +5,7 @@ ghost use Rattle.alw_cells.specs.Logs.{logged};
 ghost use Rattle.alw_tally.specs.Told.{sum_of};
 ghost use Rattle.alw_merge.specs.Joins.{courses_of, LogsAreOfJournal, JournalIsWalked};
 ghost use Rattle.alw_merge.specs.Spans as spans;
-ghost use Rattle.alw_merge.specs.Spans.{IsSpan, AreSpans, MovesAreWithin, IsBegun, IsWalkedOn, links_moved, told_in};
+ghost use Rattle.alw_merge.specs.Spans.{IsSpan, AreSpans, MovesAreWithin, WalkIsBegun, IsWalkedOn, links_moved, told_in};
 
 use crate::spans::{Move, Span, walk_span};
 use alw_cells::{DidLists, Logs};
@@ -146,7 +146,7 @@ fn bound(count: u32, width: u32, k: u32) -> Option<u64>
 // No entry has been walked yet.
 fn nothing(alloc: Global, nodes: u32) -> Result<Walked, NoMemory>
     requires { nodes ≤ MOST_NODES }
-    ensures { IfOk result (λ walked. IsBegun nodes walked) }
+    ensures { IfOk result (λ walked. WalkIsBegun nodes walked) }
 {
     Ok(Walked {
         journal: Journal::empty(alloc),

@@ -31,7 +31,7 @@ use Rattle.alw_node.specs.Nodes.{Whole, MessageIsGiven}
 use Rattle.alw_mesh.specs.declared.stepping.Acted.{Acted}
 use Rattle.alw_mesh.specs.declared.stepping.Happening.{Happening}
 use Rattle.alw_mesh.specs.Grids.{IsQuietTurn, Happens}
-use Rattle.alw_mesh.specs.Keeping.{machine_of, no_whole, whole_in, NodeIsOf, IsGrid, NodesAreWithin, taken_from, after_taking, HasTrapPc, may_act, acted_by, Acts}
+use Rattle.alw_mesh.specs.Keeping.{machine_of, no_whole, whole_in, NodeIsOf, IsGrid, NodesAreWithin, taken_from, after_taking, HasTrapPc, may_act, acted_by, NodeActs}
 use Rattle.alw_mesh.proofs.Turning.{left_step, used_is, pc_is}
 use Rattle.alw_mesh.proofs.Quiet.{takes_none, sends_none, uses_none, traps_not}
 use Rattle.alw_mesh.proofs.OneNode.{state_at, enabled_there, step_there}
@@ -128,10 +128,10 @@ module _ {image : Parts} {parameters : Parameters} {nodes : List Whole} {traffic
   -- ---- with what the code has at hand
 
   module _ {nodes' : List Whole} {place : ℕ} {taken : Option Msg} {traffic' : Traffic} {sent sent' : Sending} {acted : Acted}
-      (place_is : place ≡ at) (taken_at : taken ≡ head) (traffic_is : traffic' ≡ after_taking traffic event) (acts : Acts nodes nodes' place event taken sent sent' acted) where
+      (place_is : place ≡ at) (taken_at : taken ≡ head) (traffic_is : traffic' ≡ after_taking traffic event) (acts : NodeActs nodes nodes' place event taken sent sent' acted) where
     -- the node has acted at its place, with its message
-    acts_so : Acts nodes nodes' at event head sent sent' acted
-    acts_so = subst (λ (p : ℕ × Option Msg). Acts nodes nodes' p.0 event p.1 sent sent' acted) (λ i. (place_is i, taken_at i)) acts
+    acts_so : NodeActs nodes nodes' at event head sent sent' acted
+    acts_so = subst (λ (p : ℕ × Option Msg). NodeActs nodes nodes' p.0 event p.1 sent sent' acted) (λ i. (place_is i, taken_at i)) acts
 
     pub sends_exist : (k : ℕ) (d : ℕ × Msg) → k < length sent'.messages → (slice_index_or sent'.messages k d).0 < traffic'.nodes
     sends_exist k d l =

@@ -80,8 +80,8 @@ last_push h within event =
     ∙ (ap sent_last (drop-append-le h.joined run (moment ∷ []) some) ∙ sent_push (drop h.joined run) moment)
 
 -- what a tally is told more
-abbrev pub Adds : Parts → Tallied → Tallied → Moment → Bool → ℕ → List (ℕ × Msg) → Type 0
-Adds image before after told used pc sends = (moment : runs.Moment) → MomentIsTold told used pc sends moment → after.told ≡ told_with image before.told moment
+abbrev pub TallyAdds : Parts → Tallied → Tallied → Moment → Bool → ℕ → List (ℕ × Msg) → Type 0
+TallyAdds image before after told used pc sends = (moment : runs.Moment) → MomentIsTold told used pc sends moment → after.told ≡ told_with image before.told moment
 
 -- what rows are made of others, over a machine after an event
 abbrev pub Renews : Grid → List Row → List Row → changes.Happened → List (ℕ × Msg) → Type 0
@@ -202,7 +202,7 @@ module _ {grid : Grid} {journal : List Entry} {joined : ℕ} {sent : Sending} {t
 
       -- the machine after an event
       pub machine_grows : {journal' : List Entry} {tally' : Tallied} {ready' : List Row} → stamp ≡ stamp_at grid.image grid.machine event
-          → journal' ≡ journal ++ record { stamp = stamp; event = event } ∷ [] → Adds after.image tally tally' happening.moment happening.used happening.pc sent'.messages
+          → journal' ≡ journal ++ record { stamp = stamp; event = event } ∷ [] → TallyAdds after.image tally tally' happening.moment happening.used happening.pc sent'.messages
           → RowsFit after.image after.parameters after.machine ready' → IsMachine after journal' joined sent' tally' ready'
       machine_grows {journal' = journal'} {tally' = tally'} stamp_at_is pushed adds rows =
           let entry : Entry = record { stamp = stamp; event = event } in
@@ -211,8 +211,8 @@ module _ {grid : Grid} {journal : List Entry} {joined : ℕ} {sent : Sending} {t
           let journal_is : journal' ≡ journal ++ entry_of here event ∷ [] = pushed ∙ ap (λ e. journal ++ e ∷ []) entry_is in
           let grown_so = grown_is stamp_at_is pushed in
           let pushed_state = state_push grid.image grid.parameters journal (entry_of here event) in
-          let adds_so : Adds grid.image tally tally' happening.moment happening.used happening.pc sent'.messages
-          = subst (λ p. Adds p tally tally' happening.moment happening.used happening.pc sent'.messages) happens.image adds in
+          let adds_so : TallyAdds grid.image tally tally' happening.moment happening.used happening.pc sent'.messages
+          = subst (λ p. TallyAdds p tally tally' happening.moment happening.used happening.pc sent'.messages) happens.image adds in
           record {
             run = subst IsRun (sym grown_so) run_grows;
             state_is = machine_next ∙ (sym pushed_state ∙ sym (ap state_of grown_so));

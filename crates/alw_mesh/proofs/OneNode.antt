@@ -17,10 +17,10 @@ use Rattle.alw_model.specs.NodeSteps.{node_step}
 use Rattle.alw_model.specs.Machine.{node_at}
 use Rattle.alw_model.specs.Counts.{is_turn}
 use Rattle.alw_ready.specs.Changes.{hold_count}
-use Rattle.alw_node.specs.Nodes.{Whole, Steps}
+use Rattle.alw_node.specs.Nodes.{Whole, IsNodeStep}
 use Rattle.alw_node.proofs.KeptMembers.{enabled_same, step_same}
 use Rattle.alw_mesh.proofs.Turning.{Left, left_step, none_given}
-use Rattle.alw_mesh.specs.Keeping.{machine_of, no_whole, whole_in, NodeIsOf, AreNodes, acted_by, Acts}
+use Rattle.alw_mesh.specs.Keeping.{machine_of, no_whole, whole_in, NodeIsOf, AreNodes, acted_by, NodeActs}
 
 -- the home of a line exists
 pub home_exists : (image : Parts) → IsImage image → (line per_node home : ℕ) → per_node ≡ image.per_node → home ≡ line / per_node → line < line_count image → home < node_count image
@@ -48,10 +48,10 @@ module _ (image : Parts) (parameters : Parameters) where
 
 -- a node that was read takes its step, and is put back
 pub acts : (nodes : List Whole) (at : ℕ) (event : Event) (taken : Option Msg) (sent sent' : Sending) (node node' : Whole) (did : Did) (before free : ℕ) (changes : Bool)
-    → at < length nodes → node ≡ get_or nodes at node → Steps node node' sent sent' did (acted_by node event taken)
+    → at < length nodes → node ≡ get_or nodes at node → IsNodeStep node node' sent sent' did (acted_by node event taken)
     → before ≡ hold_count node.state.slots → changes ≡ (not (before == 0 && is_turn did) && not (hold_count node'.state.slots == before))
     → free + length sent'.messages ≡ sent'.room
-    → Acts nodes (set nodes at node') at event taken sent sent' (record { did = did; changes_holds = changes })
+    → NodeActs nodes (set nodes at node') at event taken sent sent' (record { did = did; changes_holds = changes })
 acts nodes at event taken sent sent' node node' did before free changes here read steps held changed fits =
     let is : node ≡ whole_in nodes at = get_or_read nodes at node here read no_whole in
     let slots = ap (λ (w : Whole). w.state.slots) steps.node ∙ ap (λ (w : Whole). (acted_by w event taken).node.slots) is in

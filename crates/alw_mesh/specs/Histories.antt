@@ -63,10 +63,10 @@ pub record IsRun (h : History) : Type 0 where
   pub joined : h.joined ≤ length h.journal
 
 -- a machine of an image under parameters fits; or its nodes may have more stamps together than the most
-abbrev pub Fits : Parts → Parameters → Result (Unit {0}) FitErr → Type 0
-Fits image parameters (Ok done) = stamps_of image parameters ≤ most_steps
-Fits image parameters (Err (fits.DoesNotFit number most)) = (most_steps < number) × (number ≡ stamps_of image parameters) × (most ≡ most_steps)
-Fits image parameters (Err fits.NoMemory) = ⊥
+abbrev pub MachineFits : Parts → Parameters → Result (Unit {0}) FitErr → Type 0
+MachineFits image parameters (Ok done) = stamps_of image parameters ≤ most_steps
+MachineFits image parameters (Err (fits.DoesNotFit number most)) = (most_steps < number) × (number ≡ stamps_of image parameters) × (most ≡ most_steps)
+MachineFits image parameters (Err fits.NoMemory) = ⊥
 
 -- what the start of a machine answers: it hasn't begun, or its nodes may have more stamps together than the most, or memory was refused
 abbrev pub Starts : Parts → Parameters → Result History FitErr → Type 0

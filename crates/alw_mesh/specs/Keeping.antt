@@ -104,7 +104,7 @@ abbrev pub acted_by : Whole → Event → Option Msg → Stepped
 acted_by whole event taken = node_step whole.parts whole.parameters whole.number whole.state event taken
 
 -- one of these nodes has taken an event
-pub record Acts (nodes nodes' : List Whole) (at : ℕ) (event : Event) (taken : Option Msg) (sent sent' : Sending) (acted : Acted) : Type 0 where
+pub record NodeActs (nodes nodes' : List Whole) (at : ℕ) (event : Event) (taken : Option Msg) (sent sent' : Sending) (acted : Acted) : Type 0 where
   pub nodes_are : nodes' ≡ slice_set nodes at (record (whole_in nodes at) { state = (acted_by (whole_in nodes at) event taken).node })
   pub room : sent'.room ≡ sent.room
   pub few : length sent'.messages ≤ sent.room

@@ -1,6 +1,6 @@
 ghost use Rattle.std.specs.Prelude.{◌≡◌};
 ghost use Rattle.alw_image.specs.Parameters.{AreParameters};
-ghost use Rattle.alw_mesh.specs.Histories.{Fits};
+ghost use Rattle.alw_mesh.specs.Histories.{MachineFits};
 
 use alw_image::{Image, Params};
 use alw_num::NoMemory;
@@ -29,7 +29,7 @@ impl From<NoMemory> for FitErr {
 /// The nodes of an image may have so many stamps together as the parameters allow: DoesNotFit comes
 /// exactly where nodes times the event limit is above `MOST_STEPS`. It takes no memory.
 pub fn fit(image: &Image, params: &Params) -> Result<(), FitErr>
-    ensures fits { Fits image.now params.now result }
+    ensures fits { MachineFits image.now params.now result }
     ensures allowed { AreParameters params.now }
 {
     let number = u64::from(image.nodes()) * u64::from(params.limit());

@@ -9,7 +9,7 @@ ghost use Rattle.sparc_table.specs.declared.outcomes.Outcome.TheVariants.{Done};
 ghost use Rattle.alw_ready.specs.Changes.{hold_count};
 ghost use Rattle.alw_node.specs.Nodes.{whole_start, MessageIsGiven};
 ghost use Rattle.alw_mesh.specs.Grids.{IsQuietTurn};
-ghost use Rattle.alw_mesh.specs.Keeping.{taken_from, after_taking, NodesAreWithin, HasTrapPc, whole_in, may_act, Acts};
+ghost use Rattle.alw_mesh.specs.Keeping.{taken_from, after_taking, NodesAreWithin, HasTrapPc, whole_in, may_act, NodeActs};
 
 use alw_image::{Image, Params};
 use alw_links::Links;
@@ -120,7 +120,7 @@ pub fn act(
     requires enabled { may_act (whole_in nodes.old.items at) event (option_copied taken) ≡ true }
     requires taken { MessageIsGiven event (option_copied taken) }
     requires room { node_count (whole_in nodes.old.items at).parts ≤ sent.old.room }
-    ensures { Acts nodes.old.items nodes.new.items at event (option_copied taken.entry) sent.old sent.new result }
+    ensures { NodeActs nodes.old.items nodes.new.items at event (option_copied taken.entry) sent.old sent.new result }
 {
     let node = &mut nodes[at];
     let holds = node.holds();

@@ -21,7 +21,7 @@ abbrev pub memory_after : Memory → MemoryStep → Memory
 memory_after m step = record m { homes = step.homes; packets = step.packets }
 
 -- what an event has left of a memory side and of the list of its sends, and what it did, are this step's
-pub record Steps (before after : Memory) (sent sent' : Sending) (did : Did) (step : MemoryStep) : Type 0 where
+pub record IsMemoryStep (before after : Memory) (sent sent' : Sending) (did : Did) (step : MemoryStep) : Type 0 where
   pub side : after ≡ memory_after before step
   pub sends : sent' ≡ with_messages sent step.sends
   pub outcome : did ≡ step.did

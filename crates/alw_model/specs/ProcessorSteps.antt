@@ -37,7 +37,7 @@ abbrev pub processor_after : Processor → ProcessorStep → Processor
 processor_after p step = record p { slots = step.slots; current = step.current; cache = step.cache; transactions = step.transactions }
 
 -- what an event has left of a processor side and of the list of its sends, and what it did, are this step's
-pub record Steps (before after : Processor) (sent sent' : Sending) (did : Did) (step : ProcessorStep) : Type 0 where
+pub record IsProcessorStep (before after : Processor) (sent sent' : Sending) (did : Did) (step : ProcessorStep) : Type 0 where
   pub side : after ≡ processor_after before step
   pub sends : sent' ≡ with_messages sent step.sends
   pub outcome : did ≡ step.did

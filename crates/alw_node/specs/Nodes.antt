@@ -56,7 +56,7 @@ pub record IsNode (node : Whole) : Type 0 where
   pub homes : length node.state.homes ≡ node.parts.per_node
 
 -- what an event has left of a node and of the list of its sends, which is begun at the node's new clock, and what it did, are this step's
-pub record Steps (before after : Whole) (sent sent' : Sending) (did : Did) (step : Stepped) : Type 0 where
+pub record IsNodeStep (before after : Whole) (sent sent' : Sending) (did : Did) (step : Stepped) : Type 0 where
   pub node : after ≡ record before { state = step.node }
   pub sends : sent' ≡ record { room = sent.room; src = before.number; stamp = step.node.clock; messages = step.sends }
   pub outcome : did ≡ step.did

@@ -14,7 +14,7 @@ ghost use Rattle.alw_ctx.specs.Residents.{number_of};
 ghost use Rattle.alw_proc.specs.Openings.{opener_of};
 ghost use Rattle.alw_proc.specs.Processors.{mode_of, cached_of};
 ghost use Rattle.alw_memory.specs.Views.{IsViewOf};
-ghost use Rattle.alw_node.specs.Nodes.{whole_start, may_take_from, Steps, FitsStamp, MessageIsGiven, IsNode};
+ghost use Rattle.alw_node.specs.Nodes.{whole_start, may_take_from, IsNodeStep, FitsStamp, MessageIsGiven, IsNode};
 
 use crate::shares::Share;
 use alw_image::{Image, Params};
@@ -117,7 +117,7 @@ impl Node {
         requires enabled { is_enabled_at self.old.parts self.old.parameters self.old.number self.old.state event (option_copied taken) ≡ true }
         requires taken { MessageIsGiven event (option_copied taken) }
         requires room { node_count self.old.parts ≤ sent.old.room }
-        ensures { Steps self.old self.new sent.old sent.new result (node_step self.old.parts self.old.parameters self.old.number self.old.state event (option_copied taken.entry)) }
+        ensures { IsNodeStep self.old self.new sent.old sent.new result (node_step self.old.parts self.old.parameters self.old.number self.old.state event (option_copied taken.entry)) }
     {
         let stamp = next_stamp(self.clock, taken);
         sent.begin(self.proc.number(), stamp);

@@ -3,7 +3,7 @@ use Rattle.std.proofs.Common.{◌≡◌, ◌≢◌, ℕ, zero, suc, ◌+◌, ◌
 use Rattle.std.proofs.lemmas.Bool.{cases_lt, eqb-true, eqb-false}
 use Rattle.std.proofs.lemmas.List.{get_or-map, length-map, get_or-set_same, get_or-set_other, map-append, map-set}
 use Rattle.alw_outcomes.specs.declared.tables.Mark.{Mark}
-use Rattle.alw_outcomes.specs.Tables.{IsLast, HasDigest, IsOnChain, AreChained, IsTable, digests_of, befores_of}
+use Rattle.alw_outcomes.specs.Tables.{IsLast, HasDigest, IsOnChain, AreChained, IsMarkTable, digests_of, befores_of}
 use Rattle.alw_outcomes.proofs.Pooling.{or-append}
 
 -- ---- the last number below another
@@ -175,9 +175,9 @@ chained_more digests befores heads count below chain digest before less long her
 -- ---- tables
 
 -- a mark behind the others
-pub pushed : (heads : List ℕ) (marks marks' : List Mark) (chain below : ℕ) (mark : Mark) → IsTable heads marks → chain ≡ mark.digest % length heads → mark.before ≡ slice_index_or heads chain 0
+pub pushed : (heads : List ℕ) (marks marks' : List Mark) (chain below : ℕ) (mark : Mark) → IsMarkTable heads marks → chain ≡ mark.digest % length heads → mark.before ≡ slice_index_or heads chain 0
     → 0 < length heads → chain < length heads
-    → marks' ≡ marks ++ mark ∷ [] → below ≡ length marks' → length marks < 2 ^ 32 - 1 → IsTable (slice_set heads chain below) marks'
+    → marks' ≡ marks ++ mark ∷ [] → below ≡ length marks' → length marks < 2 ^ 32 - 1 → IsMarkTable (slice_set heads chain below) marks'
 pushed heads marks marks' chain below mark table chain_is head_is some less is below_is few =
     let long : length marks' ≡ length marks + 1 = ap length is ∙ length-append marks (mark ∷ []) in
     let last : mark ≡ slice_index_or marks' (length marks) mark = sym (ap (λ (l : List Mark). slice_index_or l (length marks) mark) is ∙ or-last marks mark mark) in
@@ -208,21 +208,21 @@ pushed heads marks marks' chain below mark table chain_is head_is some less is b
     or-last (y ∷ xs) x d = or-last xs x d
 
 -- so many marks are on their chains
-pub record IsUnderWay (heads : List ℕ) (marks before : List Mark) (at : ℕ) : Type 0 where
+pub record ChainingIsUnderWay (heads : List ℕ) (marks before : List Mark) (at : ℕ) : Type 0 where
   pub chained : AreChained (digests_of marks) (befores_of marks) heads (length heads) at
   pub digests : digests_of marks ≡ digests_of before
   pub some : 0 < length heads
 
-pub chaining_begins : (heads : List ℕ) (marks : List Mark) → ((k : ℕ) → slice_index_or heads k 0 ≡ 0) → 0 < length heads → IsUnderWay heads marks marks 0
+pub chaining_begins : (heads : List ℕ) (marks : List Mark) → ((k : ℕ) → slice_index_or heads k 0 ≡ 0) → 0 < length heads → ChainingIsUnderWay heads marks marks 0
 chaining_begins heads marks zeros some = record { chained = none_chained (digests_of marks) (befores_of marks) heads (length heads) zeros; digests = refl; some = some }
 
-pub chaining_long : (heads : List ℕ) (marks before : List Mark) (at : ℕ) → IsUnderWay heads marks before at → length marks ≡ length before
+pub chaining_long : (heads : List ℕ) (marks before : List Mark) (at : ℕ) → ChainingIsUnderWay heads marks before at → length marks ≡ length before
 chaining_long heads marks before at so = sym (digests_long marks) ∙ ap length so.digests ∙ digests_long before
 
-pub chaining_more : (heads : List ℕ) (marks before : List Mark) (at chain : ℕ) (mark old : Mark) → IsUnderWay heads marks before at → at < length marks → old ≡ slice_index_or marks at old
+pub chaining_more : (heads : List ℕ) (marks before : List Mark) (at chain : ℕ) (mark old : Mark) → ChainingIsUnderWay heads marks before at → at < length marks → old ≡ slice_index_or marks at old
     → mark.digest ≡ old.digest
     → chain ≡ mark.digest % length heads
-    → mark.before ≡ slice_index_or heads chain 0 → chain < length heads → IsUnderWay (slice_set heads chain (at + 1)) (slice_set marks at mark) before (at + 1)
+    → mark.before ≡ slice_index_or heads chain 0 → chain < length heads → ChainingIsUnderWay (slice_set heads chain (at + 1)) (slice_set marks at mark) before (at + 1)
 chaining_more heads marks before at chain mark old so within read same chain_is head_is less =
     let kept : digests_of (slice_set marks at mark) ≡ digests_of marks =
     map-set (λ (m : Mark). m.digest) marks at mark ∙ ap (slice_set (digests_of marks) at) (same ∙ sym (digest_read marks at old within read)) ∙ set-same (digests_of marks) at in
@@ -249,7 +249,7 @@ chaining_more heads marks before at chain mark old so within read same chain_is 
     set-same (x ∷ xs) zero = refl
     set-same (x ∷ xs) (suc k) = ap (λ (l : List ℕ). x ∷ l) (set-same xs k)
 
-pub chaining_ends : (heads : List ℕ) (marks before : List Mark) (at : ℕ) → at ≡ length before → length before < 2 ^ 32 → IsUnderWay heads marks before at → IsTable heads marks
+pub chaining_ends : (heads : List ℕ) (marks before : List Mark) (at : ℕ) → at ≡ length before → length before < 2 ^ 32 → ChainingIsUnderWay heads marks before at → IsMarkTable heads marks
 chaining_ends heads marks before at end few so =
     let long = chaining_long heads marks before at so in
     let e : at ≡ length marks = omega (arith, end, long) in
@@ -264,7 +264,7 @@ zeros zero k = refl
 zeros (suc n) zero = refl
 zeros (suc n) (suc k) = zeros n k
 
-pub none_table : (heads : List ℕ) (marks : List Mark) → heads ≡ [] → marks ≡ [] → IsTable heads marks
+pub none_table : (heads : List ℕ) (marks : List Mark) → heads ≡ [] → marks ≡ [] → IsMarkTable heads marks
 none_table heads marks no_heads no_marks = record {
   chained = record {
     before = λ k less. absurd (let l = ap length no_marks in omega (arith, less, l));

@@ -4,10 +4,10 @@ use Rattle.std.specs.List.{slice_get}
 use Rattle.std.proofs.lemmas.Option.{slice_get_within}
 use Rattle.alw_num.specs.declared.addresses.Line.{Line}
 use Rattle.alw_image.specs.declared.parts.Parts.{Parts}
-use Rattle.alw_places.specs.Places.{Place, place_turn, places_after, IsRun, HasSizes, place_turns}
+use Rattle.alw_places.specs.Places.{Place, place_turn, places_after, IsRun, PlaceHasSizes, place_turns}
 use Rattle.alw_places.specs.Outcomes.{Ending, Halts, Traps}
 use Rattle.alw_places.specs.declared.classes.Class.{Class}
-use Rattle.alw_outcomes.specs.Explored.{Found, IsAmong, IsHeld, HasHalted, HasTrapped, IsListed, IsBroken, CameFrom, IsHalted, IsTrapping, IsReal, IsExpanded, Grows, IsTurnFound, Adds, GoesTo}
+use Rattle.alw_outcomes.specs.Explored.{Found, IsAmong, IsHeld, HasHalted, HasTrapped, IsListed, IsBroken, CameFrom, IsHalted, IsTrapping, IsReal, IsExpanded, Grows, IsTurnFound, AddsPlace, GoesTo}
 use Rattle.alw_outcomes.specs.declared.explored.Origin.{Origin}
 use Rattle.alw_outcomes.specs.declared.explored.Trapped.{Trapped}
 use Rattle.alw_places.specs.declared.classes.Broken.{Broken}
@@ -163,7 +163,7 @@ new_is parts before place origin real from = record {
   among = record { at = length before.places; there = get-last before.places place };
 }
 
-pub adds_is : (parts : Parts) (before after : Found) (place : Place) (origin : Origin) → IsReal parts before → IsFrom parts before place origin → Adds before after place origin
+pub adds_is : (parts : Parts) (before after : Found) (place : Place) (origin : Origin) → IsReal parts before → IsFrom parts before place origin → AddsPlace before after place origin
     → IsAdded parts before after place
 adds_is parts before after place origin real from (inl old) =
     subst (λ (f : Found). IsAdded parts before f place) (sym old.1) (record { goes = record { real = real; grows = grows_refl before }; among = old.0 })
@@ -241,19 +241,19 @@ break_listed parts before turn real =
 
 -- ---- sizes, and runs
 
-sizes_after : (parts : Parts) (place : Place) (turns : List ℕ) → HasSizes parts place → HasSizes parts (places_after parts place turns)
+sizes_after : (parts : Parts) (place : Place) (turns : List ℕ) → PlaceHasSizes parts place → PlaceHasSizes parts (places_after parts place turns)
 sizes_after parts place [] sizes = sizes
 sizes_after parts place (context ∷ rest) sizes = sizes_after parts (place_turn parts place context) rest (sizes_stay parts place context sizes)
 
 -- all places that are found have the sizes
-pub sizes_found : (parts : Parts) (found : Found) → IsReal parts found → (at : ℕ) (place : Place) → slice_get found.places at ≡ Some place → HasSizes parts place
+pub sizes_found : (parts : Parts) (found : Found) → IsReal parts found → (at : ℕ) (place : Place) → slice_get found.places at ≡ Some place → PlaceHasSizes parts place
 sizes_found parts found real at place e = below (suc at) at place (omega arith) e
   where
-    below : (past at : ℕ) (place : Place) → at < past → slice_get found.places at ≡ Some place → HasSizes parts place
+    below : (past at : ℕ) (place : Place) → at < past → slice_get found.places at ≡ Some place → PlaceHasSizes parts place
     below zero at place less e = absurd (omega arith)
-    below (suc past) zero place less e = subst (λ (p : Place). HasSizes parts p) (same_member found.places 0 _ place real.start e) (sizes_start parts)
+    below (suc past) zero place less e = subst (λ (p : Place). PlaceHasSizes parts p) (same_member found.places 0 _ place real.start e) (sizes_start parts)
     below (suc past) (suc at) place less e =
         let came = real.from (suc at) place (omega arith) e in
         let earlier = came.earlier in
-        subst (λ (p : Place). HasSizes parts p) came.after
+        subst (λ (p : Place). PlaceHasSizes parts p) came.after
         (sizes_after parts came.before (replicate came.origin.turns came.origin.context) (below past came.origin.from came.before (omega arith) came.there))

@@ -15,7 +15,7 @@ use Rattle.alw_outcomes.specs.Pools.{thread_in, AreIn}
 use Rattle.alw_outcomes.specs.Leads.{IsTrapOf, IsGoing, IsLead}
 use Rattle.alw_outcomes.specs.declared.remembered.Known.{Known}
 use Rattle.alw_outcomes.specs.Remembered.{NotesOne, IsLeadOf}
-use Rattle.alw_outcomes.specs.Explored.{Found, Adds, GoesTo, IsAlone, HasTurn, IsReal, IsStored, place_in, places_in, found_in}
+use Rattle.alw_outcomes.specs.Explored.{Found, AddsPlace, GoesTo, IsPrivateTurn, HasTurn, IsReal, IsStored, place_in, places_in, found_in}
 use Rattle.alw_outcomes.proofs.Storing.{IsGrown, number_place, place_stays, places_grow, stored_grows, within_same}
 use Rattle.alw_outcomes.proofs.Leading.{inside_grows, thread_grows}
 use Rattle.alw_outcomes.proofs.Remembering.{leads_grow, lead_noted}
@@ -45,20 +45,20 @@ known_stored parts before after known grown inside lead noted =
     stored_grows parts before after grown (lead_noted parts before.classes.items after.pools before.leads.slots.items after.leads.slots.items known all one noted)
 
 -- what was found stands as it was, and the place with this number is there
-pub record StandsAt (parts : Parts) (one : Found) (two : Explored) (at : ℕ) : Type 0 where
+pub record PlaceStandsAt (parts : Parts) (one : Found) (two : Explored) (at : ℕ) : Type 0 where
   pub real : IsReal parts one
   pub same : found_in two ≡ one
   pub within : at < length two.memories.items
 
 pub stands_at : (parts : Parts) (one two : Explored) (at : ℕ) → IsReal parts (found_in one) → at < length one.memories.items → found_in two ≡ found_in one → two.memories.items ≡ one.memories.items
-    → StandsAt parts (found_in one) two at
+    → PlaceStandsAt parts (found_in one) two at
 stands_at parts one two at real within same memories = record { real = real; same = same; within = within_same two one at within memories }
 
 pub record IsDone (parts : Parts) (classes : List Class) (one three : Found) (at context : ℕ) : Type 0 where
   pub goes : GoesTo parts one three
   pub turn : HasTurn parts classes three at context
 
-module _ (parts : Parts) (classes : List Class) (one : Found) (two : Explored) (at context : ℕ) (stands : StandsAt parts one two at) where
+module _ (parts : Parts) (classes : List Class) (one : Found) (two : Explored) (at context : ℕ) (stands : PlaceStandsAt parts one two at) where
   real_two : IsReal parts (found_in two)
   real_two = subst (IsReal parts) (sym stands.same) stands.real
 
@@ -85,12 +85,12 @@ module _ (parts : Parts) (classes : List Class) (one : Found) (two : Explored) (
       done (record (found_in two) { trapped = trapped }) (trap_added parts classes (found_in two) at context pc (place_in two at) tt' trapped (number_place two at stands.within) real_two is pushed)
 
   pub alone_done : (to : Numbers) (more : ℕ) (first : Bool) → context < context_count parts → IsGoing parts classes context (thread_at (place_in two at) context) two.pools to more first → IsTrue first
-      → IsAlone parts classes (found_in two) at context
+      → IsPrivateTurn parts classes (found_in two) at context
   alone_done to more first exists is yes' = alone_is parts classes (found_in two) at context (place_in two at) (number_place two at stands.within) real_two exists (is.first_is yes')
 
   module _ (to : Numbers) (more : ℕ) (first : Bool) (three : Found) (exists : context < context_count parts)
       (is : IsGoing parts classes context (thread_at (place_in two at) context) two.pools to more first)
-      (kept : Bool) (added : IsTrue kept → Adds (found_in two) three (with_thread (place_in two at) context (thread_in two.pools to)) (record { from = at; context = context; turns = more + 1 }))
+      (kept : Bool) (added : IsTrue kept → AddsPlace (found_in two) three (with_thread (place_in two at) context (thread_in two.pools to)) (record { from = at; context = context; turns = more + 1 }))
       (full : kept ≡ false → three ≡ found_in two) where
     going_done : IsTrue kept → IsDone parts classes one three at context
     going_done yes' = let adds = added yes' in record {

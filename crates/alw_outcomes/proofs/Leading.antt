@@ -16,7 +16,7 @@ use Rattle.alw_places.specs.Places.{traps, to_go}
 use Rattle.alw_places.specs.Sharing.{is_allowed, is_private}
 use Rattle.alw_places.specs.Threads.{Thread, effect_in, thread_turn, thread_turns, thread_need, ThreadGoes, ThreadPrivate, ArePrivate}
 use Rattle.alw_outcomes.specs.Pools.{AreIn, ArePools, PoolsGrow, GoOn, lists_of, no_seat, seat_in, memory_in, words_in, thread_in}
-use Rattle.alw_outcomes.specs.Leads.{IsChain, IsTrapOf, IsGoing}
+use Rattle.alw_outcomes.specs.Leads.{IsPrivateChain, IsTrapOf, IsGoing}
 use Rattle.alw_outcomes.proofs.Pooling.{at_place, front_refl, front_trans, front_or, front_length, lists_front, lists_length}
 
 -- ---- pools that go on
@@ -139,23 +139,23 @@ turns-more : (parts : Parts) (thread : Thread) (n : ℕ) → thread_turns parts 
 turns-more parts thread zero = refl
 turns-more parts thread (suc n) = turns-more parts (thread_turn parts thread) n
 
-pub chain_none : (parts : Parts) (classes : List Class) (context : ℕ) (pools : Pools) (at : Numbers) → AreIn pools at → IsChain parts classes context (thread_in pools at) pools at 0
+pub chain_none : (parts : Parts) (classes : List Class) (context : ℕ) (pools : Pools) (at : Numbers) → AreIn pools at → IsPrivateChain parts classes context (thread_in pools at) pools at 0
 chain_none parts classes context pools at inside = record { inside = inside; private = tt; end = refl }
 
 pub chain_grows : (parts : Parts) (classes : List Class) (context : ℕ) (thread : Thread) (before after : Pools) (to : Numbers) (more : ℕ) → ArePools parts before → PoolsGrow before after
-    → IsChain parts classes context thread before to more → IsChain parts classes context thread after to more
+    → IsPrivateChain parts classes context thread before to more → IsPrivateChain parts classes context thread after to more
 chain_grows parts classes context thread before after to more are grow is = record {
   inside = inside_grows before after to grow is.inside;
   private = is.private;
   end = thread_grows parts before after to are grow is.inside ∙ is.end;
 }
 
-pub chain_more : (parts : Parts) (classes : List Class) (context : ℕ) (thread : Thread) (before after : Pools) (to next : Numbers) (more : ℕ) → IsChain parts classes context thread before to more
+pub chain_more : (parts : Parts) (classes : List Class) (context : ℕ) (thread : Thread) (before after : Pools) (to next : Numbers) (more : ℕ) → IsPrivateChain parts classes context thread before to more
     → AreIn after next
-    → thread_in after next ≡ thread_turn parts (thread_in before to) → ThreadPrivate parts classes context (thread_in before to) → IsChain parts classes context thread after next (more + 1)
+    → thread_in after next ≡ thread_turn parts (thread_in before to) → ThreadPrivate parts classes context (thread_in before to) → IsPrivateChain parts classes context thread after next (more + 1)
 chain_more parts classes context thread before after to next more is inside turn private =
     let one : more + 1 ≡ suc more = omega arith in
-    subst (IsChain parts classes context thread after next) (sym one) (record {
+    subst (IsPrivateChain parts classes context thread after next) (sym one) (record {
       inside = inside;
       private = private-more parts classes context thread more is.private (subst (ThreadPrivate parts classes context) is.end private);
       end = turn ∙ ap (thread_turn parts) is.end ∙ sym (turns-more parts thread more);
@@ -163,9 +163,9 @@ chain_more parts classes context thread before after to next more is inside turn
 
 pub going : (parts : Parts) (classes : List Class) (context : ℕ) (thread turned : Thread) (pools : Pools) (to : Numbers) (more : ℕ) (first : Bool) → turned ≡ thread_turn parts thread
     → ThreadGoes parts classes context thread
-    → (IsTrue first → ThreadPrivate parts classes context thread) → IsChain parts classes context turned pools to more → IsGoing parts classes context thread pools to more first
+    → (IsTrue first → ThreadPrivate parts classes context thread) → IsPrivateChain parts classes context turned pools to more → IsGoing parts classes context thread pools to more first
 going parts classes context thread turned pools to more first same goes private chain = record {
   goes = goes;
   first_is = private;
-  chain = subst (λ (t : Thread). IsChain parts classes context t pools to more) same chain;
+  chain = subst (λ (t : Thread). IsPrivateChain parts classes context t pools to more) same chain;
 }

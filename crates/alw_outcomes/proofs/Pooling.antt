@@ -17,7 +17,7 @@ use Rattle.alw_places.specs.declared.turns.Left.{Left}
 use Rattle.alw_outcomes.specs.Digests.{seat_digest, link_digest, memory_digest}
 use Rattle.alw_places.specs.Effects.{Effect, effect_of, written}
 use Rattle.alw_places.specs.Threads.{effect_in, thread_turn, words_after}
-use Rattle.alw_outcomes.specs.Pools.{IsFront, Numbered, IsIndexed, LinksGoOn, HasWords, AreIn, ArePools, GoOn, with_links, lists_of, no_seat, seat_in, memory_in, thread_in}
+use Rattle.alw_outcomes.specs.Pools.{HasGrown, Numbered, IsIndexed, LinksGoOn, ListHasWords, AreIn, ArePools, GoOn, with_links, lists_of, no_seat, seat_in, memory_in, thread_in}
 
 -- ---- members of a list that grows at its end
 
@@ -51,19 +51,19 @@ or-append (x ∷ xs) ys (suc k) d less = or-append xs ys k d (omega arith)
 
 -- ---- fronts
 
-pub front_refl : {A : Type 0} (xs : List A) → IsFront xs xs
+pub front_refl : {A : Type 0} (xs : List A) → HasGrown xs xs
 front_refl xs = record { more = []; is = sym (append-nil xs) }
 
-pub front_trans : {A : Type 0} (xs ys zs : List A) → IsFront xs ys → IsFront ys zs → IsFront xs zs
+pub front_trans : {A : Type 0} (xs ys zs : List A) → HasGrown xs ys → HasGrown ys zs → HasGrown xs zs
 front_trans xs ys zs one two = record { more = one.more ++ two.more; is = two.is ∙ ap (λ l. l ++ two.more) one.is ∙ append_assoc xs one.more two.more }
 
-pub front_get : {A : Type 0} (xs ys : List A) (k : ℕ) (x : A) → IsFront xs ys → slice_get xs k ≡ Some x → slice_get ys k ≡ Some x
+pub front_get : {A : Type 0} (xs ys : List A) (k : ℕ) (x : A) → HasGrown xs ys → slice_get xs k ≡ Some x → slice_get ys k ≡ Some x
 front_get xs ys k x front e = subst (λ l. slice_get l k ≡ Some x) (sym front.is) (get-append xs front.more k x e)
 
-pub front_or : {A : Type 0} (xs ys : List A) (k : ℕ) (d : A) → IsFront xs ys → k < length xs → slice_index_or ys k d ≡ slice_index_or xs k d
+pub front_or : {A : Type 0} (xs ys : List A) (k : ℕ) (d : A) → HasGrown xs ys → k < length xs → slice_index_or ys k d ≡ slice_index_or xs k d
 front_or xs ys k d front less = ap (λ l. slice_index_or l k d) front.is ∙ or-append xs front.more k d less
 
-pub front_length : {A : Type 0} (xs ys : List A) (k : ℕ) → IsFront xs ys → k < length xs → k < length ys
+pub front_length : {A : Type 0} (xs ys : List A) (k : ℕ) → HasGrown xs ys → k < length xs → k < length ys
 front_length xs ys k front less = let e = ap length front.is in omega (arith, e, length-append xs front.more)
 
 -- ---- a member with its number
@@ -72,7 +72,7 @@ pub numbered_get : {A : Type 0} (before after : List A) (x : A) (at : ℕ) → N
 numbered_get before after x at (inl old) = subst (λ l. slice_get l at ≡ Some x) (sym old.1) old.0
 numbered_get before after x at (inr new) = subst (λ l. slice_get l at ≡ Some x) (sym new.1) (ap (slice_get (before ++ x ∷ [])) new.0 ∙ get-last before x)
 
-pub numbered_front : {A : Type 0} (before after : List A) (x : A) (at : ℕ) → Numbered before after x at → IsFront before after
+pub numbered_front : {A : Type 0} (before after : List A) (x : A) (at : ℕ) → Numbered before after x at → HasGrown before after
 numbered_front before after x at (inl old) = record { more = []; is = old.1 ∙ sym (append-nil before) }
 numbered_front before after x at (inr new) = record { more = x ∷ []; is = new.1 }
 
@@ -91,7 +91,7 @@ with_links-append : (lists : List (List ℕ)) (xs ys : List Link) → with_links
 with_links-append lists [] ys = refl
 with_links-append lists (x ∷ xs) ys = with_links-append (lists ++ (slice_index_or lists x.before [] ++ x.word ∷ []) ∷ []) xs ys
 
-pub with_links-front : (lists : List (List ℕ)) (links : List Link) → IsFront lists (with_links lists links)
+pub with_links-front : (lists : List (List ℕ)) (links : List Link) → HasGrown lists (with_links lists links)
 with_links-front lists [] = front_refl lists
 with_links-front lists (x ∷ xs) =
     front_trans lists (lists ++ (slice_index_or lists x.before [] ++ x.word ∷ []) ∷ []) (with_links lists (x ∷ xs))
@@ -145,7 +145,7 @@ link_words links at link back e =
     let same : at + 1 ≡ 1 + at = omega arith in
     ap (λ (n : ℕ). slice_index_or (with_links ([] ∷ []) links) n none) same ∙ is
 
-pub lists_front : (before after : List Link) → IsFront before after → IsFront (lists_of before) (lists_of after)
+pub lists_front : (before after : List Link) → HasGrown before after → HasGrown (lists_of before) (lists_of after)
 unfolding lists_of
 lists_front before after front =
     let all : with_links ([] ∷ []) after ≡ with_links (with_links ([] ∷ []) before) front.more = ap (with_links ([] ∷ [])) front.is ∙ with_links-append ([] ∷ []) before front.more in
@@ -169,7 +169,7 @@ module _ (before after : List Link) (list word at : ℕ) (exists : list < suc (l
       go k link (inl old) = back k link old
       go k link (inr new) = let b : list ≡ link.before = ap (λ (l : Link). l.before) new.1 in omega (arith, b, new.0)
 
-  pub words_longer : HasWords after (at + 1) (slice_index_or (lists_of before) list [] ++ word ∷ [])
+  pub words_longer : ListHasWords after (at + 1) (slice_index_or (lists_of before) list [] ++ word ∷ [])
   words_longer =
       let none : List ℕ = [] in
       let get = numbered_get before after (record { before = list; word = word }) at is in
@@ -197,7 +197,7 @@ module _ (parts : Parts) (before after : Pools) (at : Numbers) (seat : Seat) (le
     (inside : AreIn before at) (pools : ArePools parts before) (read : slice_get before.seats.items at.seat ≡ Some seat)
     (effect : effect_of parts (memory_in before at.memory) seat.regs ≡ record { memory = written (memory_in before at.memory) left.wrote; regs = left.regs; outcome = left.outcome })
     (links : LinksGoOn before.links.items after.links.items)
-    (words : HasWords after.links.items list (words_after (slice_index_or (lists_of before.links.items) seat.list []) left.outcome))
+    (words : ListHasWords after.links.items list (words_after (slice_index_or (lists_of before.links.items) seat.list []) left.outcome))
     (status_is : status ≡ status_after left.regs left.outcome)
     (seats : Numbered before.seats.items after.seats.items (record { regs = left.regs; status = status; list = list }) number)
     (memories : Numbered before.memories.items after.memories.items (written (memory_in before at.memory) left.wrote) memory)
@@ -274,7 +274,7 @@ pub stepped_read : (parts : Parts) (before after : Pools) (at : Numbers) (seat :
     → ArePools parts before
     → seat ≡ slice_index_or before.seats.items at.seat seat → held ≡ slice_index_or before.memories.items at.memory held
     → effect_of parts held seat.regs ≡ record { memory = written held left.wrote; regs = left.regs; outcome = left.outcome }
-    → LinksGoOn before.links.items after.links.items → HasWords after.links.items list (words_after (slice_index_or (lists_of before.links.items) seat.list []) left.outcome)
+    → LinksGoOn before.links.items after.links.items → ListHasWords after.links.items list (words_after (slice_index_or (lists_of before.links.items) seat.list []) left.outcome)
     → status ≡ status_after left.regs left.outcome
     → Numbered before.seats.items after.seats.items (record { regs = left.regs; status = status; list = list }) number
     → Numbered before.memories.items after.memories.items (written (memory_in before at.memory) left.wrote) memory

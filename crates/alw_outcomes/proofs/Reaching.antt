@@ -10,7 +10,7 @@ use Rattle.alw_model.specs.Flat.{context_at}
 use Rattle.alw_places.specs.declared.classes.Class.{Class}
 use Rattle.alw_outcomes.specs.declared.pools.Numbers.{Numbers}
 use Rattle.alw_outcomes.specs.declared.pools.Pools.{Pools}
-use Rattle.alw_places.specs.Places.{Place, place_start, place_turn, places_after, traps, IsRun, HasSizes, place_turns}
+use Rattle.alw_places.specs.Places.{Place, place_start, place_turn, places_after, traps, IsRun, PlaceHasSizes, place_turns}
 use Rattle.alw_places.specs.Outcomes.{Ending, Halts, Traps, EndsIn, all_halted, CanEnd, CanAlwaysEnd}
 use Rattle.alw_places.specs.Sharing.{HasPrivateNext, PrivateTurns}
 use Rattle.alw_places.specs.Threads.{Thread, thread_at, with_thread, ArePrivate}
@@ -123,7 +123,7 @@ module _ (parts : Parts) (classes : List Class) (found : Found) (marks : List Bo
       (exists : context < context_count parts)
       (is : IsGoing parts classes context (thread_at here context) pools to more first) (row : slice_get found.places target ≡ Some (with_thread here context (thread_in pools to)))
       (marked : slice_get marks target ≡ Some mark) where
-    sizes : HasSizes parts here
+    sizes : PlaceHasSizes parts here
     sizes = sizes_found parts found real at here there
 
     there_is : place_turns parts (place_turn parts here context) context more ≡ with_thread here context (thread_in pools to)
@@ -180,7 +180,7 @@ looks_all parts classes found Held at place real there none stays = record {
   kept = λ context breaks. (stays context (past_idle parts place context sizes breaks.ready)).kept breaks;
 }
   where
-    sizes : HasSizes parts place
+    sizes : PlaceHasSizes parts place
     sizes = sizes_found parts found real at place there
 
     no_end : (ending : Ending) → EndsIn parts place ending → ⊥

@@ -9,7 +9,7 @@ use Rattle.std.proofs.lemmas.List.FromFn.{map-range_with_len_more, get_or-map-ra
 use Rattle.alw_outcomes.specs.declared.explored.Explored.{Explored}
 use Rattle.alw_outcomes.specs.Digests.{row_digest}
 use Rattle.alw_outcomes.specs.Pools.{IsIndexed}
-use Rattle.alw_outcomes.specs.Explored.{Row, IsRow, rows_of, rows_in, digest_in}
+use Rattle.alw_outcomes.specs.Explored.{Row, IsPlaceRow, rows_of, rows_in, digest_in}
 use Rattle.alw_outcomes.proofs.Pooling.{or-append, some_is}
 use Rattle.alw_outcomes.proofs.Indexing.{index_none, index_more, index_long}
 
@@ -29,12 +29,12 @@ row_get width memories rows k within =
     slice_get-get_or (rows_of width memories rows) k (row_by width memories rows k) (omega (arith, long, within))
     ∙ ap (λ (r : Row). Some r) (get_or-map-range_with_len (row_by width memories rows) 0 n k k (row_by width memories rows k) within (omega arith))
 
-pub is_there : (e : Explored) (at memory : ℕ) (row : List ℕ) → IsRow e at memory row → slice_get (rows_in e) at ≡ Some (record { memory = memory; contexts = row })
+pub is_there : (e : Explored) (at memory : ℕ) (row : List ℕ) → IsPlaceRow e at memory row → slice_get (rows_in e) at ≡ Some (record { memory = memory; contexts = row })
 is_there e at memory row is =
     row_get e.width e.memories.items e.rows.items at is.exists
     ∙ (λ i. Some (record { memory = get_or_from_slice_get e.memories.items at memory 0 is.memory_is i; contexts = is.row_is i }))
 
-pub there_is : (e : Explored) (at memory : ℕ) (row : List ℕ) → slice_get (rows_in e) at ≡ Some (record { memory = memory; contexts = row }) → IsRow e at memory row
+pub there_is : (e : Explored) (at memory : ℕ) (row : List ℕ) → slice_get (rows_in e) at ≡ Some (record { memory = memory; contexts = row }) → IsPlaceRow e at memory row
 there_is e at memory row there =
     let one : Row = record { memory = memory; contexts = row } in
     let within = slice_get_within (rows_in e) at one there in
@@ -47,7 +47,7 @@ there_is e at memory row there =
     }
 
 -- a row that was compared and is another one
-pub other_row : (e : Explored) (at memory : ℕ) (row : List ℕ) (told : Bool) → (IsRow e at memory row → IsTrue told) → told ≡ false
+pub other_row : (e : Explored) (at memory : ℕ) (row : List ℕ) (told : Bool) → (IsPlaceRow e at memory row → IsTrue told) → told ≡ false
     → slice_get (rows_in e) at ≡ Some (record { memory = memory; contexts = row }) → ⊥
 other_row e at memory row told exact no' there = false≢true (sym no' ∙ exact (there_is e at memory row there))
 
@@ -104,7 +104,7 @@ rows_same rows rows' digests digests' same same' indexed = subst (λ (l : List R
 -- the rows are apart still once another one was put behind them
 pub rows_apart : (before : Explored) (width memory : ℕ) (memories rows row digests : List ℕ) → width ≡ before.width → memories ≡ before.memories.items ++ memory ∷ [] → rows ≡ before.rows.items ++ row
     → length before.rows.items ≡ length before.memories.items * before.width → length row ≡ before.width → digests ≡ before.by_row ++ row_digest memory row ∷ []
-    → ((at : ℕ) → IsRow before at memory row → ⊥)
+    → ((at : ℕ) → IsPlaceRow before at memory row → ⊥)
     → IsIndexed digest_in (rows_in before) before.by_row → IsIndexed digest_in (rows_of width memories rows) digests
 rows_apart before width memory memories rows row digests width_is memories_is rows_is sizes long digests_is new indexed =
     index_more digest_in (rows_in before) (rows_of width memories rows) before.by_row digests (record { memory = memory; contexts = row }) indexed

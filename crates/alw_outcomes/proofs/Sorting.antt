@@ -16,7 +16,7 @@ use Rattle.std.proofs.lemmas.List.Elements.{Contains-append_left, Contains-push,
 use Rattle.std.proofs.lemmas.List.Sorted.{Contains-permutation, IsPermutation-sym}
 use Rattle.alw_outcomes.specs.declared.endings.Keyed.{Keyed}
 use Rattle.alw_outcomes.specs.Endings.{list_cmp}
-use Rattle.alw_outcomes.specs.Keys.{numbers_of, AreKeyed, IsUpTo, IsRising, IsNew, IsUnderWay, AreOneOfEach}
+use Rattle.alw_outcomes.specs.Keys.{numbers_of, AreKeyed, IsUpTo, IsRising, IsNew, SortIsUnderWay, AreOneOfEach}
 use Rattle.alw_outcomes.proofs.Pooling.{get_read}
 use Rattle.alw_outcomes.proofs.Steps.{some_member}
 
@@ -80,9 +80,9 @@ rising sorted is k one two e f =
     up_by one.key.items two.key.items (nat_cmp two.number one.number) (list_cmp two.key.items one.key.items) refl
     ((λ i. is_lt (ordering_then (list_cmp (sym there i).key.items (sym here i).key.items) (nat_cmp (sym there i).number (sym here i).number))) ∙ not_less)
 
-pub way_none : (key : ℕ → List ℕ) (sorted : List Keyed) (kept : List ℕ) → kept ≡ [] → IsUnderWay key sorted 0 kept
+pub way_none : (key : ℕ → List ℕ) (sorted : List Keyed) (kept : List ℕ) → kept ≡ [] → SortIsUnderWay key sorted 0 kept
 unfolding IsStrictlySortedBy
-way_none key sorted kept empty = subst (IsUnderWay key sorted 0) (sym empty) (record {
+way_none key sorted kept empty = subst (SortIsUnderWay key sorted 0) (sym empty) (record {
   within = λ n has. absurd (let l = has.1 in omega arith);
   every = λ k one less e. absurd (omega arith);
   ascending = tt;
@@ -90,7 +90,7 @@ way_none key sorted kept empty = subst (IsUnderWay key sorted 0) (sym empty) (re
   last = λ k one e there. absurd (omega (arith, e));
 })
 
-module _ (key : ℕ → List ℕ) (sorted : List Keyed) (past : ℕ) (kept : List ℕ) (one : Keyed) (keyed : AreKeyed key sorted) (rises : IsRising sorted) (is : IsUnderWay key sorted past kept)
+module _ (key : ℕ → List ℕ) (sorted : List Keyed) (past : ℕ) (kept : List ℕ) (one : Keyed) (keyed : AreKeyed key sorted) (rises : IsRising sorted) (is : SortIsUnderWay key sorted past kept)
     (here : slice_get sorted past ≡ Some one) where
   key_is : (k : ℕ) (x : Keyed) → slice_get sorted k ≡ Some x → x.key.items ≡ key x.number
   key_is k x e = keyed x (contains_get sorted k x e)
@@ -125,7 +125,7 @@ module _ (key : ℕ → List ℕ) (sorted : List Keyed) (past : ℕ) (kept : Lis
       go (inl l) = earlier l
       go (inr l) = last (omega arith)
 
-  pub way_same : (k : ℕ) (before : Keyed) → past ≡ suc k → slice_get sorted k ≡ Some before → before.key.items ≡ one.key.items → IsUnderWay key sorted (past + 1) kept
+  pub way_same : (k : ℕ) (before : Keyed) → past ≡ suc k → slice_get sorted k ≡ Some before → before.key.items ≡ one.key.items → SortIsUnderWay key sorted (past + 1) kept
   way_same k before next e same =
       let keys : key before.number ≡ key one.number = sym (key_is k before e) ∙ same ∙ key_is past one here in
       record {
@@ -140,7 +140,7 @@ module _ (key : ℕ → List ℕ) (sorted : List Keyed) (past : ℕ) (kept : Lis
             (is.last k before next e);
       }
 
-  way_push : Below → IsUnderWay key sorted (past + 1) (kept ++ one.number ∷ [])
+  way_push : Below → SortIsUnderWay key sorted (past + 1) (kept ++ one.number ∷ [])
   unfolding Below
   way_push below =
       let pushed : map key (kept ++ one.number ∷ []) ≡ map key kept ++ key one.number ∷ [] = map-append key kept (one.number ∷ []) in
@@ -164,41 +164,41 @@ module _ (key : ℕ → List ℕ) (sorted : List Keyed) (past : ℕ) (kept : Lis
       there j x less f (inr late) =
           subst (Contains (map key kept ++ key one.number ∷ [])) (ap (λ (y : Keyed). key y.number) (same_one x j (omega arith) f)) (Contains-push (map key kept) (key one.number))
 
-  pub way_first : past ≡ 0 → IsUnderWay key sorted (past + 1) (kept ++ one.number ∷ [])
+  pub way_first : past ≡ 0 → SortIsUnderWay key sorted (past + 1) (kept ++ one.number ∷ [])
   way_first first = way_push (below_none first)
 
-  pub way_other : (k : ℕ) (before : Keyed) → past ≡ suc k → slice_get sorted k ≡ Some before → before.key.items ≢ one.key.items → IsUnderWay key sorted (past + 1) (kept ++ one.number ∷ [])
+  pub way_other : (k : ℕ) (before : Keyed) → past ≡ suc k → slice_get sorted k ≡ Some before → before.key.items ≢ one.key.items → SortIsUnderWay key sorted (past + 1) (kept ++ one.number ∷ [])
   way_other k before next e other = way_push (below_last k before next e other)
 
-  pub way_new : IsNew sorted past true → IsUnderWay key sorted (past + 1) (kept ++ one.number ∷ [])
+  pub way_new : IsNew sorted past true → SortIsUnderWay key sorted (past + 1) (kept ++ one.number ∷ [])
   way_new new = go past refl
     where
-      go : (n : ℕ) → past ≡ n → IsUnderWay key sorted (past + 1) (kept ++ one.number ∷ [])
+      go : (n : ℕ) → past ≡ n → SortIsUnderWay key sorted (past + 1) (kept ++ one.number ∷ [])
       go zero e = way_first e
       go (suc k) e = let b = some_member sorted k (let w = slice_get_within sorted past one here in omega (arith, w, e)) in way_other k b.0 e b.1 (λ same. new k b.0 one e b.1 here same)
 
-  pub way_again : IsNew sorted past false → IsUnderWay key sorted (past + 1) kept
+  pub way_again : IsNew sorted past false → SortIsUnderWay key sorted (past + 1) kept
   way_again again = go past refl
     where
-      go : (n : ℕ) → past ≡ n → IsUnderWay key sorted (past + 1) kept
+      go : (n : ℕ) → past ≡ n → SortIsUnderWay key sorted (past + 1) kept
       go zero e = absurd (let some = again.0 in omega (arith, some, e))
       go (suc k) e = let b = some_member sorted k (let w = slice_get_within sorted past one here in omega (arith, w, e)) in way_same k b.0 e b.1 (again.1 k b.0 one e b.1 here)
 
 -- the same, as code reads the list
-pub way_kept : (key : ℕ → List ℕ) (sorted : List Keyed) (past : ℕ) (kept after : List ℕ) (one : Keyed) → AreKeyed key sorted → IsRising sorted → IsUnderWay key sorted past kept → past < length sorted
-    → one ≡ slice_index_or sorted past one → IsNew sorted past true → after ≡ kept ++ one.number ∷ [] → IsUnderWay key sorted (past + 1) after
+pub way_kept : (key : ℕ → List ℕ) (sorted : List Keyed) (past : ℕ) (kept after : List ℕ) (one : Keyed) → AreKeyed key sorted → IsRising sorted → SortIsUnderWay key sorted past kept → past < length sorted
+    → one ≡ slice_index_or sorted past one → IsNew sorted past true → after ≡ kept ++ one.number ∷ [] → SortIsUnderWay key sorted (past + 1) after
 way_kept key sorted past kept after one keyed rises is less read new pushed =
-    subst (IsUnderWay key sorted (past + 1)) (sym pushed) (way_new key sorted past kept one keyed rises is (get_read sorted past one less read) new)
+    subst (SortIsUnderWay key sorted (past + 1)) (sym pushed) (way_new key sorted past kept one keyed rises is (get_read sorted past one less read) new)
 
-pub way_left : (key : ℕ → List ℕ) (sorted : List Keyed) (past : ℕ) (kept : List ℕ) → AreKeyed key sorted → IsRising sorted → IsUnderWay key sorted past kept → past < length sorted
-    → IsNew sorted past false → IsUnderWay key sorted (past + 1) kept
+pub way_left : (key : ℕ → List ℕ) (sorted : List Keyed) (past : ℕ) (kept : List ℕ) → AreKeyed key sorted → IsRising sorted → SortIsUnderWay key sorted past kept → past < length sorted
+    → IsNew sorted past false → SortIsUnderWay key sorted (past + 1) kept
 way_left key sorted past kept keyed rises is less again = let m = some_member sorted past less in way_again key sorted past kept m.0 keyed rises is m.1 again
 
 pub keyed_sorted : (key : ℕ → List ℕ) (all sorted : List Keyed) → IsPermutation all sorted → AreKeyed key all → AreKeyed key sorted
 keyed_sorted key all sorted moved keyed one has = keyed one (Contains-permutation sorted all one (IsPermutation-sym all sorted moved) has)
 
 -- at the end of the list
-pub way_all : (key : ℕ → List ℕ) (all sorted : List Keyed) (past : ℕ) (kept : List ℕ) → IsPermutation all sorted → length sorted ≤ past → AreKeyed key all → IsUnderWay key sorted past kept
+pub way_all : (key : ℕ → List ℕ) (all sorted : List Keyed) (past : ℕ) (kept : List ℕ) → IsPermutation all sorted → length sorted ≤ past → AreKeyed key all → SortIsUnderWay key sorted past kept
     → AreOneOfEach key (numbers_of all) kept
 way_all key all sorted past kept moved long keyed is = record {
   within = λ n has.

@@ -9,11 +9,11 @@ use Rattle.alw_image.specs.declared.parts.Parts.{Parts}
 use Rattle.alw_image.specs.Images.{context_count}
 use Rattle.alw_flat.proofs.Turns.{ready_exists}
 use Rattle.alw_model.specs.Flat.{context_at}
-use Rattle.alw_places.specs.Places.{Place, place_turn, places_after, outcome_at, traps, IsForward, IsReadyAt, IsRun, HasSizes, place_turns}
+use Rattle.alw_places.specs.Places.{Place, place_turn, places_after, outcome_at, traps, IsForward, IsReadyAt, IsRun, PlaceHasSizes, place_turns}
 use Rattle.alw_places.specs.Outcomes.{Ending, Halts, Traps, all_halted, EndsIn, ComesTo}
 use Rattle.alw_places.specs.declared.classes.Class.{Class}
 use Rattle.alw_places.specs.Sharing.{is_allowed, need_at, IsPrivate, HasNext, HasPrivateNext, PrivateTurns}
-use Rattle.alw_outcomes.specs.Explored.{Found, IsAmong, IsHeld, HasHalted, HasTrapped, IsListed, IsBroken, IsReal, IsFull, IsExpanded, IsClosed, Grows, IsTurnFound, Adds, GoesTo, IsAlone, HasFirst, HasTurn, TellsHalt, HasFull, HasExpanded}
+use Rattle.alw_outcomes.specs.Explored.{Found, IsAmong, IsHeld, HasHalted, HasTrapped, IsListed, IsBroken, IsReal, IsFull, IsExpanded, IsClosed, Grows, IsTurnFound, AddsPlace, GoesTo, IsPrivateTurn, HasFirst, HasTurn, TellsHalt, HasFull, HasExpanded}
 use Rattle.alw_outcomes.specs.declared.explored.Trapped.{Trapped}
 use Rattle.alw_places.specs.declared.classes.Broken.{Broken}
 use Rattle.alw_outcomes.proofs.Finding.{same_member, grows_refl, grows_trans, turn_grows, expanded_grows, adds_is, halt_listed, trap_listed, break_listed, sizes_found}
@@ -80,8 +80,8 @@ module _ (parts : Parts) (classes : List Class) (before after : Found) (at conte
     (exists : context < context_count parts)
     (is : ThreadGoes parts classes context (thread_at here context)) (private : ArePrivate parts classes context (thread_turn parts (thread_at here context)) more)
     (end : to ≡ thread_turns parts (thread_turn parts (thread_at here context)) more)
-    (adds : Adds before after (with_thread here context to) (record { from = at; context = context; turns = more + 1 })) where
-  sizes : HasSizes parts here
+    (adds : AddsPlace before after (with_thread here context to) (record { from = at; context = context; turns = more + 1 })) where
+  sizes : PlaceHasSizes parts here
   sizes = sizes_found parts before real at here there
 
   there_is : place_turns parts (place_turn parts here context) context more ≡ with_thread here context to
@@ -119,7 +119,7 @@ module _ (parts : Parts) (classes : List Class) (before after : Found) (at conte
 
 -- a private turn, as its own context sees it
 pub alone_is : (parts : Parts) (classes : List Class) (found : Found) (at context : ℕ) (here : Place) → slice_get found.places at ≡ Some here → IsReal parts found → context < context_count parts
-    → ThreadPrivate parts classes context (thread_at here context) → IsAlone parts classes found at context
+    → ThreadPrivate parts classes context (thread_at here context) → IsPrivateTurn parts classes found at context
 alone_is parts classes found at context here there real exists first place e =
     let sizes = sizes_found parts found real at here there in
     let is : IsPrivate parts classes here context × IsForward parts here context = (private_at parts classes context exists here first, forward_at parts classes context exists here sizes first) in
@@ -185,7 +185,7 @@ break_added parts classes before at context here turn broken there real refused 
 -- ---- all turns
 
 -- contexts past the last never run
-pub past_idle : (parts : Parts) (place : Place) (context : ℕ) → HasSizes parts place → IsReadyAt place context → context < context_count parts
+pub past_idle : (parts : Parts) (place : Place) (context : ℕ) → PlaceHasSizes parts place → IsReadyAt place context → context < context_count parts
 past_idle parts place context sizes ready = let within = ready_exists place.flat context ready in let long = sizes.contexts in omega arith
 
 pub all_full : (parts : Parts) (classes : List Class) (found : Found) (at : ℕ) → IsReal parts found → ((context : ℕ) → context < context_count parts → HasTurn parts classes found at context)
@@ -196,7 +196,7 @@ all_full parts classes found at real turns halt place e = record {
   kept = λ context breaks. (turns context (past_idle parts place context sizes breaks.ready) place e).kept breaks;
 }
   where
-    sizes : HasSizes parts place
+    sizes : PlaceHasSizes parts place
     sizes = sizes_found parts found real at place e
 
     next : HasNext parts classes (IsHeld parts classes (IsAmong found.places)) place
@@ -235,7 +235,7 @@ turn_stays parts classes one two at context here there goes has =
     at_number parts classes two at context here (goes.grows.places at here there) (turn_grows parts classes one two goes.grows here context (has here there))
 
 -- a private turn leads to a place that is found
-pub first_led : (parts : Parts) (classes : List Class) (before after : Found) (at context : ℕ) → at < length before.places → GoesTo parts before after → IsAlone parts classes before at context
+pub first_led : (parts : Parts) (classes : List Class) (before after : Found) (at context : ℕ) → at < length before.places → GoesTo parts before after → IsPrivateTurn parts classes before at context
     → HasTurn parts classes after at context → HasFirst parts classes after at
 first_led parts classes before after at context within goes alone turn place e =
     let m = some_member before.places at within in

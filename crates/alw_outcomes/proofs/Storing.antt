@@ -26,8 +26,8 @@ use Rattle.alw_places.specs.Places.{Place, place_start}
 use Rattle.alw_places.specs.Outcomes.{all_halted}
 use Rattle.alw_places.specs.Threads.{thread_at, with_thread}
 use Rattle.alw_outcomes.specs.Digests.{seat_digest, link_digest, memory_digest, row_digest}
-use Rattle.alw_outcomes.specs.Pools.{IsFront, Numbered, IsIndexed, AreIn, ArePools, PoolsGrow, GoOn, lists_of, no_seat, seat_in, context_of, context_in, words_in, memory_in, place_of, thread_in}
-use Rattle.alw_outcomes.specs.Explored.{IsAmong, Grows, IsStored, IsRow, AreAtStart, IsReal, halted_in, row_in, place_in, places_in, found_in}
+use Rattle.alw_outcomes.specs.Pools.{HasGrown, Numbered, IsIndexed, AreIn, ArePools, PoolsGrow, GoOn, lists_of, no_seat, seat_in, context_of, context_in, words_in, memory_in, place_of, thread_in}
+use Rattle.alw_outcomes.specs.Explored.{IsAmong, Grows, IsStored, IsPlaceRow, AreAtStart, IsReal, halted_in, row_in, place_in, places_in, found_in}
 use Rattle.alw_outcomes.proofs.Pooling.{at_place, or-append, some_is, front_or, front_length, get-cases, numbered_get, numbered_front, numbered_cases}
 use Rattle.alw_outcomes.proofs.Rows.{take_whole, rows_apart, row_alone}
 use Rattle.alw_outcomes.proofs.Leading.{words_grow}
@@ -210,19 +210,19 @@ module _ (parts : Parts) (before : Explored) (at context : ℕ) (to : Numbers) (
       let words = map-set (words_in before.pools) (row_in before at) context to.seat in
       λ i. record { flat = record { memory = memory_in before.pools to.memory; contexts = contexts i }; printed = words i }
 
-  pub row_there : (k : ℕ) → IsRow before k to.memory (slice_set (row_in before at) context to.seat)
+  pub row_there : (k : ℕ) → IsPlaceRow before k to.memory (slice_set (row_in before at) context to.seat)
       → slice_get (places_in before) k ≡ Some (with_thread (place_in before at) context (thread_in before.pools to))
   row_there k is =
       number_place before k is.exists
       ∙ (λ i. Some (place_of before.pools (get_or_from_slice_get before.memories.items k to.memory 0 is.memory_is i) (is.row_is i)))
       ∙ ap (λ (p : Place). Some p) target
 
-  pub rows_there : (number : Option ℕ) (row : List ℕ) → row ≡ slice_set (row_in before at) context to.seat → IfSome number (λ k. IsRow before k to.memory row)
+  pub rows_there : (number : Option ℕ) (row : List ℕ) → row ≡ slice_set (row_in before at) context to.seat → IfSome number (λ k. IsPlaceRow before k to.memory row)
       → IfSome number (λ k. slice_get (places_in before) k ≡ Some (with_thread (place_in before at) context (thread_in before.pools to)))
   rows_there None row same is = is
-  rows_there (Some k) row same is = row_there k (subst (λ (l : List ℕ). IsRow before k to.memory l) same is)
+  rows_there (Some k) row same is = row_there k (subst (λ (l : List ℕ). IsPlaceRow before k to.memory l) same is)
 
-  pub already : (k : ℕ) → IsRow before k to.memory (slice_set (row_in before at) context to.seat) → IsAmong (places_in before) (with_thread (place_in before at) context (thread_in before.pools to))
+  pub already : (k : ℕ) → IsPlaceRow before k to.memory (slice_set (row_in before at) context to.seat) → IsAmong (places_in before) (with_thread (place_in before at) context (thread_in before.pools to))
   already k is = record { at = k; there = row_there k is }
 
   module _ (after : Explored) (row : List ℕ) (added : IsAdded before after at context to row) where
@@ -269,7 +269,7 @@ module _ (parts : Parts) (before : Explored) (at context : ℕ) (to : Numbers) (
         let old = map_range (place_in after) (place_in before) n old_place in
         ap (λ (m : ℕ). map (place_in after) (range_with_len 0 m)) count ∙ map-range_with_len_more (place_in after) 0 n n (omega arith) ∙ (λ i. old i ++ new_place i ∷ [])
 
-    pub stored_added : context < context_count parts → after.by_row ≡ before.by_row ++ row_digest to.memory row ∷ [] → ((k : ℕ) → IsRow before k to.memory row → ⊥) → IsStored parts after
+    pub stored_added : context < context_count parts → after.by_row ≡ before.by_row ++ row_digest to.memory row ∷ [] → ((k : ℕ) → IsPlaceRow before k to.memory row → ⊥) → IsStored parts after
     stored_added exists by_row new = subst (IsStored parts) (sym added.rest) (record {
       width = stored.width;
       rows =
@@ -328,7 +328,7 @@ still_there before after at within grows =
 abbrev context_by : List Seat → ℕ → Context
 context_by seats n = context_of (slice_index_or seats n no_seat)
 
-contexts_stay : (before after : List Seat) (rows : List ℕ) → IsFront before after → ((k s : ℕ) → slice_get rows k ≡ Some s → s < length before)
+contexts_stay : (before after : List Seat) (rows : List ℕ) → HasGrown before after → ((k s : ℕ) → slice_get rows k ≡ Some s → s < length before)
     → map (context_by after) rows ≡ map (context_by before) rows
 contexts_stay before after [] front inside = refl
 contexts_stay before after (s ∷ rows) front inside =
@@ -373,7 +373,7 @@ one_member x y zero e = cc
 one_member x y (suc k) e = absurd (cc)
 
 -- one place: this memory alone, and all contexts at their start
-pub record IsBegun (parts : Parts) (found : Explored) (memory : List Line) (number : ℕ) : Type 0 where
+pub record SearchIsBegun (parts : Parts) (found : Explored) (memory : List Line) (number : ℕ) : Type 0 where
   pub width : found.width ≡ context_count parts
   pub numbered : Numbered [] found.pools.memories.items memory number
   pub memory_is : memory ≡ map (body_of parts) (range_with_len 0 (line_count parts))
@@ -388,7 +388,7 @@ pub record AreTables (found : Explored) (number : ℕ) : Type 0 where
   pub by_memory : IsIndexed memory_digest found.pools.memories.items found.pools.by_memory
   pub by_row : found.by_row ≡ row_digest number found.rows.items ∷ []
 
-module _ (parts : Parts) (found : Explored) (memory : List Line) (number : ℕ) (begun : IsBegun parts found memory number) where
+module _ (parts : Parts) (found : Explored) (memory : List Line) (number : ℕ) (begun : SearchIsBegun parts found memory number) where
   rows_long : length found.rows.items ≡ context_count parts
   rows_long = sym (length-map found.rows.items (context_by found.pools.seats.items)) ∙ ap length begun.start.contexts ∙ length-map-range_with_len (context_start parts) 0 (context_count parts)
 

@@ -76,7 +76,7 @@ pub record IsStored (parts : Parts) (e : Explored) : Type 0 where
   pub indexed : IsIndexed digest_in (rows_in e) e.by_row
 
 -- the place with this number has this memory and these contexts
-pub record IsRow (e : Explored) (at memory : ℕ) (row : List ℕ) : Type 0 where
+pub record IsPlaceRow (e : Explored) (at memory : ℕ) (row : List ℕ) : Type 0 where
   pub exists : at < length e.memories.items
   pub memory_is : slice_get e.memories.items at ≡ Some memory
   pub row_is : row_in e at ≡ row
@@ -197,8 +197,8 @@ pub record IsTurnFound (parts : Parts) (classes : List Class) (found : Found) (p
   pub kept : Breaks parts classes place context → IsBroken found
 
 -- a place is found: it was already, or it is the last one now, with where it came from
-abbrev pub Adds : Found → Found → Place → Origin → Type 0
-Adds before after place origin =
+abbrev pub AddsPlace : Found → Found → Place → Origin → Type 0
+AddsPlace before after place origin =
     (IsAmong before.places place × (after ≡ before)) ⊎ (after ≡ record before { places = before.places ++ place ∷ []; origins = before.origins ++ origin ∷ [] })
 
 -- all that is found is there, and what was found before still is
@@ -207,8 +207,8 @@ pub record GoesTo (parts : Parts) (before after : Found) : Type 0 where
   pub grows : Grows before after
 
 -- the context's turn at the place with this number is private, and goes forward
-abbrev pub IsAlone : Parts → List Class → Found → ℕ → ℕ → Type 0
-IsAlone parts classes found at context = (place : Place) → slice_get found.places at ≡ Some place → IsPrivate parts classes place context × IsForward parts place context
+abbrev pub IsPrivateTurn : Parts → List Class → Found → ℕ → ℕ → Type 0
+IsPrivateTurn parts classes found at context = (place : Place) → slice_get found.places at ≡ Some place → IsPrivate parts classes place context × IsForward parts place context
 
 -- from the place with this number a private turn is found
 abbrev pub HasFirst : Parts → List Class → Found → ℕ → Type 0

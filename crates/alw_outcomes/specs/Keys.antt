@@ -56,7 +56,7 @@ abbrev pub IsUpTo : List ℕ → List ℕ → Type 0
 IsUpTo one two = (list_cmp one two ≡ Less) ⊎ (one ≡ two)
 
 -- so far of a sorted list one number of each different key is kept, and none is above the last key that was met
-pub record IsUnderWay (key : ℕ → List ℕ) (sorted : List Keyed) (past : ℕ) (kept : List ℕ) : Type 0 where
+pub record SortIsUnderWay (key : ℕ → List ℕ) (sorted : List Keyed) (past : ℕ) (kept : List ℕ) : Type 0 where
   pub within : (n : ℕ) → Contains kept n → Contains (numbers_of sorted) n
   pub every : (k : ℕ) → (one : Keyed) → k < past → slice_get sorted k ≡ Some one → Contains (map key kept) (key one.number)
   pub ascending : IsStrictlySortedBy list_cmp (map key kept)

@@ -13,7 +13,7 @@ use Rattle.alw_places.specs.Threads.{Thread, effect_in, thread_turn, thread_turn
 use Rattle.alw_outcomes.specs.Pools.{thread_in, AreIn}
 
 -- so many private turns of the thread lead there
-pub record IsChain (parts : Parts) (classes : List Class) (context : ℕ) (thread : Thread) (pools : Pools) (to : Numbers) (more : ℕ) : Type 0 where
+pub record IsPrivateChain (parts : Parts) (classes : List Class) (context : ℕ) (thread : Thread) (pools : Pools) (to : Numbers) (more : ℕ) : Type 0 where
   pub inside : AreIn pools to
   pub private : ArePrivate parts classes context thread more
   pub end : thread_in pools to ≡ thread_turns parts thread more
@@ -22,7 +22,7 @@ pub record IsChain (parts : Parts) (classes : List Class) (context : ℕ) (threa
 pub record IsGoing (parts : Parts) (classes : List Class) (context : ℕ) (thread : Thread) (pools : Pools) (to : Numbers) (more : ℕ) (first : Bool) : Type 0 where
   pub goes : ThreadGoes parts classes context thread
   pub first_is : IsTrue first → ThreadPrivate parts classes context thread
-  pub chain : IsChain parts classes context (thread_turn parts thread) pools to more
+  pub chain : IsPrivateChain parts classes context (thread_turn parts thread) pools to more
 
 -- the thread's turn traps
 pub record IsTrapOf (parts : Parts) (classes : List Class) (context : ℕ) (thread : Thread) (pc type : ℕ) : Type 0 where

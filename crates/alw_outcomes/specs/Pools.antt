@@ -15,7 +15,7 @@ use Rattle.alw_places.specs.Threads.{Thread}
 use Rattle.alw_outcomes.specs.Digests.{seat_digest, link_digest, memory_digest}
 
 -- a list that has grown at its end
-pub record IsFront {A : Type 0} (before after : List A) : Type 0 where
+pub record HasGrown {A : Type 0} (before after : List A) : Type 0 where
   pub more : List A
   pub is : after ≡ before ++ more
 
@@ -82,9 +82,9 @@ pub record ArePools (parts : Parts) (pools : Pools) : Type 0 where
 
 -- what was there has its number still
 pub record PoolsGrow (before after : Pools) : Type 0 where
-  pub seats : IsFront before.seats.items after.seats.items
-  pub links : IsFront before.links.items after.links.items
-  pub memories : IsFront before.memories.items after.memories.items
+  pub seats : HasGrown before.seats.items after.seats.items
+  pub links : HasGrown before.links.items after.links.items
+  pub memories : HasGrown before.memories.items after.memories.items
 
 -- pools are pools still, and hold what they held
 pub record GoOn (parts : Parts) (before after : Pools) : Type 0 where
@@ -94,9 +94,9 @@ pub record GoOn (parts : Parts) (before after : Pools) : Type 0 where
 -- links that have grown, each behind an earlier list
 pub record LinksGoOn (before after : List Link) : Type 0 where
   pub back : (k : ℕ) → (link : Link) → slice_get after k ≡ Some link → link.before < suc k
-  pub front : IsFront before after
+  pub front : HasGrown before after
 
 -- the list of this number has these words
-pub record HasWords (links : List Link) (list : ℕ) (words : List ℕ) : Type 0 where
+pub record ListHasWords (links : List Link) (list : ℕ) (words : List ℕ) : Type 0 where
   pub exists : list < suc (length links)
   pub is : slice_index_or (lists_of links) list [] ≡ words

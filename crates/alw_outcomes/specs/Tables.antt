@@ -28,7 +28,7 @@ pub record AreChained (digests befores heads : List ℕ) (count below : ℕ) : T
   pub head : (chain : ℕ) → chain < count → IsLast (IsOnChain digests count chain) below (slice_index_or heads chain 0)
 
 -- all marks are on chains, one for each head
-pub record IsTable (heads : List ℕ) (marks : List Mark) : Type 0 where
+pub record IsMarkTable (heads : List ℕ) (marks : List Mark) : Type 0 where
   pub chained : AreChained (digests_of marks) (befores_of marks) heads (length heads) (length marks)
   pub some : length heads ≡ 0 → length marks ≡ 0
   pub few : length marks < 2 ^ 32

@@ -2,7 +2,7 @@ ghost use Rattle.std.specs.Prelude.{◌≡◌, ◌<◌, ◌+◌, ◌*◌, ◌++�
 ghost use Rattle.std.specs.List.{Contains, range_with_len};
 ghost use Rattle.alw_outcomes.specs.Explored.{found_in, place_in, endings_in, IsStored, IsReal};
 ghost use Rattle.alw_outcomes.specs.Endings.{kept_word, line_words, memory_words, told_in, AreDifferent};
-ghost use Rattle.alw_outcomes.specs.Keys.{words_key, place_key, end_key, turn_key, trap_key, numbers_of, AreKeyed, IsRising, IsNew, IsUnderWay, AreOneOfEach};
+ghost use Rattle.alw_outcomes.specs.Keys.{words_key, place_key, end_key, turn_key, trap_key, numbers_of, AreKeyed, IsRising, IsNew, SortIsUnderWay, AreOneOfEach};
 
 use crate::explored::{Explored, Trapped};
 use crate::places::{memory_at, words_at};
@@ -106,7 +106,7 @@ fn one_of_each(alloc: Global, mut keyed: Vec<Keyed>) -> Result<Vec<u32>, NoMemor
 // Keeps a number where its key differs from the one before it.
 fn keep_new(keyed: &[Keyed], i: usize, kept: &mut Vec<u32>) -> Result<(), NoMemory>
     requires { i < length keyed.now }
-    ensures { OnOk result ((key : ℕ → List ℕ) → AreKeyed key keyed.now → IsRising keyed.now → IsUnderWay key keyed.now i kept.old.items → IsUnderWay key keyed.now (i + 1) kept.new.items) }
+    ensures { OnOk result ((key : ℕ → List ℕ) → AreKeyed key keyed.now → IsRising keyed.now → SortIsUnderWay key keyed.now i kept.old.items → SortIsUnderWay key keyed.now (i + 1) kept.new.items) }
 {
     if is_new(keyed, i) {
         kept.push(keyed[i].number)?;

@@ -10,7 +10,7 @@ ghost use Rattle.alw_outcomes.specs.Pools.{context_of, no_seat, thread_in, AreIn
 ghost use Rattle.alw_outcomes.specs.Digests.{seat_digest, row_digest};
 ghost use Rattle.alw_msg.specs.Statuses.{is_halted};
 ghost use Rattle.alw_outcomes.specs.Leads.{IsLead};
-ghost use Rattle.alw_outcomes.specs.Explored.{found_in, place_in, places_in, row_in, rows_in, digest_in, endings_in, halted_in, IsStored, IsRow, AreAtStart, IsReal, IsClosed, LeadsTo, Adds, GoesTo, IsAlone, HasTurn, TellsHalt, HasFull, HasExpanded, PlacesAreDifferent};
+ghost use Rattle.alw_outcomes.specs.Explored.{found_in, place_in, places_in, row_in, rows_in, digest_in, endings_in, halted_in, IsStored, IsPlaceRow, AreAtStart, IsReal, IsClosed, LeadsTo, AddsPlace, GoesTo, IsPrivateTurn, HasTurn, TellsHalt, HasFull, HasExpanded, PlacesAreDifferent};
 
 use crate::digests::{mixed, mixed_all};
 use crate::leads::{Lead, lead_of};
@@ -272,7 +272,7 @@ fn first_alone(image: &Image, found: &mut Explored, at: u32) -> Result<Option<u3
     ensures hint { OnOk result (found.new.classes.items ≡ found.old.classes.items) }
     ensures memories { OnOk result (found.new.memories.items ≡ found.old.memories.items) }
     ensures context { IfOk result (λ first. IfSome first (λ context. context < context_count image.now)) }
-    ensures alone { IfOk result (λ first. IfSome first (λ context. IsAlone image.now found.new.classes.items (found_in found.new) at context)) }
+    ensures alone { IfOk result (λ first. IfSome first (λ context. IsPrivateTurn image.now found.new.classes.items (found_in found.new) at context)) }
 {
     if at >= found.width {
         return Ok(None);
@@ -295,7 +295,7 @@ fn is_alone(image: &Image, found: &mut Explored, at: u32, context: u32) -> Resul
     ensures same { OnOk result (found_in found.new ≡ found_in found.old) }
     ensures hint { OnOk result (found.new.classes.items ≡ found.old.classes.items) }
     ensures memories { OnOk result (found.new.memories.items ≡ found.old.memories.items) }
-    ensures alone { IfOk result (λ alone. IsTrue alone → IsAlone image.now found.new.classes.items (found_in found.new) at context) }
+    ensures alone { IfOk result (λ alone. IsTrue alone → IsPrivateTurn image.now found.new.classes.items (found_in found.new) at context) }
 {
     let lead = lead_at(image, found, at, context)?;
     match lead {
@@ -500,7 +500,7 @@ fn add(
     requires stored { IsStored image.now found.old }
     ensures stored { OnOk result (IsStored image.now found.new) }
     ensures hint { OnOk result (found.new.classes.items ≡ found.old.classes.items) }
-    ensures adds { IfOk result (λ kept. IsTrue kept → Adds (found_in found.old) (found_in found.new) (with_thread (place_in found.old at) context (thread_in found.old.pools to)) (record { from = at; context = context; turns = more + 1 })) }
+    ensures adds { IfOk result (λ kept. IsTrue kept → AddsPlace (found_in found.old) (found_in found.new) (with_thread (place_in found.old at) context (thread_in found.old.pools to)) (record { from = at; context = context; turns = more + 1 })) }
     ensures full { IfOk result (λ kept. kept ≡ false → found_in found.new ≡ found_in found.old) }
     ensures stopped { IfOk result (λ kept. kept ≡ false → most ≤ length found.new.memories.items) }
     ensures few { OnOk result (length found.new.memories.items ≤ max most (length found.old.memories.items)) }
@@ -566,8 +566,8 @@ fn find_row(found: &Explored, memory: u32, row: &[u32], digest: u32) -> Option<u
     requires rows { length found.now.rows.items ≡ length found.now.memories.items * found.now.width }
     requires indexed { IsIndexed digest_in (rows_in found.now) found.now.by_row }
     requires digest { digest ≡ row_digest memory row.now }
-    ensures some { IfSome result (λ at. IsRow found.now at memory row.now) }
-    ensures none { IfNone result ((at : ℕ) → IsRow found.now at memory row.now → ⊥) }
+    ensures some { IfSome result (λ at. IsPlaceRow found.now at memory row.now) }
+    ensures none { IfNone result ((at : ℕ) → IsPlaceRow found.now at memory row.now → ⊥) }
 {
     let mut rest = found.by_row.last(digest);
     while rest != 0 {
@@ -584,7 +584,7 @@ fn find_row(found: &Explored, memory: u32, row: &[u32], digest: u32) -> Option<u
 fn is_row(found: &Explored, at: u32, memory: u32, row: &[u32]) -> bool
     requires at { at < length found.now.memories.items }
     requires rows { length found.now.rows.items ≡ length found.now.memories.items * found.now.width }
-    ensures { IsTrue result ↔ IsRow found.now at memory row.now }
+    ensures { IsTrue result ↔ IsPlaceRow found.now at memory row.now }
 {
     found.memories[at as usize] == memory && same_row(row_of(&found.rows, found.width, at), row)
 }

@@ -5,7 +5,7 @@ ghost use Rattle.alw_places.specs.Places.{to_go};
 ghost use Rattle.alw_places.specs.Sharing.{is_allowed, is_private};
 ghost use Rattle.alw_places.specs.Threads.{thread_turn, ThreadPrivate};
 ghost use Rattle.alw_outcomes.specs.Pools.{thread_in, AreIn, ArePools, GoOn};
-ghost use Rattle.alw_outcomes.specs.Leads.{IsLead, IsChain};
+ghost use Rattle.alw_outcomes.specs.Leads.{IsLead, IsPrivateChain};
 
 use crate::pools::{Numbers, Pools, Seat, step};
 use alw_image::Image;
@@ -69,7 +69,7 @@ fn chain(
     requires at { AreIn pools.old at }
     requires pools { ArePools image.now pools.old }
     ensures grow { OnOk result (GoOn image.now pools.old pools.new) }
-    ensures chain { IfOk result (λ end. IsChain image.now classes.now context (thread_in pools.old at) pools.new end.0 end.1) }
+    ensures chain { IfOk result (λ end. IsPrivateChain image.now classes.now context (thread_in pools.old at) pools.new end.0 end.1) }
 {
     let mut to = at;
     for more in 0..most {

@@ -5,7 +5,7 @@ ghost use Rattle.alw_places.specs.Places.{to_go};
 ghost use Rattle.alw_outcomes.specs.Digests.{seat_digest, link_digest, memory_digest};
 ghost use Rattle.alw_places.specs.Effects.{written};
 ghost use Rattle.alw_places.specs.Threads.{effect_in, thread_turn, words_after};
-ghost use Rattle.alw_outcomes.specs.Pools.{Numbered, IsFront, LinksGoOn, HasWords, lists_of, thread_in, memory_in, seat_in, AreIn, ArePools, GoOn, IsIndexed};
+ghost use Rattle.alw_outcomes.specs.Pools.{Numbered, HasGrown, LinksGoOn, ListHasWords, lists_of, thread_in, memory_in, seat_in, AreIn, ArePools, GoOn, IsIndexed};
 
 use crate::digests::{mixed, of_lines, weighed};
 use crate::pooled::{Pooled, number_in};
@@ -183,7 +183,7 @@ fn list_after(
     requires back { (k : ℕ) → (link : Link) → slice_get links.old.items k ≡ Some link → link.before < suc k }
     requires indexed { IsIndexed link_digest links.old.items table.old }
     ensures links { OnOk result (LinksGoOn links.old.items links.new.items) }
-    ensures words { IfOk result (λ after. HasWords links.new.items after (words_after (slice_index_or (lists_of links.old.items) list []) outcome)) }
+    ensures words { IfOk result (λ after. ListHasWords links.new.items after (words_after (slice_index_or (lists_of links.old.items) list []) outcome)) }
     ensures indexed { OnOk result (IsIndexed link_digest links.new.items table.new) }
 {
     match outcome {

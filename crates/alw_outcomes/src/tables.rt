@@ -1,5 +1,5 @@
 ghost use Rattle.std.specs.Prelude.{◌≡◌, ◌<◌, ◌≤◌, ◌-◌, ◌%◌, ◌^◌, ◌++◌, ◌∷◌, [], ℕ, length, slice_index_or, OnOk};
-ghost use Rattle.alw_outcomes.specs.Tables.{IsLast, HasDigest, IsOnChain, IsTable, digests_of};
+ghost use Rattle.alw_outcomes.specs.Tables.{IsLast, HasDigest, IsOnChain, IsMarkTable, digests_of};
 
 use alw_num::NoMemory;
 use std::alloc::Global;
@@ -23,13 +23,13 @@ pub struct Mark {
 
 impl Model for Table {
     ghost use Rattle.std.specs.Prelude.{ℕ, List};
-    ghost use Rattle.alw_outcomes.specs.Tables.{IsTable, digests_of};
+    ghost use Rattle.alw_outcomes.specs.Tables.{IsMarkTable, digests_of};
 
     ghost Value = { List ℕ };
 
     ghost view = { λ t. digests_of t.marks.items };
 
-    ghost invariant = { λ t. IsTable t.heads.items t.marks.items };
+    ghost invariant = { λ t. IsMarkTable t.heads.items t.marks.items };
 }
 
 impl Table {
@@ -80,7 +80,7 @@ impl Table {
 
 // The last number with this digest on a chain from a number on down, plus one, or 0 where there is none.
 fn along(heads: &[u32], marks: &[Mark], digest: u32, from: u32) -> u32
-    requires table { IsTable heads.now marks.now }
+    requires table { IsMarkTable heads.now marks.now }
     requires within { from ≤ length marks.now }
     requires chain { 0 < from → IsOnChain (digests_of marks.now) (length heads.now) (digest % length heads.now) (from - 1) }
     ensures { IsLast (HasDigest (digests_of marks.now) digest) from result }
@@ -99,10 +99,10 @@ fn along(heads: &[u32], marks: &[Mark], digest: u32, from: u32) -> u32
 
 // Puts a digest behind the marks, and before the last one on its chain.
 fn push(heads: &mut Vec<u32>, marks: &mut Vec<Mark>, digest: u32) -> Result<(), NoMemory>
-    requires table { IsTable heads.old.items marks.old.items }
+    requires table { IsMarkTable heads.old.items marks.old.items }
     requires some { 0 < length heads.old.items }
     requires few { length marks.old.items < 2 ^ 32 - 1 }
-    ensures table { IsTable heads.new.items marks.new.items }
+    ensures table { IsMarkTable heads.new.items marks.new.items }
     ensures digests { OnOk result (digests_of marks.new.items ≡ digests_of marks.old.items ++ digest ∷ []) }
 {
     let chain = digest as usize % heads.len();
@@ -117,8 +117,8 @@ fn push(heads: &mut Vec<u32>, marks: &mut Vec<Mark>, digest: u32) -> Result<(), 
 
 // Makes the heads twice as many, and all chains anew. At last they stay as many as they are.
 fn widen(heads: &mut Vec<u32>, marks: &mut Vec<Mark>) -> Result<(), NoMemory>
-    requires table { IsTable heads.old.items marks.old.items }
-    ensures table { IsTable heads.new.items marks.new.items }
+    requires table { IsMarkTable heads.old.items marks.old.items }
+    ensures table { IsMarkTable heads.new.items marks.new.items }
     ensures digests { digests_of marks.new.items ≡ digests_of marks.old.items }
     ensures some { OnOk result (0 < length heads.new.items) }
 {
@@ -137,7 +137,7 @@ fn chain_all(heads: &mut Vec<u32>, marks: &mut Vec<Mark>)
     requires heads { (k : ℕ) → slice_index_or heads.old.items k 0 ≡ 0 }
     requires some { 0 < length heads.old.items }
     requires few { length marks.old.items < 2 ^ 32 }
-    ensures table { IsTable heads.new.items marks.new.items }
+    ensures table { IsMarkTable heads.new.items marks.new.items }
     ensures digests { digests_of marks.new.items ≡ digests_of marks.old.items }
     ensures some { 0 < length heads.new.items }
 {

@@ -29,7 +29,7 @@ use Rattle.alw_places.proofs.Ends.{none_ready, not_trap}
 use Rattle.alw_places.specs.declared.classes.Class.{Class}
 use Rattle.alw_places.specs.declared.classes.Class.TheVariants.{Shared, Own, Fixed}
 use Rattle.alw_places.specs.Sharing.{class_of, may_access, is_shared, is_read, is_allowed, is_private, need_at, Goes, IsPrivate, Breaks, HasNext, HasPrivateNext, IsSharedReduced, IsToldOrBroken}
-use Rattle.alw_places.proofs.Reducing.{after_all, Runs, HasFirst, IsToldFull, told, can}
+use Rattle.alw_places.proofs.Reducing.{after_all, EachGoes, HasFirst, IsToldFull, told, can}
 
 -- ---- what a turn reads and writes
 
@@ -278,7 +278,7 @@ module _ (parts : Parts) (classes : List Class) where
   -- ---- a run that keeps to the hint, or up to where it doesn't
 
   abbrev Keeps : Place → List ℕ → Type 0
-  Keeps s turns = Runs (place_turn parts) (Goes parts classes) s turns
+  Keeps s turns = EachGoes (place_turn parts) (Goes parts classes) s turns
 
   record UpToBreak (s : Place) : Type 0 where
     front : List ℕ

@@ -19,7 +19,7 @@ use Rattle.alw_image.specs.Images as images
 use Rattle.alw_model.specs.Contexts.{status_start}
 use Rattle.alw_model.specs.ProcessorSteps.{status_after}
 use Rattle.alw_model.specs.Flat.{Flat, Context, context_at, flat_start, flat_turn, turns_after, turns_ready, turns_print, print_of, context_start, flat_after, flat_prints, are_ready, AreReady}
-use Rattle.alw_places.specs.Places.{Place, place_start, place_turn, places_after, printed_after, outcome_at, regs_at, traps, IsReadyAt, GoesOn, IsRun, HasSizes}
+use Rattle.alw_places.specs.Places.{Place, place_start, place_turn, places_after, printed_after, outcome_at, regs_at, traps, IsReadyAt, GoesOn, IsRun, PlaceHasSizes}
 use Rattle.alw_places.specs.Outcomes.{words_of, flat_halted, HaltsWith, TrapsAt}
 use Rattle.sparc_table.specs.Meaning.{OutcomeIsStill}
 use Rattle.sparc_table.proofs.Effects.{orderly_turn}
@@ -158,7 +158,7 @@ printed_by printed context other Halt within = sym (append-nil _)
 printed_by printed context other (Trap tt) within = sym (append-nil _)
 
 -- each context has printed its words
-printed_is : (parts : Parts) (place : Place) (turns : List ℕ) (context : ℕ) → HasSizes parts place → context < context_count parts
+printed_is : (parts : Parts) (place : Place) (turns : List ℕ) (context : ℕ) → PlaceHasSizes parts place → context < context_count parts
     → slice_index_or (places_after parts place turns).printed context [] ≡ slice_index_or place.printed context [] ++ words_of context (turns_print parts place.flat turns)
 printed_is parts place [] context sizes exists = sym (append-nil _)
 printed_is parts place (other ∷ rest) context sizes exists =

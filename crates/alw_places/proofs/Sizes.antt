@@ -13,7 +13,7 @@ use Rattle.sparc_table.specs.declared.outcomes.Outcome.TheVariants.{Done, Miss, 
 use Rattle.alw_image.specs.declared.parts.Parts.{Parts}
 use Rattle.alw_image.specs.Images.{line_count, context_count, body_of}
 use Rattle.alw_model.specs.Flat.{context_start, stored_in}
-use Rattle.alw_places.specs.Places.{Place, place_start, place_turn, printed_after, regs_at, HasSizes}
+use Rattle.alw_places.specs.Places.{Place, place_start, place_turn, printed_after, regs_at, PlaceHasSizes}
 use Rattle.alw_places.specs.Effects.{effect_by, effect_of}
 use Rattle.alw_places.proofs.Commuting.{effect_at, place_turn_is}
 
@@ -35,7 +35,7 @@ length-printed printed context Halt = refl
 length-printed printed context (Trap tt) = refl
 
 -- a turn keeps the sizes
-pub sizes_stay : (parts : Parts) (place : Place) (context : ℕ) → HasSizes parts place → HasSizes parts (place_turn parts place context)
+pub sizes_stay : (parts : Parts) (place : Place) (context : ℕ) → PlaceHasSizes parts place → PlaceHasSizes parts (place_turn parts place context)
 unfolding effect_at effect_of
 sizes_stay parts place context sizes =
     let is = place_turn_is parts place context in
@@ -46,7 +46,7 @@ sizes_stay parts place context sizes =
     }
 
 -- the start has the sizes
-pub sizes_start : (parts : Parts) → HasSizes parts (place_start parts)
+pub sizes_start : (parts : Parts) → PlaceHasSizes parts (place_start parts)
 sizes_start parts = record {
   memory = length-map-range_with_len (body_of parts) 0 (line_count parts);
   contexts = length-map-range_with_len (context_start parts) 0 (context_count parts);

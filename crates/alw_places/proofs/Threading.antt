@@ -9,7 +9,7 @@ use Rattle.alw_image.specs.declared.parts.Parts.{Parts}
 use Rattle.alw_image.specs.Images.{context_count}
 use Rattle.alw_model.specs.Flat.{Context, context_at}
 use Rattle.alw_places.specs.declared.classes.Class.{Class}
-use Rattle.alw_places.specs.Places.{Place, place_turn, places_after, printed_after, outcome_at, regs_at, traps, to_go, IsRun, IsForward, HasSizes, place_turns}
+use Rattle.alw_places.specs.Places.{Place, place_turn, places_after, printed_after, outcome_at, regs_at, traps, to_go, IsRun, IsForward, PlaceHasSizes, place_turns}
 use Rattle.alw_places.specs.Sharing.{Goes, IsPrivate, PrivateTurns}
 use Rattle.alw_places.specs.Effects.{effect_of}
 use Rattle.alw_places.specs.Threads.{Thread, thread_at, with_thread, words_after, effect_in, thread_left, thread_turn, thread_turns, ThreadGoes, ThreadPrivate, ArePrivate}
@@ -32,7 +32,7 @@ turn_with parts place context =
     place_turn_is parts place context
     ∙ (λ i. record { flat = record { memory = effect.memory; contexts = slice_set place.flat.contexts context (thread_left (thread_at place context) effect).context }; printed = printed_is place.printed context effect.outcome i })
 
-thread_with : (parts : Parts) (place : Place) (context : ℕ) (thread : Thread) → HasSizes parts place → context < context_count parts → thread_at (with_thread place context thread) context ≡ thread
+thread_with : (parts : Parts) (place : Place) (context : ℕ) (thread : Thread) → PlaceHasSizes parts place → context < context_count parts → thread_at (with_thread place context thread) context ≡ thread
 thread_with parts place context thread sizes exists =
     let none : Context = record { regs = start_of 0 0 0; status = Halted } in
     let empty : List ℕ = [] in
@@ -54,10 +54,10 @@ with_same place context =
     λ i. record { flat = record { memory = place.flat.memory; contexts = contexts i }; printed = printed i }
 
 -- after a turn the thread is what the turn left
-pub thread_after : (parts : Parts) (place : Place) (context : ℕ) → HasSizes parts place → context < context_count parts → thread_at (place_turn parts place context) context ≡ thread_turn parts (thread_at place context)
+pub thread_after : (parts : Parts) (place : Place) (context : ℕ) → PlaceHasSizes parts place → context < context_count parts → thread_at (place_turn parts place context) context ≡ thread_turn parts (thread_at place context)
 thread_after parts place context sizes exists = ap (λ (p : Place). thread_at p context) (turn_with parts place context) ∙ thread_with parts place context (thread_turn parts (thread_at place context)) sizes exists
 
-pub turns_with : (parts : Parts) (place : Place) (context n : ℕ) → HasSizes parts place → context < context_count parts → place_turns parts place context n ≡ with_thread place context (thread_turns parts (thread_at place context) n)
+pub turns_with : (parts : Parts) (place : Place) (context n : ℕ) → PlaceHasSizes parts place → context < context_count parts → place_turns parts place context n ≡ with_thread place context (thread_turns parts (thread_at place context) n)
 turns_with parts place context zero sizes exists = sym (with_same place context)
 turns_with parts place context (suc n) sizes exists =
     turns_with parts (place_turn parts place context) context n (sizes_stay parts place context sizes) exists
@@ -78,10 +78,10 @@ module _ (parts : Parts) (classes : List Class) (context : ℕ) (exists : contex
   pub private_at : (place : Place) → ThreadPrivate parts classes context (thread_at place context) → IsPrivate parts classes place context
   private_at place is = record { goes = goes_at parts classes place context is.goes; alone = is.alone }
 
-  pub forward_at : (place : Place) → HasSizes parts place → ThreadPrivate parts classes context (thread_at place context) → IsForward parts place context
+  pub forward_at : (place : Place) → PlaceHasSizes parts place → ThreadPrivate parts classes context (thread_at place context) → IsForward parts place context
   forward_at place sizes is = subst (λ (t : Thread). to_go t.context < to_go (context_at place.flat context)) (sym (thread_after parts place context sizes exists)) is.forward
 
-  pub privates_at : (place : Place) (n : ℕ) → HasSizes parts place → ArePrivate parts classes context (thread_at place context) n → PrivateTurns parts classes place context n
+  pub privates_at : (place : Place) (n : ℕ) → PlaceHasSizes parts place → ArePrivate parts classes context (thread_at place context) n → PrivateTurns parts classes place context n
   privates_at place zero sizes are = tt
   privates_at place (suc n) sizes are = (
     private_at place are.0,

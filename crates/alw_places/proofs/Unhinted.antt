@@ -6,7 +6,7 @@ use Rattle.sparc_table.specs.declared.outcomes.Need.TheVariants as needs
 use Rattle.alw_image.specs.declared.parts.Parts.{Parts}
 use Rattle.alw_places.specs.declared.classes.Class.{Class}
 use Rattle.alw_places.specs.Places.{Place, needs_copy}
-use Rattle.alw_places.specs.Outcomes.{Ending, ComesTo, HasAllNext, HasLocalNext, IsReduced, IsTold}
+use Rattle.alw_places.specs.Outcomes.{Ending, ComesTo, HasAllNext, HasLocalNext, IsReduced, IsEndOfSet}
 use Rattle.alw_places.specs.Sharing.{is_allowed, is_private, HasNext, HasPrivateNext, IsToldOrBroken}
 use Rattle.alw_places.proofs.Independence.{reduced_told}
 
@@ -37,9 +37,9 @@ module _ (parts : Parts) (Held : Place → Type 0) where
   every_next : (place : Place) → HasNext parts no_classes Held place → HasAllNext parts Held place
   every_next place next context on = next context (record { on = on; allowed = all_allowed context _ })
 
-  pub all_told : (ending : Ending) → IsReduced parts Held → ComesTo parts ending → IsTold parts Held ending
+  pub all_told : (ending : Ending) → IsReduced parts Held → ComesTo parts ending → IsEndOfSet parts Held ending
   all_told ending reduced comes = go (reduced_told parts no_classes Held (record { start = reduced.start; next = λ place held. one_next place (reduced.next place held) }) ending comes)
     where
-      go : IsToldOrBroken parts no_classes Held ending → IsTold parts Held ending
+      go : IsToldOrBroken parts no_classes Held ending → IsEndOfSet parts Held ending
       go (inl told) = record { place = told.place; held = told.held; next = every_next told.place told.next; ends = told.ends }
       go (inr broken) = absurd (false≢true (sym broken.breaks.broken ∙ all_allowed broken.context _))

@@ -50,7 +50,7 @@ abbrev pub HasAllNext : Parts → (Place → Type 0) → Place → Type 0
 HasAllNext parts Held place = (context : ℕ) → GoesOn parts place context → Held (place_turn parts place context)
 
 -- a place of the set, from which no local turn alone goes on, is an end that comes to this
-pub record IsTold (parts : Parts) (Held : Place → Type 0) (ending : Ending) : Type 0 where
+pub record IsEndOfSet (parts : Parts) (Held : Place → Type 0) (ending : Ending) : Type 0 where
   pub place : Place
   pub held : Held place
   pub next : HasAllNext parts Held place

@@ -87,7 +87,7 @@ abbrev pub IsForward : Parts → Place → ℕ → Type 0
 IsForward parts place context = to_go (context_at (place_turn parts place context).flat context) < to_go (context_at place.flat context)
 
 -- all lines, all contexts, and a list of words for each context
-pub record HasSizes (parts : Parts) (place : Place) : Type 0 where
+pub record PlaceHasSizes (parts : Parts) (place : Place) : Type 0 where
   pub memory : length place.flat.memory ≡ line_count parts
   pub contexts : length place.flat.contexts ≡ context_count parts
   pub printed : length place.printed ≡ context_count parts

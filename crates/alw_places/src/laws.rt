@@ -3,7 +3,7 @@ ghost use Rattle.alw_image.specs.declared.parts.Parts.{Parts};
 ghost use Rattle.alw_msg.specs.Statuses.{has_trapped};
 ghost use Rattle.alw_model.specs.Flat.{AreReady, flat_after, flat_prints, context_at};
 ghost use Rattle.alw_places.specs.Places.{Place, place_turn, outcome_at, IsReadyAt, IsLocal};
-ghost use Rattle.alw_places.specs.Outcomes.{Ending, ComesTo, IsTold, IsReduced, HaltsWith, TrapsAt, HasTold, flat_halted};
+ghost use Rattle.alw_places.specs.Outcomes.{Ending, ComesTo, IsEndOfSet, IsReduced, HaltsWith, TrapsAt, HasTold, flat_halted};
 ghost use Rattle.alw_places.specs.Sharing.{IsSharedReduced, IsToldOrBroken};
 ghost use Rattle.alw_places.specs.declared.classes.Class.{Class};
 
@@ -23,7 +23,7 @@ pub fn local_turns_commute()
 /// local and forward or all next ones, tells everything that runs come to.
 pub fn reduced_set_tells_all()
     ensures { (parts : Parts) → (held : Place → Bool) → (ending : Ending) → IsReduced parts (λ place. IsTrue (held place)) → ComesTo parts ending →
-        IsTold parts (λ place. IsTrue (held place)) ending }
+        IsEndOfSet parts (λ place. IsTrue (held place)) ending }
 {}
 
 /// A set of places that has the start, and with each place either the next one by a turn that is

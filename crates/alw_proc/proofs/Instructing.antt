@@ -20,7 +20,7 @@ use Rattle.alw_model.specs.Caches.{Transactions}
 use Rattle.alw_model.specs.Contexts.{slot_at, running, ran}
 use Rattle.alw_model.specs.Messages.{homeward}
 use Rattle.alw_model.specs.Sides.{Processor, lines_of}
-use Rattle.alw_model.specs.ProcessorSteps.{Steps, instr, miss, opened, take_turn, status_after}
+use Rattle.alw_model.specs.ProcessorSteps.{IsProcessorStep, instr, miss, opened, take_turn, status_after}
 use Rattle.alw_proc.specs.Homeward.{with_requests}
 use Rattle.alw_proc.specs.Turns.{SlotRuns}
 use Rattle.alw_proc.specs.declared.shared.Shared.{Shared}
@@ -100,19 +100,19 @@ turn_side code p slot lines contexts cache lines' outcome h hits is =
     }
 
 pub turn_steps : (code : List ℕ) (p : Processor) (slot lines : ℕ) (contexts : NodeContexts) (cache : Copies) (lines' : ℕ) (outcome : Outcome) (sent : Sending) → HasRun code p slot lines contexts cache lines' outcome → Hits outcome → sent.messages ≡ []
-    → Steps p (processor_from p.number p.width p.height p.per_node contexts cache p.transactions) sent sent (Turn slot outcome) (instr code sent.stamp p (running p.slots p.current))
+    → IsProcessorStep p (processor_from p.number p.width p.height p.per_node contexts cache p.transactions) sent sent (Turn slot outcome) (instr code sent.stamp p (running p.slots p.current))
 turn_steps code p slot lines contexts cache lines' outcome sent h hits empty =
     let regs = (slot_at contexts.slots slot).regs in
     let step = ap (instr code sent.stamp p) h.runs ∙ (turned code sent.stamp p slot lines contexts cache lines' outcome h hits).step in
     let slots = ap (λ (c : NodeContexts). c.slots) h.contexts_are ∙ ap (ran p.slots slot regs) (left_is regs outcome hits) in
     let current = ap (λ (c : NodeContexts). c.current) h.contexts_are in
-    let taken : Steps p (processor_from p.number p.width p.height p.per_node contexts cache p.transactions) sent sent (Turn slot outcome) (take_turn p slot cache.copies regs outcome) =
+    let taken : IsProcessorStep p (processor_from p.number p.width p.height p.per_node contexts cache p.transactions) sent sent (Turn slot outcome) (take_turn p slot cache.copies regs outcome) =
     record {
       side = λ i. record { number = p.number; width = p.width; height = p.height; per_node = p.per_node; sets = h.sizes.1 i; slots = slots i; current = current i; cache = cache.copies; transactions = p.transactions };
       sends = λ i. record { room = sent.room; src = sent.src; stamp = sent.stamp; messages = empty i };
       outcome = refl;
     } in
-    subst (Steps p _ sent sent (Turn slot outcome)) (sym step) taken
+    subst (IsProcessorStep p _ sent sent (Turn slot outcome)) (sym step) taken
 
 -- ---- a miss
 
@@ -147,16 +147,16 @@ miss_side code p slot lines contexts cache lines' line mode transactions h is al
 pub miss_steps : (code : List ℕ) (p : Processor) (slot lines : ℕ) (contexts : NodeContexts) (cache : Copies) (lines' : ℕ) (line : LineNo) (mode : Mode) (transactions : Transactions) (sent sent' : Sending) → HasRun code p slot lines contexts cache lines' (ends.Miss line mode) → sent.src ≡ p.number
     → transactions ≡ (opened p.transactions line.0 mode slot (value_at p.transactions line.0)).0
     → sent' ≡ with_requests p.per_node sent (opened p.transactions line.0 mode slot (value_at p.transactions line.0)).1
-    → Steps p (processor_from p.number p.width p.height p.per_node contexts cache transactions) sent sent' (Missed slot) (instr code sent.stamp p (running p.slots p.current))
+    → IsProcessorStep p (processor_from p.number p.width p.height p.per_node contexts cache transactions) sent sent' (Missed slot) (instr code sent.stamp p (running p.slots p.current))
 miss_steps code p slot lines contexts cache lines' line mode transactions sent sent' h by all sends =
     let after = missed code sent.stamp p slot lines contexts cache lines' line mode h in
     let step = ap (instr code sent.stamp p) h.runs ∙ after.step in
     let slots = ap (λ (c : NodeContexts). c.slots) h.contexts_are ∙ ap (λ (r : Regs). ran p.slots slot r (Waiting line)) after.regs_are in
     let current = ap (λ (c : NodeContexts). c.current) h.contexts_are in
-    let taken : Steps p (processor_from p.number p.width p.height p.per_node contexts cache transactions) sent sent' (Missed slot) (miss sent.stamp p slot line.0 mode) =
+    let taken : IsProcessorStep p (processor_from p.number p.width p.height p.per_node contexts cache transactions) sent sent' (Missed slot) (miss sent.stamp p slot line.0 mode) =
     record {
       side = λ i. record { number = p.number; width = p.width; height = p.height; per_node = p.per_node; sets = h.sizes.1 i; slots = slots i; current = current i; cache = after.cache_is i; transactions = all i };
       sends = subst (λ n. sent' ≡ with_messages sent (homeward p.per_node n sent.stamp (opened p.transactions line.0 mode slot (value_at p.transactions line.0)).1)) by sends;
       outcome = refl;
     } in
-    subst (Steps p _ sent sent' (Missed slot)) (sym step) taken
+    subst (IsProcessorStep p _ sent sent' (Missed slot)) (sym step) taken

@@ -8,7 +8,7 @@ ghost use Rattle.alw_model.specs.Contexts.{running, slot_at, is_held, all_halted
 ghost use Rattle.alw_msg.specs.Contents.{content};
 ghost use Rattle.alw_model.specs.declared.steps.Did.TheVariants.{Took};
 ghost use Rattle.alw_model.specs.Sides.{lines_of};
-ghost use Rattle.alw_model.specs.ProcessorSteps.{Steps, instr, takes, evict_from};
+ghost use Rattle.alw_model.specs.ProcessorSteps.{IsProcessorStep, instr, takes, evict_from};
 ghost use Rattle.alw_model.specs.NodeStates.{node_start, processor_of};
 ghost use Rattle.alw_ctx.specs.Residents.{number_of};
 ghost use Rattle.alw_proc.specs.Openings.{opener_of};
@@ -82,7 +82,7 @@ impl Proc {
     /// the words from address 0 on. Where no context is Ready, nothing happens.
     pub fn instr(&mut self, code: &Program, sent: &mut Sends) -> Did
         requires begun { SendsAreBegun self.old.number sent.old }
-        ensures { Steps self.old self.new sent.old sent.new result (instr code.now sent.old.stamp self.old (running self.old.slots self.old.current)) }
+        ensures { IsProcessorStep self.old self.new sent.old sent.new result (instr code.now sent.old.stamp self.old (running self.old.slots self.old.current)) }
     {
         let Some(slot) = self.contexts.current() else {
             return Did::Took;
@@ -102,7 +102,7 @@ impl Proc {
         requires begun { SendsAreBegun self.old.number sent.old }
         requires to_cache { to_memory msg.now.kind ≡ false }
         requires line { msg.now.line.0 < lines_of self.old }
-        ensures { Steps self.old self.new sent.old sent.new Took (takes sent.old.stamp self.old msg.now.line.0 (content msg.now)) }
+        ensures { IsProcessorStep self.old self.new sent.old sent.new Took (takes sent.old.stamp self.old msg.now.line.0 (content msg.now)) }
     {
         let (line, homes) = (msg.line, self.homes());
         match msg.kind {
@@ -138,7 +138,7 @@ impl Proc {
     pub fn evict(&mut self, set: u32, sent: &mut Sends) -> Did
         requires begun { SendsAreBegun self.old.number sent.old }
         requires set { set < self.old.sets }
-        ensures { Steps self.old self.new sent.old sent.new result (evict_from sent.old.stamp self.old set) }
+        ensures { IsProcessorStep self.old self.new sent.old sent.new result (evict_from sent.old.stamp self.old set) }
     {
         let homes = self.homes();
         evict(&mut self.shared.cache, set, homes, sent);

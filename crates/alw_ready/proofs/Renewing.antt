@@ -4,7 +4,7 @@ use Rattle.std.proofs.lemmas.Bool.{true≢false, and_from, ltb-true, lt-ltb, eq-
 use Rattle.std.proofs.lemmas.List.{get_or-set_same, get_or-set_other, length-set}
 use Rattle.std.proofs.lemmas.Option.{same_Some}
 use Rattle.alw_num.specs.Maps.{passes}
-use Rattle.alw_num.specs.NodeSets.{Nodes, no_nodes, has_node, add_node, drop_node, members, count_nodes, nodes_of}
+use Rattle.alw_num.specs.NodeSets.{Nodes, no_nodes, has_node, add_node, drop_node, members, count_nodes, nodes_of, AreBelow}
 use Rattle.alw_num.proofs.Sets.{has-none, has-drop, has-put}
 use Rattle.alw_num.proofs.Weigh.{is_node}
 use Rattle.alw_msg.specs.declared.messages.Msg.{Msg}
@@ -57,10 +57,6 @@ module _ (test : ℕ → Bool) where
 
   pub found_all : (found rest : Nodes) → AreFound test found rest → rest ≡ no_nodes → (from : ℕ) → has_node found from ≡ test from
   found_all found rest so_far none from = so_far from (ap (λ S. has_node S from) none ∙ has-none from)
-
--- all that are left have numbers below this one
-abbrev pub AreBelow : ℕ → Nodes → Type 0
-AreBelow n rest = (from : ℕ) → has_node rest from ≡ true → from < n
 
 module _ (n : ℕ) (rest : Nodes) where
   pub all_below : (test : ℕ → Bool) → ((from : ℕ) → has_node rest from ≡ (nat_lt from n && test from)) → AreBelow n rest

@@ -23,14 +23,14 @@ same_entry h entry follows =
     ap (λ (n : ℕ). record { stamp = n; event = entry.event }) (sym stamp)
 
 -- so many entries of a list were taken, and no longer front of it is legal
-pub record IsFront (h : History) (entries : List Entry) (n : ℕ) : Type 0 where
+pub record IsLongestFront (h : History) (entries : List Entry) (n : ℕ) : Type 0 where
   pub few : n ≤ length entries
   pub is : taken_on h entries ≡ record h { journal = h.journal ++ take n entries }
   pub longest : (k : ℕ) → k ≤ length entries → AreLegal h.image h.parameters (state_of h) (take k entries) → k ≤ n
 
 pub record HasFront (h : History) (entries : List Entry) : Type 0 where
   pub n : ℕ
-  pub front : IsFront h entries n
+  pub front : IsLongestFront h entries n
 
 module _ (h : History) (entry : Entry) (rest : List Entry) where
   stops : may_follow h entry ≡ false → (k : ℕ) → k ≤ length (entry ∷ rest) → AreLegal h.image h.parameters (state_of h) (take k (entry ∷ rest)) → k ≤ 0
@@ -47,7 +47,7 @@ module _ (h : History) (entry : Entry) (rest : List Entry) where
     };
   }
 
-  goes_on : may_follow h entry ≡ true → (n : ℕ) → IsFront (grown h entry.event) rest n → (k : ℕ) → k ≤ length (entry ∷ rest) →
+  goes_on : may_follow h entry ≡ true → (n : ℕ) → IsLongestFront (grown h entry.event) rest n → (k : ℕ) → k ≤ length (entry ∷ rest) →
       AreLegal h.image h.parameters (state_of h) (take k (entry ∷ rest)) → k ≤ suc n
   goes_on follows n front zero l legal = omega arith
   goes_on follows n front (suc k) l legal =

@@ -1,5 +1,5 @@
 ghost use Rattle.std.specs.Prelude.{◌≡◌, OnOk, OnErr, IfOk};
-ghost use Rattle.alw_replay.specs.Replays.{Replays, Takes, may_follow, taken_on};
+ghost use Rattle.alw_replay.specs.Replays.{Replays, TakesEntry, may_follow, taken_on};
 
 use alw_image::{Image, Params};
 use alw_mesh::{FitErr, Machine, Watch};
@@ -14,7 +14,7 @@ pub struct Replayed {
     pub kept: u32,
 }
 
-/// Takes the events of entries again, from the start of an image, up to the first entry whose event isn't
+/// TakesEntry the events of entries again, from the start of an image, up to the first entry whose event isn't
 /// enabled within the limit or whose stamp is another. Refused as `Machine::start` is.
 pub fn replay(
     alloc: Global,
@@ -49,9 +49,9 @@ pub fn take_all<W: Watch>(
     Ok(())
 }
 
-/// Takes an entry where it is the next one, and tells whether it is.
+/// TakesEntry an entry where it is the next one, and tells whether it is.
 pub fn take(machine: &mut Machine, entry: Entry) -> Result<bool, NoMemory>
-    ensures taken { IfOk result (λ taken. Takes machine.old entry machine.new taken) }
+    ensures taken { IfOk result (λ taken. TakesEntry machine.old entry machine.new taken) }
     ensures err { OnErr result (machine.new ≡ machine.old) }
 {
     if !is_next(machine, entry) {

@@ -27,7 +27,7 @@ abbrev pub all_of : View → List Msg → List Msg
 all_of view late = known view.pushed ++ late
 
 -- the pass that may push has the list pushed, and the pass that may pop has the list popped
-pub record Fits (sender receiver : ℕ) (pushed popped : List Msg) (pass : ℕ) (view : View) : Type 0 where
+pub record ViewFits (sender receiver : ℕ) (pushed popped : List Msg) (pass : ℕ) (view : View) : Type 0 where
   pub pushes : (list : List Msg) → view.pushed ≡ Some list → (pass ≡ sender) × (list ≡ pushed)
   pub pops : (list : List Msg) → view.popped ≡ Some list → (pass ≡ receiver) × (list ≡ popped)
 
@@ -38,7 +38,7 @@ pub record InOrder (held : List Msg) (views : List View) : Type 0 where
   pub pushed : List Msg
   pub popped : List Msg
   pub in_order : pushed ≡ popped ++ held
-  pub each : (pass : ℕ) → (view : View) → get_elem? views pass ≡ some view → Fits sender receiver pushed popped pass view
+  pub each : (pass : ℕ) → (view : View) → get_elem? views pass ≡ some view → ViewFits sender receiver pushed popped pass view
 
 -- a push adds the message to the list pushed
 abbrev pub Adds : View → Msg → View → Type 0

@@ -4,7 +4,7 @@ use Rattle.alw_msg.specs.declared.events.Entry.{Entry}
 use Rattle.alw_model.specs.Machine.{IsLegal}
 use Rattle.law_order.specs.Orders.{kept_by, later_than}
 use Rattle.law_order.proofs.Reached.{cut_whole, cut_state, cut_front}
-use Rattle.alw_mesh.specs.Histories.{History, Fits}
+use Rattle.alw_mesh.specs.Histories.{History, MachineFits}
 use Rattle.alw_mesh.specs.declared.errors.FitErr.{FitErr}
 use Rattle.alw_mesh.specs.declared.errors.FitErr.TheVariants as fits
 use Rattle.alw_mesh.proofs.Journals.{journal_fits}
@@ -43,7 +43,7 @@ module _ (trace : Trace) where
   not_started entries (fits.DoesNotFit number most) is = is
   not_started entries fits.NoMemory is = is
 
-  pub not_fit : (fit : FitErr) → Fits trace.image trace.params (Err fit) → IsNoCut trace (no_cut_of fit)
+  pub not_fit : (fit : FitErr) → MachineFits trace.image trace.params (Err fit) → IsNoCut trace (no_cut_of fit)
   not_fit (fits.DoesNotFit number most) is = is
   not_fit fits.NoMemory is = absurd is
 

@@ -43,7 +43,7 @@ use Rattle.alw_mesh.specs.Readings.{turns_in}
 use Rattle.alw_serve.specs.declared.errors.Hindrance.{Hindrance}
 use Rattle.alw_serve.specs.declared.errors.Hindrance.TheVariants.{NotReady, NotCurrent, AboveLimit}
 use Rattle.alw_serve.specs.Serving.{with_more, GoesOnBy, TurnIsTaken, TurnIsLate, TurnIsHindered, IsHindered, IsNotReady, MayGo, IsLate, Hinders, HasSettled}
-use Rattle.alw_serve.proofs.Turning.{IsBegun, quiet_turns, quiet_serve, no_turn, kept_back, moves_so, turn_so, begun_so, above_so, none_quiet}
+use Rattle.alw_serve.proofs.Turning.{TurnIsBegun, quiet_turns, quiet_serve, no_turn, kept_back, moves_so, turn_so, begun_so, above_so, none_quiet}
 use Rattle.alw_num.proofs.Alls.{all_append}
 
 -- the node of a context
@@ -80,10 +80,10 @@ pub alone_is : (before : History) (context : ℕ) → before.image.contexts ≡ 
 alone_is before context one = ap (λ k. context / k) one ∙ div-one context
 
 -- what was done of a context's turn so far
-pub record IsUnderWay (before : History) (context : ℕ) (more : List Entry) : Type 0 where
+pub record TurnIsUnderWay (before : History) (context : ℕ) (more : List Entry) : Type 0 where
   pub own : AllServe (node_for before context) more
   pub turns : turns_in (with_more before more) ≡ turns_in before
-  pub begun : before.image.contexts ≡ 1 → IsAtRest before.image (state_of before) → IsBegun before.image before.parameters (state_of before) (node_for before context) more × (is_settled (state_of (with_more before more)) ≡ true)
+  pub begun : before.image.contexts ≡ 1 → IsAtRest before.image (state_of before) → TurnIsBegun before.image before.parameters (state_of before) (node_for before context) more × (is_settled (state_of (with_more before more)) ≡ true)
 
 module _ (before : History) (context : ℕ) where
   abbrev n : ℕ
@@ -98,10 +98,10 @@ module _ (before : History) (context : ℕ) where
   none_more : with_more before [] ≡ before
   none_more = ap (λ (j : List Entry). record before { journal = j }) (append-nil before.journal)
 
-  pub begins : IsUnderWay before context []
+  pub begins : TurnIsUnderWay before context []
   begins = record { own = tt; turns = ap turns_in none_more; begun = λ one rests. (inl refl, ap (λ (x : History). is_settled (state_of x)) none_more ∙ rests.settled) }
 
-  module _ (more : List Entry) (way : IsUnderWay before context more) where
+  module _ (more : List Entry) (way : TurnIsUnderWay before context more) where
     abbrev h : History
     h = with_more before more
 
@@ -188,15 +188,15 @@ module _ (before : History) (context : ℕ) where
         goes_far : GoesOnBy before context [] (with_more h es) (more ++ es)
         goes_far = goes_by es [] own_es none_es
 
-        begun_far : image.contexts ≡ 1 → IsAtRest image (state_of before) → IsBegun image parameters (state_of before) n (more ++ es)
+        begun_far : image.contexts ≡ 1 → IsAtRest image (state_of before) → TurnIsBegun image parameters (state_of before) n (more ++ es)
         begun_far one rests =
             let b = way.begun one rests in
-            subst (λ (t : MachineState). IsBegun image parameters (state_of before) n (more ++ entry_for image t (own_event n) ∷ quiet)) (sym stands)
+            subst (λ (t : MachineState). TurnIsBegun image parameters (state_of before) n (more ++ entry_for image t (own_event n) ∷ quiet)) (sym stands)
             (begun_so image run.image one parameters run.parameters before.journal legal_first rests n more b.0 behind (subst (λ (t : MachineState). is_settled t ≡ true) stands b.1)
             (subst (λ (t : MachineState). IsNext image parameters t (entry_for image t (own_event n))) stands (next_is (own_event n) may.may))
             (ap (λ (t : MachineState). turn_in image n (stepped_by image parameters t (own_event n)).did) (sym stands) ∙ no_turn_is) quiet are_quiet)
 
-        pub goes_on : is_settled (state_of far) ≡ true → IsUnderWay before context (more ++ es)
+        pub goes_on : is_settled (state_of far) ≡ true → TurnIsUnderWay before context (more ++ es)
         goes_on settled = record {
           own = goes_far.own;
           turns = ap turns_in (sym (joined es)) ∙ (goes_far.turns ∙ append-nil (turns_in before));
@@ -277,7 +277,7 @@ module _ (before : History) (context : ℕ) where
 node_is : (node : NodeNo) (k : ℕ) → node.0 ≡ k → Instr node ≡ own_event k
 node_is node k e = λ i. Instr (record { 0 = e i })
 
-module _ (before : History) (context : ℕ) (more : List Entry) (way : IsUnderWay before context more) where
+module _ (before : History) (context : ℕ) (more : List Entry) (way : TurnIsUnderWay before context more) where
   abbrev here : History
   here = with_more before more
 
@@ -304,7 +304,7 @@ module _ (before : History) (context : ℕ) (more : List Entry) (way : IsUnderWa
   pub record IsOnItsWay (far : History) : Type 0 where
     pub more_of : List Entry
     pub far_is : far ≡ with_more before more_of
-    pub way_of : IsUnderWay before context more_of
+    pub way_of : TurnIsUnderWay before context more_of
 
   abbrev Goes : History → Bool → Type 0
   Goes far true = IsOnItsWay far

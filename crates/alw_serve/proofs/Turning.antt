@@ -51,8 +51,8 @@ no_turn parts n acts.Evicted not = refl
 -- ---- one context a node
 
 -- a context's turn so far: nothing of it, or an instruction that missed and what it brought about
-abbrev pub IsBegun : Parts → Parameters → MachineState → ℕ → List Entry → Type 0
-IsBegun parts parameters s c more = (more ≡ []) ⊎ (BeginsTurn c more × (turns_from parts parameters s more ≡ []))
+abbrev pub TurnIsBegun : Parts → Parameters → MachineState → ℕ → List Entry → Type 0
+TurnIsBegun parts parameters s c more = (more ≡ []) ⊎ (BeginsTurn c more × (turns_from parts parameters s more ≡ []))
 
 module _ (parts : Parts) (image : IsImage parts) (one : parts.contexts ≡ 1) (parameters : Parameters) (are : AreParameters parameters)
     (journal : List Entry) (legal : IsLegal parts parameters journal) (rests : IsAtRest parts (state parts parameters journal)) (c : ℕ) where
@@ -82,7 +82,7 @@ module _ (parts : Parts) (image : IsImage parts) (one : parts.contexts ≡ 1) (p
 
   -- ---- behind what was begun
 
-  few_so : (more : List Entry) → IsBegun parts parameters s c more → AreLegal parts parameters s more → (length more ≤ 6 * node_count parts + 3) × (greatest_clock (after parts parameters s more) ≤ greatest_clock s + length more)
+  few_so : (more : List Entry) → TurnIsBegun parts parameters s c more → AreLegal parts parameters s more → (length more ≤ 6 * node_count parts + 3) × (greatest_clock (after parts parameters s more) ≤ greatest_clock s + length more)
   few_so [] begun behind = (omega arith, omega arith)
   few_so (entry ∷ rest) (inl none) behind = absurd (let sizes = ap length none in omega arith)
   few_so (entry ∷ rest) (inr begun) behind = let g = goes (entry ∷ rest) begun.0 behind begun.1 in (g.few, g.clocks)
@@ -91,7 +91,7 @@ module _ (parts : Parts) (image : IsImage parts) (one : parts.contexts ≡ 1) (p
   far_kept more behind = subst (IsKept parts parameters) (state_more parts parameters journal more) (always_kept parts image parameters are (journal ++ more) (journal_more parts parameters journal more legal behind))
 
   -- an event that the limit keeps back
-  pub kept_back : (more : List Entry) → IsBegun parts parameters s c more → AreLegal parts parameters s more → (late : Event) → serves c late ≡ true → is_enabled parts parameters (after parts parameters s more) late ≡ true
+  pub kept_back : (more : List Entry) → TurnIsBegun parts parameters s c more → AreLegal parts parameters s more → (late : Event) → serves c late ≡ true → is_enabled parts parameters (after parts parameters s more) late ≡ true
       → parameters.limit < stamp_at parts (after parts parameters s more) late → IsKeptBack parts parameters (after parts parameters s more) c (greatest_clock s + turn_events parts)
   kept_back more begun behind late serves_it enabled above =
       let most = stamp_most parts image parameters are (after parts parameters s more) (far_kept more behind) late enabled in
@@ -101,13 +101,13 @@ module _ (parts : Parts) (image : IsImage parts) (one : parts.contexts ≡ 1) (p
       record { event = late; own = serves_it; enabled = enabled; above = above; stamp = omega arith }
 
   -- while anything is on its way, a delivery or an action of the handler is enabled
-  pub moves_so : (more : List Entry) → IsBegun parts parameters s c more → AreLegal parts parameters s more → is_settled (after parts parameters s more) ≡ false → HasQuiet parts parameters (after parts parameters s more)
+  pub moves_so : (more : List Entry) → TurnIsBegun parts parameters s c more → AreLegal parts parameters s more → is_settled (after parts parameters s more) ≡ false → HasQuiet parts parameters (after parts parameters s more)
   moves_so [] begun behind not = absurd (false≢true (sym not ∙ rests.settled))
   moves_so (entry ∷ rest) (inl none) behind not = absurd (let sizes = ap length none in omega arith)
   moves_so (entry ∷ rest) (inr begun) behind not = (goes (entry ∷ rest) begun.0 behind begun.1).moves not
 
   -- an instruction that is a turn is served
-  pub turn_so : (more : List Entry) → IsBegun parts parameters s c more → AreLegal parts parameters s more → is_settled (after parts parameters s more) ≡ true
+  pub turn_so : (more : List Entry) → TurnIsBegun parts parameters s c more → AreLegal parts parameters s more → is_settled (after parts parameters s more) ≡ true
       → IsNext parts parameters (after parts parameters s more) (entry_for parts (after parts parameters s more) event)
       → c < node_count parts → turn_in parts c (stepped_by parts parameters (after parts parameters s more) event).did ≢ [] → ServesTurn parts parameters s c (more ++ entry_for parts (after parts parameters s more) event ∷ [])
   turn_so [] begun behind settled next here some = hit next here (runs_so parts image one parameters are s c kept here next.enabled) some
@@ -115,10 +115,10 @@ module _ (parts : Parts) (image : IsImage parts) (one : parts.contexts ≡ 1) (p
   turn_so (entry ∷ rest) (inr begun) behind settled next here some = ((goes (entry ∷ rest) begun.0 behind begun.1).turn settled).serves next
 
   -- one that isn't comes first, and what it brings about may follow
-  pub begun_so : (more : List Entry) → IsBegun parts parameters s c more → AreLegal parts parameters s more → is_settled (after parts parameters s more) ≡ true
+  pub begun_so : (more : List Entry) → TurnIsBegun parts parameters s c more → AreLegal parts parameters s more → is_settled (after parts parameters s more) ≡ true
       → IsNext parts parameters (after parts parameters s more) (entry_for parts (after parts parameters s more) event)
       → turn_in parts c (stepped_by parts parameters (after parts parameters s more) event).did ≡ [] → (quiet : List Entry) → AllQuiet quiet
-      → IsBegun parts parameters s c (more ++ entry_for parts (after parts parameters s more) event ∷ quiet)
+      → TurnIsBegun parts parameters s c (more ++ entry_for parts (after parts parameters s more) event ∷ quiet)
   begun_so [] begun behind settled next none quiet are_quiet = inr ((refl, are_quiet), λ i. none i ++ quiet_turns parts parameters (step parts parameters s event) quiet are_quiet i)
   begun_so (entry ∷ rest) (inl empty) behind settled next none quiet are_quiet = absurd (let sizes = ap length empty in omega arith)
   begun_so (entry ∷ rest) (inr begun) behind settled next none quiet are_quiet =

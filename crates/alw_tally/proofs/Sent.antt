@@ -36,14 +36,14 @@ few_push most hops count before kind small few =
     search (arith, at_most kinds.RREQ, at_most kinds.WREQ, at_most kinds.REPM, at_most kinds.UPDATE, at_most kinds.ACKC, at_most kinds.RDATA, at_most kinds.WDATA, at_most kinds.INV, at_most kinds.BUSY)
 
 -- so many messages are counted
-pub record IsUnderWay (parts : Parts) (from : ℕ) (sends : List (ℕ × Msg)) (base : Counts) (i : ℕ) (counts : Counts) : Type 0 where
+pub record CountIsUnderWay (parts : Parts) (from : ℕ) (sends : List (ℕ × Msg)) (base : Counts) (i : ℕ) (counts : Counts) : Type 0 where
   pub exact : counts ≡ with_sent (sent_of parts from (take i sends)) base
   pub few : AreFew (131072 * i) (sent_of parts from (take i sends))
 
 pub goes_on : (parts : Parts) (from : ℕ) (sends : List (ℕ × Msg)) (base : Counts) (i : ℕ) (send : ℕ × Msg) (hops : ℕ) (counts next : Counts)
     → i < length sends → slice_get sends i ≡ Some send
     → hops ≡ hops_between parts from send.0 → hops < 131072 → next ≡ with_kind (with_hops hops counts) send.1.kind
-    → IsUnderWay parts from sends base i counts → IsUnderWay parts from sends base (i + 1) next
+    → CountIsUnderWay parts from sends base i counts → CountIsUnderWay parts from sends base (i + 1) next
 goes_on parts from sends base i send hops counts next within here is few_hops more so_far =
     let found = get_or_from_slice_get sends i send send here in
     let taken : take (i + 1) sends ≡ take i sends ++ send ∷ [] = take_more sends i send within ∙ ap (λ x. take i sends ++ x ∷ []) found in

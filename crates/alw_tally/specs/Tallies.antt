@@ -21,8 +21,8 @@ pub record EventIsWithin (told : Told) : Type 0 where
   pub counts : CountsAreAtMost (2 ^ 25 * told.counts.entries) told.counts
 
 -- room for so many events: for the entry, the turn and the print of each
-abbrev pub HasRoom : ℕ → ℕ → ℕ → ℕ → Type 0
-HasRoom entries turns prints room = (entries + room < 2 ^ 32) × (room ≤ turns) × (room ≤ prints)
+abbrev pub HasRoomForEvents : ℕ → ℕ → ℕ → ℕ → Type 0
+HasRoomForEvents entries turns prints room = (entries + room < 2 ^ 32) × (room ≤ turns) × (room ≤ prints)
 
 -- what is told with one event more, by what it did, took and sent; where it trapped isn't, and it doesn't count as having ended a hold
 abbrev pub told_logged : Parts → Told → Moment → List (ℕ × Msg) → Told

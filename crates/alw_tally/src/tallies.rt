@@ -33,7 +33,7 @@ pub struct Tally {
 }
 
 impl Model for Tally {
-    ghost use Rattle.alw_tally.specs.Tallies.{Tallied, EventIsWithin, HasRoom};
+    ghost use Rattle.alw_tally.specs.Tallies.{Tallied, EventIsWithin, HasRoomForEvents};
 
     ghost Value = { Tallied };
 
@@ -43,7 +43,7 @@ impl Model for Tally {
     } };
 
     ghost invariant = { λ t. EventIsWithin (record { turns = t.turns.list; prints = t.prints.list; counts = t.counts; trap = t.trap })
-        × HasRoom t.counts.entries t.turns.room t.prints.room t.room };
+        × HasRoomForEvents t.counts.entries t.turns.room t.prints.room t.room };
 }
 
 impl Tally {

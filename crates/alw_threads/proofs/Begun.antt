@@ -23,7 +23,7 @@ use Rattle.alw_work.specs.Works.{holds_trap}
 use Rattle.alw_mesh.specs.declared.errors.FitErr.{FitErr}
 use Rattle.alw_mesh.specs.declared.errors.FitErr.TheVariants as fits
 use Rattle.alw_mesh.specs.Limits.{most_steps}
-use Rattle.alw_mesh.specs.Histories.{History, Fits, joined_of, stamps_of}
+use Rattle.alw_mesh.specs.Histories.{History, MachineFits, joined_of, stamps_of}
 use Rattle.alw_sched.specs.Schedules.{MachineIsSeeded, RunIsFinished}
 use Rattle.alw_sched.proofs.Seeded.{seeded_front, seeded_stays, seeded_evicts}
 use Rattle.alw_config.specs.declared.commands.Form.{Form}
@@ -34,7 +34,7 @@ use Rattle.alw_answers.specs.declared.outputs.Refusal.TheVariants as refusal
 use Rattle.alw_answers.specs.Outputs.{Gives}
 use Rattle.alw_answers.specs.Refusals.{refusal_of_fit}
 use Rattle.alw_runs.specs.Forms.{IsTold, IsTooMuch, output_of}
-use Rattle.alw_threads.specs.Working.{AreLeftByWorkers, IsJoinedByWorkers, IsBegun, KeepsCopies, Works, AreTooMany, HasRoom, IsNotWorked}
+use Rattle.alw_threads.specs.Working.{AreLeftByWorkers, IsJoinedByWorkers, IsBegun, KeepsCopies, Works, AreTooMany, FitsWorkers, IsNotWorked}
 use Rattle.alw_runs.proofs.Ended.{IsReadAs, IsFitFor, told_of_run}
 use Rattle.alw_threads.proofs.Trapped.{trapped_after, any_of}
 
@@ -153,7 +153,7 @@ module _ (image : Parts) (params : Parameters) (machine : History) (joined : IsJ
 
 -- why workers didn't run an image that was read
 pub not_worked : (Makes : Output → Type 0) (workers : ℕ) (params : Parameters) (bytes : List ℕ) (image : Parts) → IsReadAs bytes image → (why : Refusal) →
-    HasRoom workers params image (Err why) → Gives Makes (IsNotWorked workers params bytes) (Err why)
+    FitsWorkers workers params image (Err why) → Gives Makes (IsNotWorked workers params bytes) (Err why)
 not_worked Makes workers params bytes image read (refusal.Fault (reason.LimitDoesNotFit number most)) is =
     (read.accepted, subst (λ (p : Parts). IsTooMuch most_steps p params number most) read.same is)
 not_worked Makes workers params bytes image read (refusal.Fault (reason.WorkersDoNotFit number most)) is =
@@ -162,6 +162,6 @@ not_worked Makes workers params bytes image read (refusal.Fault _) is = absurd i
 not_worked Makes workers params bytes image read refusal.NoMemory is = absurd is
 
 -- an image that doesn't fit
-pub no_fit : (workers : ℕ) (params : Parameters) (image : Parts) (fit : FitErr) → Fits image params (Err fit) → HasRoom workers params image (Err (refusal_of_fit fit))
+pub no_fit : (workers : ℕ) (params : Parameters) (image : Parts) (fit : FitErr) → MachineFits image params (Err fit) → FitsWorkers workers params image (Err (refusal_of_fit fit))
 no_fit workers params image (fits.DoesNotFit number most) is = record { most_is = is.2; number_is = is.1; above = omega (arith, is.0, is.1) }
 no_fit workers params image fits.NoMemory is = absurd is

@@ -73,10 +73,10 @@ IsNoWork workers parameters image (reason.WorkersDoNotFit number most) =
 IsNoWork workers parameters image _ = ⊥
 
 -- whether it fits, with a node for each worker, or why not
-abbrev pub HasRoom : ℕ → Parameters → Parts → Result (Unit {0}) Refusal → Type 0
-HasRoom workers parameters image (Ok done) = (stamps_of image parameters ≤ most_steps) × (workers ≤ node_count image)
-HasRoom workers parameters image (Err (refusal.Fault fault)) = IsNoWork workers parameters image fault
-HasRoom workers parameters image (Err refusal.NoMemory) = ⊥
+abbrev pub FitsWorkers : ℕ → Parameters → Parts → Result (Unit {0}) Refusal → Type 0
+FitsWorkers workers parameters image (Ok done) = (stamps_of image parameters ≤ most_steps) × (workers ≤ node_count image)
+FitsWorkers workers parameters image (Err (refusal.Fault fault)) = IsNoWork workers parameters image fault
+FitsWorkers workers parameters image (Err refusal.NoMemory) = ⊥
 
 -- the bytes are no image, or one that workers don't run
 abbrev pub IsNotWorked : ℕ → Parameters → List ℕ → InputErr → Type 0

@@ -2,7 +2,7 @@ ghost use Rattle.std.specs.Prelude.{◌≤◌, IfOk};
 ghost use Rattle.alw_image.specs.Images.{node_count};
 ghost use Rattle.alw_answers.specs.Outputs.{Gives};
 ghost use Rattle.alw_runs.specs.Running.{parameters_in};
-ghost use Rattle.alw_threads.specs.Working.{Works, IsNotWorked, HasRoom, IsJoinedByWorkers};
+ghost use Rattle.alw_threads.specs.Working.{Works, IsNotWorked, FitsWorkers, IsJoinedByWorkers};
 
 use alw_answers::{InputErr, Output, Refusal};
 use alw_config::Form;
@@ -45,7 +45,7 @@ pub fn work_bytes<R: Threads + Wait + Sync, G: Gate>(
 
 // The image fits, and has a node for each worker.
 fn fit_workers(image: &Image, params: &Params, workers: u32) -> Result<(), Refusal>
-    ensures { HasRoom workers params.now image.now result }
+    ensures { FitsWorkers workers params.now image.now result }
 {
     fit(image, params)?;
     let nodes = u32::from(image.nodes());

@@ -97,7 +97,7 @@ more_spans span so_far (Some before) (Some spans) is all =
 -- ---- an event
 
 -- what times are told of it
-pub record IsTold (h after : History) (event : Event) (times : Times) (waits : Option WaitsSoFar) (look : Look) (message : Option Msg) (happened : TimedMoment) : Type 0 where
+pub record IsTimedMoment (h after : History) (event : Event) (times : Times) (waits : Option WaitsSoFar) (look : Look) (message : Option Msg) (happened : TimedMoment) : Type 0 where
   pub look_is : IsLookAt h times event (is_some waits) look
   pub message_is : message ≡ (moment_in h event).taken
   pub sends : last_sends after ≡ (moment_in h event).stepped.sends
@@ -109,7 +109,7 @@ pub record IsTold (h after : History) (event : Event) (times : Times) (waits : O
   pub woken : AreWoken event look.ready (node_in after (node_of event)).slots happened.woken
 
 module _ (h after : History) (run : IsRun h) (event : Event) (here : node_of event < node_count h.image) (grew : after ≡ grown h event)
-    (costs : Costs) (times : Times) (waits : Option WaitsSoFar) (look : Look) (message : Option Msg) (happened : TimedMoment) (told : IsTold h after event times waits look message happened) where
+    (costs : Costs) (times : Times) (waits : Option WaitsSoFar) (look : Look) (message : Option Msg) (happened : TimedMoment) (told : IsTimedMoment h after event times waits look message happened) where
   abbrev this : TimedMoment
   this = happened_of (moment_in h event)
 
@@ -167,7 +167,7 @@ module _ (h after : History) (run : IsRun h) (event : Event) (here : node_of eve
 -- the times of the journal with the event more are kept
 pub goes_on : (h after : History) → IsRun h → (event : Event) → node_of event < node_count h.image → after ≡ grown h event → IsLegal after.image after.parameters after.journal
     → (start now more : Timekeeper) (look : Look) (message : Option Msg) (happened : TimedMoment) (sends : List (ℕ × Msg)) (span : Span)
-    → TimesAreKept start h now → IsTold h after event now.times.clocks now.times.waits look message happened → sends ≡ last_sends after
+    → TimesAreKept start h now → IsTimedMoment h after event now.times.clocks now.times.waits look message happened → sends ≡ last_sends after
     → span.start ≡ start_of h.image now.costs now.times.clocks happened → span.finish ≡ finish_of h.image now.costs now.times.clocks happened sends
     → more.costs ≡ now.costs → more.times.clocks ≡ passed h.image now.costs now.times.clocks happened sends
     → ((most : ℕ) → TimesAreWithin most now.times.clocks → TimesAreWithin (most + 2 ^ 33) more.times.clocks)

@@ -16,13 +16,13 @@ use Rattle.alw_trace.specs.Texts.{image_text, claim_title, lists_text, claim_tex
 use Rattle.alw_trace.specs.Lines.{IsPrint, IsMemoryWord, ClaimLines, claim_lines, behind_image}
 use Rattle.alw_trace.specs.Readings.{is_short, run_tests, runs_tests, tested, fits_print, prints_tests, word_tests, memory_tests, claim_tests, most_turns, HasClaimTypes, ReadsClaim}
 use Rattle.alw_trace.specs.Raw.{IsRangeFault, IsImageOf}
-use Rattle.alw_trace.specs.Lists.{claim_of, AreTurns, ArePrints, AreWords, IsOfClaim, IsClaimOf, IsNoClaim}
+use Rattle.alw_trace.specs.Lists.{claim_of, AreTurns, ArePrints, LinesAreWords, IsOfClaim, IsClaimOf, IsNoClaim}
 use Rattle.alw_trace.proofs.InRange.{no_fault}
 use Rattle.alw_trace.proofs.ReadWords.{words_in}
 use Rattle.alw_trace.proofs.ClaimLists.{head_fits, runs_fit, same_runs, prints_fit, words_fit, words_ascend, first_passed, first_stopped}
 
 -- what the tests of a claim's lines need of its image, whose bytes are an image
-pub record HasSizes (raw : RawClaim) (contexts shared at : ℕ) : Type 0 where
+pub record ClaimHasSizes (raw : RawClaim) (contexts shared at : ℕ) : Type 0 where
   pub accepted : image_fault raw.image ≡ None
   pub contexts_are : contexts ≡ context_count (image_in raw.image)
   pub lines_are : shared ≡ line_count (image_in raw.image)
@@ -30,7 +30,7 @@ pub record HasSizes (raw : RawClaim) (contexts shared at : ℕ) : Type 0 where
 
 pub sizes : (bytes : List ℕ) (raw : RawClaim) (image : Parts) (contexts shared at : ℕ) → bytes ≡ raw.image → IsImageOf bytes image
     → contexts ≡ context_count image → shared ≡ line_count image
-    → at ≡ behind_image raw.image → HasSizes raw contexts shared at
+    → at ≡ behind_image raw.image → ClaimHasSizes raw contexts shared at
 sizes bytes raw image contexts shared at e is counted lined here = record {
   accepted = no_fault bytes raw.image image e is;
   contexts_are = counted ∙ ap context_count (is.parts ∙ ap image_in e);
@@ -49,7 +49,7 @@ abbrev of_memory : RawClaim → ℕ → ℕ → List (ℕ × Bool)
 of_memory raw shared at = memory_tests shared (at + 1 + length raw.runs.items + 1 + length raw.prints.items) raw.memory.items
 
 -- the tests of all lines
-tests-are : (raw : RawClaim) (contexts shared at : ℕ) → HasSizes raw contexts shared at → claim_tests (image_in raw.image) (claim_of raw)
+tests-are : (raw : RawClaim) (contexts shared at : ℕ) → ClaimHasSizes raw contexts shared at → claim_tests (image_in raw.image) (claim_of raw)
     ≡ of_runs raw contexts at ++ (of_prints raw contexts at ++ of_memory raw shared at)
 unfolding claim_tests
 tests-are raw contexts shared at h =
@@ -61,7 +61,7 @@ tests-are raw contexts shared at h =
     ∙ ap (λ (n : ℕ). runs_tests contexts at raw.runs.items ++ (prints_tests contexts (at + 1 + length raw.runs.items) raw.prints.items
     ++ memory_tests n (at + 1 + length raw.runs.items + 1 + length raw.prints.items) raw.memory.items)) (sym h.lines_are)
 
-pub wrong_run : (raw : RawClaim) (contexts shared at : ℕ) (runs : List (ℕ × ℕ)) (fault : TextErr) → HasSizes raw contexts shared at → runs ≡ raw.runs.items
+pub wrong_run : (raw : RawClaim) (contexts shared at : ℕ) (runs : List (ℕ × ℕ)) (fault : TextErr) → ClaimHasSizes raw contexts shared at → runs ≡ raw.runs.items
     → IsRangeFault (λ line. first_unfit (runs_tests contexts at runs) ≡ Some line) fault → IsNoClaim (claim_of raw) fault
 wrong_run raw contexts shared at runs (Syntax line) h same is = is
 wrong_run raw contexts shared at runs (Image f) h same is = absurd is
@@ -79,7 +79,7 @@ runs_passed : (raw : RawClaim) (contexts at : ℕ) (runs : List (ℕ × ℕ)) (t
 runs_passed raw contexts at runs turns same are = ap (λ (r : List (ℕ × ℕ)). first_unfit (runs_tests contexts at r)) (sym same) ∙ are.fits
 
 pub wrong_print : (raw : RawClaim) (contexts shared at behind : ℕ) (runs : List (ℕ × ℕ)) (turns : List ℕ) (prints : List (ℕ × ℕ)) (fault : TextErr)
-    → HasSizes raw contexts shared at → runs ≡ raw.runs.items → AreTurns contexts at runs turns
+    → ClaimHasSizes raw contexts shared at → runs ≡ raw.runs.items → AreTurns contexts at runs turns
     → behind ≡ at + 1 + length raw.runs.items → prints ≡ raw.prints.items
     → IsRangeFault (λ line. first_unfit (prints_tests contexts behind prints) ≡ Some line) fault → IsNoClaim (claim_of raw) fault
 wrong_print raw contexts shared at behind runs turns prints (Syntax line) h same are place all is = is
@@ -103,7 +103,7 @@ prints_passed raw contexts at behind lines prints place same are =
     ∙ ap (λ (p : List (ℕ × ℕ)). first_unfit (prints_tests contexts behind p)) (sym same) ∙ are.fits
 
 pub wrong_word : (raw : RawClaim) (contexts shared at behind last : ℕ) (runs : List (ℕ × ℕ)) (turns : List ℕ) (lines prints words : List (ℕ × ℕ))
-    (fault : TextErr) → HasSizes raw contexts shared at → runs ≡ raw.runs.items → AreTurns contexts at runs turns
+    (fault : TextErr) → ClaimHasSizes raw contexts shared at → runs ≡ raw.runs.items → AreTurns contexts at runs turns
     → behind ≡ at + 1 + length raw.runs.items → lines ≡ raw.prints.items → ArePrints contexts behind lines prints
     → last ≡ behind + 1 + length raw.prints.items → words ≡ raw.memory.items
     → IsRangeFault (λ line. first_unfit (memory_tests shared last words) ≡ Some line) fault → IsNoClaim (claim_of raw) fault
@@ -127,7 +127,7 @@ pub found : (bytes : List ℕ) (raw : RawClaim) (image : Parts) (contexts shared
     (lines prints list words : List (ℕ × ℕ)) → bytes ≡ raw.image → IsImageOf bytes image → IsImage image
     → contexts ≡ context_count image → shared ≡ line_count image → runs ≡ raw.runs.items → AreTurns contexts at runs turns
     → lines ≡ raw.prints.items → ArePrints contexts behind lines prints
-    → list ≡ raw.memory.items → AreWords shared last list words
+    → list ≡ raw.memory.items → LinesAreWords shared last list words
     → IsClaimOf (claim_of raw) (record { image = image; turns = turns; prints = prints; memory = words })
 found bytes raw image contexts shared at behind last runs turns lines prints list words e is allowed number size same are
     all listed whole kept =

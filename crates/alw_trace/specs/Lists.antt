@@ -66,7 +66,7 @@ pub record ArePrints (contexts at : ℕ) (lines prints : List (ℕ × ℕ)) : Ty
   pub same : prints ≡ lines
   pub short : length lines < 2 ^ 32
 
-pub record AreWords (shared at : ℕ) (lines words : List (ℕ × ℕ)) : Type 0 where
+pub record LinesAreWords (shared at : ℕ) (lines words : List (ℕ × ℕ)) : Type 0 where
   pub fits : first_unfit (memory_tests shared at lines) ≡ None
   pub same : words ≡ lines
   pub short : length lines < 2 ^ 32

@@ -4,7 +4,7 @@ ghost use Rattle.alw_image.specs.Faults.{first_unfit, is_above};
 ghost use Rattle.alw_trace.specs.Lines.{IsMemoryWord, IsPrint};
 ghost use Rattle.alw_trace.specs.Readings.{fits_run, fits_word, is_shared, memory_tests, most_turns, prints_tests, runs_tests};
 ghost use Rattle.alw_trace.specs.Raw.{IsRangeFault};
-ghost use Rattle.alw_trace.specs.Lists.{ArePrints, AreTurns, AreWords};
+ghost use Rattle.alw_trace.specs.Lists.{ArePrints, AreTurns, LinesAreWords};
 
 use crate::faults::TextErr;
 use alw_msg::{Prints, Turns, Words};
@@ -104,7 +104,7 @@ pub fn words_of(alloc: Global, lines: &[(u64, u64)], shared: u32, at: u64) -> Re
     requires at { at ≤ 2 ^ 61 }
     requires shared { shared ≤ MOST_LINES }
     requires words { AllByRecursion IsMemoryWord lines.now }
-    ensures ok { IfOk result (λ words. AreWords shared at lines.now words) }
+    ensures ok { IfOk result (λ words. LinesAreWords shared at lines.now words) }
     ensures err { IfErr result (IsRangeFault (λ line. first_unfit (memory_tests shared at lines.now) ≡ Some line)) }
 {
     if lines.len() > MOST_MEMBERS {

@@ -1,5 +1,5 @@
 ghost use Rattle.std.specs.Prelude.{◌≡◌, ◌+◌, OnOk};
-ghost use Rattle.alw_cells.specs.Records.{AreBelow};
+ghost use Rattle.alw_cells.specs.Records.{StampsAreBelow};
 
 use crate::images::{LINK_TO_ITSELF, ONE_NODE, image_of};
 use crate::plays::entry_of;
@@ -38,9 +38,9 @@ const CALL_BACK: Msg = Msg {
 // An event more of a node that sends nothing, behind those up to a stamp. A delivery takes such a message.
 fn put(alloc: Global, log: &mut Log, node: NodeNo, last: u32, entry: Entry) -> Result<(), Fail>
     requires number { log.old.number ≡ node.0 }
-    requires last { AreBelow (last + 1) log.old.entries }
+    requires last { StampsAreBelow (last + 1) log.old.entries }
     ensures number { OnOk result (log.new.number ≡ node.0) }
-    ensures last { OnOk result (AreBelow (entry.stamp + 1) log.new.entries) }
+    ensures last { OnOk result (StampsAreBelow (entry.stamp + 1) log.new.entries) }
 {
     if entry.stamp <= last {
         return Err("stamps don't rise".into());

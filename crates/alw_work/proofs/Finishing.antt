@@ -16,7 +16,7 @@ use Rattle.alw_model.specs.Threads.{Logged, is_from, took_from}
 use Rattle.alw_cells.specs.Cells.{Cell, IsCell, cell_start, in_from}
 use Rattle.alw_cells.specs.Choice.{taken_by, come_taken, logged_by, after_event}
 use Rattle.alw_cells.proofs.Runs.{clock_most}
-use Rattle.alw_work.specs.Seats.{EachAt, IsCellOf, StandsAt, HasTrapped, TrapIsMarked, CellIsOfNode, TakesNothing, Works, Finishes, CellsAreFinished, CellsAreAlone}
+use Rattle.alw_work.specs.Seats.{EachAt, IsCellOf, StandsAt, HasTrapped, TrapIsMarked, CellIsOfNode, TakesNothing, Works, CellFinishes, CellsAreFinished, CellsAreAlone}
 use Rattle.alw_work.proofs.Working.{works_none, works_trans, works_step}
 use Rattle.law_order.proofs.Clocks.{stamp_above}
 
@@ -174,10 +174,10 @@ so_far_push parts parameters cells trapped number cell has are here stands marke
 
 pub record AreFinishedTo (n : ℕ) (before after : List Cell) : Type 0 where
   pub count : length after ≡ length before
-  pub done : (k : ℕ) (cell : Cell) → k < n → slice_get after k ≡ Some cell → (was : Cell) × ((slice_get before k ≡ Some was) × Finishes was cell)
+  pub done : (k : ℕ) (cell : Cell) → k < n → slice_get after k ≡ Some cell → (was : Cell) × ((slice_get before k ≡ Some was) × CellFinishes was cell)
   pub rest : (k : ℕ) → n ≤ k → slice_get after k ≡ slice_get before k
 
-pub finished_next : (n : ℕ) (before after : List Cell) (old new : Cell) → slice_get after n ≡ Some old → AreFinishedTo n before after → Finishes old new
+pub finished_next : (n : ℕ) (before after : List Cell) (old new : Cell) → slice_get after n ≡ Some old → AreFinishedTo n before after → CellFinishes old new
     → AreFinishedTo (n + 1) before (slice_set after n new)
 finished_next n before after old new here are finishes = record {
   count = set_length after n new ∙ are.count;
@@ -188,13 +188,13 @@ finished_next n before after old new here are finishes = record {
 }
   where
     last : (k : ℕ) (cell : Cell) → k ≡ n → slice_get (slice_set after n new) k ≡ Some cell
-        → (was : Cell) × ((slice_get before k ≡ Some was) × Finishes was cell)
+        → (was : Cell) × ((slice_get before k ≡ Some was) × CellFinishes was cell)
     last k cell same is =
         let at = subst (λ (j : ℕ). slice_get (slice_set after n new) j ≡ Some cell) same is in (
           old,
           (
             subst (λ (j : ℕ). slice_get before j ≡ Some old) (sym same) (sym (are.rest n (omega arith)) ∙ here),
-            subst (λ (one : Cell). Finishes old one) (get_same after n new cell old here at) finishes,
+            subst (λ (one : Cell). CellFinishes old one) (get_same after n new cell old here at) finishes,
           ),
         )
 
@@ -202,15 +202,15 @@ pub finished_all : (n : ℕ) (before after : List Cell) → n ≡ length after �
 finished_all n before after all are = record { count = are.count; each = λ k cell at. are.done k cell (omega (arith, all, get_within after k cell at)) at }
 
 -- a cell on its way to be spent
-pub record Goes (before after : Cell) : Type 0 where
+pub record CellGoes (before after : Cell) : Type 0 where
   pub same : CellIsOfNode before after
   pub alone : TakesNothing before → TakesNothing after
   pub works : Works before after
 
-pub goes_none : (cell : Cell) → Goes cell cell
+pub goes_none : (cell : Cell) → CellGoes cell cell
 goes_none cell = record { same = record { number = refl; parts = refl; parameters = refl }; alone = λ none. none; works = works_none cell }
 
-pub goes_on : (before cell : Cell) (event : Event) → Goes before cell → Goes before (after_event cell event)
+pub goes_on : (before cell : Cell) (event : Event) → CellGoes before cell → CellGoes before (after_event cell event)
 goes_on before cell event goes = record {
   same = record { number = goes.same.number; parts = goes.same.parts; parameters = goes.same.parameters };
   alone = λ none. alone_step cell event (goes.alone none);

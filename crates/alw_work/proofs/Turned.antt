@@ -9,7 +9,7 @@ use Rattle.alw_cells.specs.Cells.{Cell}
 use Rattle.alw_cells.specs.Choice.{next_events, is_evicted, asked_eviction, picked_event, StepsCell}
 use Rattle.alw_work.specs.Seats.{Seat}
 use Rattle.alw_work.specs.Ties.{IsSameButCome, IsSameButGiven}
-use Rattle.alw_work.specs.Turns.{has_acted, has_trapped, StepsOnce, IsSameButCell, Acts, Turns, PicksNoOther, ActsAlone, EndsRun}
+use Rattle.alw_work.specs.Turns.{has_acted, has_trapped, StepsOnce, IsSameButCell, CellActs, Turns, PicksNoOther, ActsAlone, EndsRun}
 
 or_false : (a : Bool) → a ≡ (a || false)
 or_false true = refl
@@ -42,7 +42,7 @@ module _ (pick : ℕ) (before : Seat) where
 
   -- nothing was given out
   pub turns_refused : (come after : Seat) (result : Result Bool NoMemory) → IsSameButCome before.cell come.cell → IsSameButCell before come
-      → Acts pick come after result → Turns pick before after result
+      → CellActs pick come after result → Turns pick before after result
   turns_refused come after result comes same acts = record {
     come = come.cell;
     stepped = after.cell;
@@ -53,7 +53,7 @@ module _ (pick : ℕ) (before : Seat) where
   }
 
   pub turns : (come stepped after : Seat) (result : Result Bool NoMemory) → IsSameButCome before.cell come.cell → IsSameButCell before come
-      → Acts pick come stepped result → IsSameButGiven stepped.cell after.cell → IsSameButCell stepped after → Turns pick before after result
+      → CellActs pick come stepped result → IsSameButGiven stepped.cell after.cell → IsSameButCell stepped after → Turns pick before after result
   turns come stepped after result comes same acts gives same_too = record {
     come = come.cell;
     stepped = stepped.cell;
@@ -69,7 +69,7 @@ picks_none cell pick none =
     ap (λ (es : List Event). cond (is_nonempty es) (cond (is_evicted cell pick) (Some (asked_eviction cell pick)) (slice_get es (pick % length es))) None) none
 
 -- a step of a cell that each number picks an instruction of was taken, where memory wasn't refused
-pub was_taken : (before after : Seat) (acted : Bool) → PicksNoOther before.cell → Acts 0 before after (Ok acted) → Acts 0 before after (Ok true)
+pub was_taken : (before after : Seat) (acted : Bool) → PicksNoOther before.cell → CellActs 0 before after (Ok acted) → CellActs 0 before after (Ok true)
 was_taken before after acted alone acts =
     (acts.0, record { answer = acts.1.answer; steps = acts.1.steps; told = told_by acts.1.answer acts.1.steps acts.1.told; marked = acts.1.marked })
   where
@@ -79,7 +79,7 @@ was_taken before after acted alone acts =
     told_by (Err refused) steps told = absurd (cc)
 
 -- a step to which memory was refused changed nothing
-pub was_refused : (before after : Seat) (refused : NoMemory) → Acts 0 before after (Err refused) → EndsRun 0 before after (Err refused)
+pub was_refused : (before after : Seat) (refused : NoMemory) → CellActs 0 before after (Err refused) → EndsRun 0 before after (Err refused)
 was_refused before after refused acts = let same = told_by acts.1.answer acts.1.steps acts.1.told acts.1.marked in (acts.0, same.0, same.1)
   where
     told_by : (answer : Result Stepped NoMemory) → StepsCell before.cell 0 after.cell answer → Err refused ≡ has_acted answer
@@ -89,7 +89,7 @@ was_refused before after refused acts = let same = told_by acts.1.answer acts.1.
     told_by (Err why) steps told marked = (steps, marked ∙ sym (or_false before.trapped))
 
 -- a step behind those before it
-pub acts_on : (steps : ℕ) (before between after : Seat) → ActsAlone steps before between → PicksNoOther between.cell → Acts 0 between after (Ok true)
+pub acts_on : (steps : ℕ) (before between after : Seat) → ActsAlone steps before between → PicksNoOther between.cell → CellActs 0 between after (Ok true)
     → ActsAlone (steps + 1) before after
 acts_on steps before between after acts alone last = subst (λ (n : ℕ). ActsAlone n before after) (more steps) (between, (acts, alone, last))
   where

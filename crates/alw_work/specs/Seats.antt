@@ -59,7 +59,7 @@ pub record TakesNothing (cell : Cell) : Type 0 where
   pub took : (from : ℕ) → took_from from cell.log ≡ []
 
 -- a cell has been stepped until it is spent
-pub record Finishes (before after : Cell) : Type 0 where
+pub record CellFinishes (before after : Cell) : Type 0 where
   pub same : CellIsOfNode before after
   pub stands : IsCell after
   pub spent : IsSpent after.node.parameters after.node.state
@@ -110,4 +110,4 @@ CellsAreAlone cells = EachAt (λ k. TakesNothing) cells
 -- each cell has been stepped until it is spent
 pub record CellsAreFinished (before after : List Cell) : Type 0 where
   pub count : length after ≡ length before
-  pub each : (k : ℕ) → (cell : Cell) → slice_get after k ≡ Some cell → (was : Cell) × ((slice_get before k ≡ Some was) × Finishes was cell)
+  pub each : (k : ℕ) → (cell : Cell) → slice_get after k ≡ Some cell → (was : Cell) × ((slice_get before k ≡ Some was) × CellFinishes was cell)

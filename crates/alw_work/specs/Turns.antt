@@ -34,8 +34,8 @@ abbrev pub IsSameButCell : Seat → Seat → Type 0
 IsSameButCell before after = (after.number ≡ before.number) × (after.trapped ≡ before.trapped)
 
 -- the cell behind a lock took one step
-abbrev pub Acts : ℕ → Seat → Seat → Result Bool NoMemory → Type 0
-Acts pick before after result = (after.number ≡ before.number) × StepsOnce pick before.cell before.trapped after.cell after.trapped result
+abbrev pub CellActs : ℕ → Seat → Seat → Result Bool NoMemory → Type 0
+CellActs pick before after result = (after.number ≡ before.number) × StepsOnce pick before.cell before.trapped after.cell after.trapped result
 
 -- a turn: messages came into in lists alone, the cell took one step from there, and messages were then given out alone
 pub record Turns (pick : ℕ) (before after : Seat) (result : Result Bool NoMemory) : Type 0 where
@@ -53,7 +53,7 @@ PicksNoOther cell = (pick : ℕ) → picked_event cell pick ≡ Some (Instr (rec
 -- the cell behind a lock took so many steps in a row, each of an instruction that every number picks, and each was taken
 abbrev pub ActsAlone : ℕ → Seat → Seat → Type 0
 ActsAlone zero before after = after ≡ before
-ActsAlone (suc steps) before after = (between : Seat) × (ActsAlone steps before between × PicksNoOther between.cell × Acts 0 between after (Ok true))
+ActsAlone (suc steps) before after = (between : Seat) × (ActsAlone steps before between × PicksNoOther between.cell × CellActs 0 between after (Ok true))
 
 -- what a run tells behind its last step: how many there were, and nothing else happened; or memory was refused to one more, and all is as it was
 abbrev pub EndsRun : ℕ → Seat → Seat → Result ℕ NoMemory → Type 0

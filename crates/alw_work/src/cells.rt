@@ -1,5 +1,5 @@
 ghost use Rattle.std.specs.Prelude.{◌≡◌, ◌<◌, ◌^◌, vec_len, IfOk, OnOk};
-ghost use Rattle.alw_work.specs.Seats.{AreCells, CellsAreAlone, CellsAreSplit, Finishes, CellsAreFinished};
+ghost use Rattle.alw_work.specs.Seats.{AreCells, CellsAreAlone, CellsAreSplit, CellFinishes, CellsAreFinished};
 
 use alw_cells::{CellParts, DidLists, Logs, NodeCell, Stepped, Worked};
 use alw_image::{Image, Params};
@@ -58,7 +58,7 @@ pub fn split_all(alloc: Global, cells: Vec<NodeCell>) -> Result<Worked, NoMemory
 
 // Steps a cell until it is idle. Each step has a greater stamp, and none is past the limit.
 fn finish(cell: &mut NodeCell, draws: &mut Draws) -> Result<(), NoMemory>
-    ensures { OnOk result (Finishes cell.old cell.new) }
+    ensures { OnOk result (CellFinishes cell.old cell.new) }
 {
     loop {
         let _stands = cell.log(); // for its clause

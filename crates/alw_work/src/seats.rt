@@ -3,7 +3,7 @@ ghost use Rattle.alw_image.specs.Images.{node_count};
 ghost use Rattle.alw_work.specs.Works as works;
 ghost use Rattle.alw_work.specs.Seats.{IsCellOf, StandsAt, TrapIsMarked, CellIsOfNode, Works};
 ghost use Rattle.alw_work.specs.Ties.{AreTiedOuts, AreTiedIns, IsSameButCome, IsSameButGiven};
-ghost use Rattle.alw_work.specs.Turns.{StepsOnce, IsSameButCell, Acts, Turns, PicksNoOther, TakesSteps};
+ghost use Rattle.alw_work.specs.Turns.{StepsOnce, IsSameButCell, CellActs, Turns, PicksNoOther, TakesSteps};
 
 use crate::ends::{In, Out};
 use crate::moves::{fetch, offer};
@@ -167,7 +167,7 @@ impl<I: Naming> Locked<I> {
     // Takes one step.
     #[inline(always)]
     fn act(&mut self, pick: u32) -> Result<bool, NoMemory>
-        ensures { Acts pick self.old self.new result }
+        ensures { CellActs pick self.old self.new result }
     {
         step(&mut self.cell, &mut self.trapped, pick)
     }

@@ -74,13 +74,13 @@ pub starts : (places : List PoolPlace) (line first : ℕ) (chain : List ℕ) →
 starts places line first chain path = record { seen = []; rest = chain; whole = refl; path = path; behind = refl; missing = λ j l. absurd (omega arith) }
 
 -- a chain that hasn't ended
-pub record IsFront (places : List PoolPlace) (at : ℕ) (rest : List ℕ) : Type 0 where
+pub record ChainGoesOn (places : List PoolPlace) (at : ℕ) (rest : List ℕ) : Type 0 where
   pub later : List ℕ
   pub is : rest ≡ at ∷ later
   pub within : at < length places
   pub path : IsPath places (next_at places at) later
 
-pub front : (places : List PoolPlace) (at : ℕ) (rest : List ℕ) → at ≢ END → IsPath places at rest → IsFront places at rest
+pub front : (places : List PoolPlace) (at : ℕ) (rest : List ℕ) → at ≢ END → IsPath places at rest → ChainGoesOn places at rest
 front places at [] open_end path = absurd (open_end path)
 front places at (j ∷ js) open_end path = let e : j ≡ at = sym path.0 in record {
   later = js;

@@ -36,7 +36,7 @@ use Rattle.alw_runs.specs.Replaying.{Replays, IsFinishedTrace, IsFinishedText, I
 use Rattle.alw_runs.proofs.NoEvict.{calm, end_after_same, one_end, some_end}
 use Rattle.alw_runs.proofs.Kept.{one_spelled}
 use Rattle.alw_cuts.specs.Saving.{Saves}
-use Rattle.alw_cuts.specs.Resuming.{GoesOn, Resumes, IsSomeCheckpoint}
+use Rattle.alw_cuts.specs.Resuming.{GoesOnBySeed, Resumes, IsSomeCheckpoint}
 use Rattle.alw_cuts.proofs.Resumable.{saved_resumes}
 use Rattle.law_commands.proofs.Again.{read_is, read_types, reports_the_same}
 
@@ -89,7 +89,7 @@ drawn_fresh : (h : History) (x : ℕ) (events : List Event) (after : History) (y
 drawn_fresh h x [] after y are = (ap fresh are.0, are.1)
 drawn_fresh h x (event ∷ rest) after y are = (record { going = are.0.going; pick = are.0.pick }, drawn_fresh (grown h event) (drawn x) rest after y are.1)
 
-goes_on_fresh : (h : History) (seed : ℕ) (journal : List Entry) → GoesOn h seed journal → GoesOn (fresh h) seed journal
+goes_on_fresh : (h : History) (seed : ℕ) (journal : List Entry) → GoesOnBySeed h seed journal → GoesOnBySeed (fresh h) seed journal
 goes_on_fresh h seed journal on = record {
   later = on.later;
   begins = on.begins;
@@ -104,11 +104,11 @@ goes_on_fresh h seed journal on = record {
 
 -- an output tells the run by which a machine goes on by a seed to an end
 pub record TellsOn (machine : History) (seed : ℕ) (form : Form) (output : Output) : Type 0 where
-  pub goes_on : GoesOn machine seed output.journal
+  pub goes_on : GoesOnBySeed machine seed output.journal
   pub told : IsTold machine.image machine.parameters form output
 
 module _ (image : Parts) (p : Parameters) (begins : List Entry) (seed : ℕ) where
-  pub one_journal : (one other : List Entry) (e f : Ended) → GoesOn (whole image p begins) seed one → GoesOn (whole image p begins) seed other →
+  pub one_journal : (one other : List Entry) (e f : Ended) → GoesOnBySeed (whole image p begins) seed one → GoesOnBySeed (whole image p begins) seed other →
       IsEnd image p one e → IsEnd image p other f → one ≡ other
   one_journal one other e f on also end ended =
       ap (λ (h : History). h.journal) (one_seeded (whole image p begins) seed (whole image p one) (whole image p other) on.seeded also.seeded
@@ -194,7 +194,7 @@ module _ (at : ℕ) (traced : List ℕ) (saved : Output) (saves : Saves at trace
     pub tells_cut : TellsOn (cut evict) seed form resumed
     tells_cut = tells_on seed evict form saved.text resumed resumes trace.image trace.params (kept_by at trace.journal) written
 
-    pub alone : (journal : List Entry) (e : Ended) → GoesOn (cut evict) seed journal → IsEnd trace.image (cut evict).parameters journal e → journal ≡ resumed.journal
+    pub alone : (journal : List Entry) (e : Ended) → GoesOnBySeed (cut evict) seed journal → IsEnd trace.image (cut evict).parameters journal e → journal ≡ resumed.journal
     alone journal e on end =
         one_journal trace.image (cut evict).parameters (kept_by at trace.journal) seed journal resumed.journal e tells_cut.told.ended on tells_cut.goes_on end tells_cut.told.run.end
 

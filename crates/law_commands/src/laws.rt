@@ -35,7 +35,7 @@ ghost use Rattle.alw_cycles.specs.ByTime.{timed_text};
 ghost use Rattle.alw_image.specs.Numbers.{HasWords};
 ghost use Rattle.alw_mesh.specs.Limits.{most_steps, most_timed_steps};
 ghost use Rattle.alw_cuts.specs.Saving.{Saves};
-ghost use Rattle.alw_cuts.specs.Resuming.{IsSomeCheckpoint, GoesOn, Resumes};
+ghost use Rattle.alw_cuts.specs.Resuming.{IsSomeCheckpoint, GoesOnBySeed, Resumes};
 ghost use Rattle.alw_image.specs.Faults.{image_in};
 ghost use Rattle.alw_model.specs.declared.ends.Ended.TheVariants.{Halted};
 ghost use Rattle.alw_model.specs.Ends.{IsEnd};
@@ -105,11 +105,11 @@ pub fn checkpoints_are_resumed()
 pub fn saved_runs_go_on()
     ensures accepted { (at : ℕ) → (traced : List ℕ) → (saved : Output) → Saves at traced saved → (evict : ℕ) → evict ≤ 255 → IsSomeCheckpoint evict saved.text }
     ensures goes_on { (at : ℕ) → (traced : List ℕ) → (saved : Output) → (saves : Saves at traced saved) → (seed : ℕ) → (evict : ℕ) → (form : Form) → (resumed : Output) →
-        Resumes seed evict form saved.text resumed → GoesOn (cut_machine (with_evict saves.trace evict) at) seed resumed.journal }
+        Resumes seed evict form saved.text resumed → GoesOnBySeed (cut_machine (with_evict saves.trace evict) at) seed resumed.journal }
     ensures told { (at : ℕ) → (traced : List ℕ) → (saved : Output) → (saves : Saves at traced saved) → (seed : ℕ) → (evict : ℕ) → (form : Form) → (resumed : Output) →
         Resumes seed evict form saved.text resumed → IsTold saves.trace.image (with_evict saves.trace evict).params form resumed }
     ensures alone { (at : ℕ) → (traced : List ℕ) → (saved : Output) → (saves : Saves at traced saved) → (seed : ℕ) → (evict : ℕ) → (form : Form) → (resumed : Output) →
-        Resumes seed evict form saved.text resumed → (journal : List Entry) → (ended : Ended) → GoesOn (cut_machine (with_evict saves.trace evict) at) seed journal →
+        Resumes seed evict form saved.text resumed → (journal : List Entry) → (ended : Ended) → GoesOnBySeed (cut_machine (with_evict saves.trace evict) at) seed journal →
         IsEnd saves.trace.image (with_evict saves.trace evict).params journal ended → journal ≡ resumed.journal }
 {}
 

@@ -30,11 +30,11 @@ reactions-push home (first ∷ rest) i m =
     record { entry = later.entry; sent = ap (λ (s : Sends). after.1 ++ s) later.sent ∙ sym (append_assoc after.1 (reactions after.0 rest).1 _) }
 
 -- what holds at every moment of a course
-pub record IsUnderWay (most : ℕ) (body : Line) (c : Course) : Type 0 where
+pub record CourseIsUnderWay (most : ℕ) (body : Line) (c : Course) : Type 0 where
   pub sound : EntryIsSound most c.entry
   pub acts : ActsAsFullMap body c
 
-begins : (most : ℕ) (body : Line) (always : Bool) → IsUnderWay most body (course_start body always)
+begins : (most : ℕ) (body : Line) (always : Bool) → CourseIsUnderWay most body (course_start body always)
 begins most body always =
     let same = join-none no_nodes in
     record {
@@ -53,29 +53,29 @@ acts_on body c i m after before alike =
     sent_same : (reactions (home_start body) (c.acted ++ (i, m) ∷ [])).1 ≡ (reactions (home_start body) c.acted).1 ++ (act (reactions (home_start body) c.acted).0 i m).1 → c.sent ++ after.1 ≡ (reactions (home_start body) (c.acted ++ (i, m) ∷ [])).1
     sent_same more = ap (λ (s : Sends). s ++ after.1) before.sent ∙ ap (λ (s : Sends). (reactions (home_start body) c.acted).1 ++ s) (alike.sent ∙ ap (λ (h : Home). (act h i m).1) before.entry) ∙ sym more
 
-takes : (most : ℕ) (body : Line) (c : Course) (i : ℕ) (m : ToMemory) (traps : Bool) → 1 ≤ most → IsUnderWay most body c → is_in_progress c.entry.meta ≡ false → is_trapped most c.entry i m ≡ traps → IsUnderWay most body (take_in c i m traps)
+takes : (most : ℕ) (body : Line) (c : Course) (i : ℕ) (m : ToMemory) (traps : Bool) → 1 ≤ most → CourseIsUnderWay most body c → is_in_progress c.entry.meta ≡ false → is_trapped most c.entry i m ≡ traps → CourseIsUnderWay most body (take_in c i m traps)
 takes most body c i m true some before free e = record { sound = trapped_sound most c.entry before.sound; acts = record { entry = before.acts.entry; sent = before.acts.sent } }
 takes most body c i m false some before free e = record {
   sound = hardware_sound most c.entry i m some before.sound e free;
   acts = acts_on body c i m (hardware_act c.entry i m) before.acts (hardware_acts most c.entry i m before.sound e free);
 }
 
-goes_on : (most : ℕ) (body : Line) (c : Course) (event : HomeEvent) → 1 ≤ most → IsUnderWay most body c → IsUnderWay most body (happen most c event)
+goes_on : (most : ℕ) (body : Line) (c : Course) (event : HomeEvent) → 1 ≤ most → CourseIsUnderWay most body c → CourseIsUnderWay most body (happen most c event)
 goes_on most body c (Comes i m) some before = go (is_in_progress c.entry.meta) refl
   where
-    go : (busy : Bool) → is_in_progress c.entry.meta ≡ busy → IsUnderWay most body (come most c i m busy)
+    go : (busy : Bool) → is_in_progress c.entry.meta ≡ busy → CourseIsUnderWay most body (come most c i m busy)
     go true e = before
     go false e = takes most body c i m (is_trapped most c.entry i m) some before e refl
 goes_on most body c Handles some before = go c.packet
   where
-    go : (packet : Option (ℕ × ToMemory)) → IsUnderWay most body (run_handler c packet)
+    go : (packet : Option (ℕ × ToMemory)) → CourseIsUnderWay most body (run_handler c packet)
     go None = before
     go (Some packet) = record {
       sound = handler_sound most c.entry packet.0 packet.1 some before.sound;
       acts = acts_on body c packet.0 packet.1 (handle c.entry packet.0 packet.1) before.acts (handler_acts c.entry packet.0 packet.1);
     }
 
-pub always_under_way : (most : ℕ) (body : Line) (c : Course) (events : List HomeEvent) → 1 ≤ most → IsUnderWay most body c → IsUnderWay most body (happen_all most c events)
+pub always_under_way : (most : ℕ) (body : Line) (c : Course) (events : List HomeEvent) → 1 ≤ most → CourseIsUnderWay most body c → CourseIsUnderWay most body (happen_all most c events)
 always_under_way most body c [] some before = before
 always_under_way most body c (event ∷ rest) some before = always_under_way most body (happen most c event) rest some (goes_on most body c event some before)
 

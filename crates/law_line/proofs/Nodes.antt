@@ -13,7 +13,7 @@ use Rattle.alw_msg.specs.Lists.{count_of}
 use Rattle.alw_model.specs.Lines.{LineState, absent, LineNode}
 use Rattle.law_line.specs.Protocol.{opened, stored, given_up, left, answer, received, changed, is_granted}
 use Rattle.law_line.specs.Census.{is_read, is_write, copies_of, transactions_of, off, off_copy, off_up, wrong_down, Census, census, owes, carries}
-use Rattle.law_line.specs.Sound.{points, in_read_write, role, Fits, CounterFits, Sound}
+use Rattle.law_line.specs.Sound.{points, in_read_write, role, CensusFits, CounterFits, Sound}
 use Rattle.law_line.proofs.Bodies.{off_same, off_within}
 use Rattle.law_line.proofs.Orders.{up_pushed, down_front, wrong_up_push, wrong_up_repm}
 
@@ -80,12 +80,12 @@ pub record Alike (c c' : Census) : Type 0 where
   pub calm : c.rdata ≡ 0 → c.ro ≤ c.wdata → (c'.rdata ≡ 0) × (c'.ro ≤ c'.wdata)
 
 -- one node's change that fits keeps a line sound
-pub node_keeps : (n : ℕ) (x : Line) (s : LineState) (i : ℕ) (w : LineNode) → i < n → Sound n x s → Fits (role s.home i) (census x w) → Alike (census x (s.node i)) (census x w) → Sound n x (changed s i w)
+pub node_keeps : (n : ℕ) (x : Line) (s : LineState) (i : ℕ) (w : LineNode) → i < n → Sound n x s → CensusFits (role s.home i) (census x w) → Alike (census x (s.node i)) (census x w) → Sound n x (changed s i w)
 node_keeps n x s i w here before fits alike =
     let carried : (k : ℕ) → carries (census x (cond (k == i) w (s.node k))) ≡ carries (census x (s.node k)) =
     at_nodes (λ k v. carries (census x v) ≡ carries (census x (s.node k))) s.node i w alike.carrier (λ k d. refl) in
     record {
-      each = at_nodes (λ k v. Fits (role s.home k) (census x v)) s.node i w fits (λ k d. before.each k);
+      each = at_nodes (λ k v. CensusFits (role s.home k) (census x v)) s.node i w fits (λ k d. before.each k);
       counter = before.counter;
       total = sum_same n (λ k. owes (census x (cond (k == i) w (s.node k)))) (λ k. owes (census x (s.node k)))
           (λ k l. at_nodes (λ k v. owes (census x v) ≡ owes (census x (s.node k))) s.node i w alike.debt (λ k d. refl) k) ∙ before.total;
@@ -163,7 +163,7 @@ leaves_keeps n x s i here before = go (s.node i).copy refl
 -- ---- a message is received
 
 -- the answer to an INV by the copy
-record Answers (x : Line) (copy : Option (Mode × Line)) (m : ToMemory) : Type 0 where
+record AnswersInv (x : Line) (copy : Option (Mode × Line)) (m : ToMemory) : Type 0 where
   rreq : digit (is_rreq m) ≡ 0
   wreq : digit (is_wreq m) ≡ 0
   repm : digit (is_repm m) ≡ 0
@@ -171,7 +171,7 @@ record Answers (x : Line) (copy : Option (Mode × Line)) (m : ToMemory) : Type 0
   ackc : digit (is_ackc m) + copies_of is_write copy ≡ 1
   off : off_up x m ≤ off_copy x copy
 
-answers : (x : Line) (copy : Option (Mode × Line)) → Answers x copy (answer copy)
+answers : (x : Line) (copy : Option (Mode × Line)) → AnswersInv x copy (answer copy)
 answers x None = search arith
 answers x (Some (Read, body)) = search arith
 answers x (Some (Write, body)) = search arith
@@ -227,7 +227,7 @@ stores_keeps n x s i body here before granted =
     at_nodes (λ k u. carries (census body u) ≡ carries (census x (s.node k))) s.node i w (omega arith) (λ k e. refl) in
     let calm : (k : ℕ) → ((census x (s.node k)).rdata ≡ 0) × ((census x (s.node k)).ro ≤ (census x (s.node k)).wdata) = λ k. before.alone i k (omega arith) in
     record {
-      each = at_nodes (λ k u. Fits (role s.home k) (census body u)) s.node i w (search arith)
+      each = at_nodes (λ k u. CensusFits (role s.home k) (census body u)) s.node i w (search arith)
           (λ k apart. let c = before.each k in let g = off_within body (s.node k) in let a = calm k in let z = one_carrier n x s i k before apart in search arith);
       counter = before.counter;
       total = sum_same n (λ k. owes (census body (cond (k == i) w (s.node k)))) (λ k. owes (census x (s.node k)))

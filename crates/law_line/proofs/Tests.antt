@@ -154,26 +154,26 @@ sum_front (suc n) f = omega (arith, sum_front n f, ap f (plus_one n))
 -- ---- what is carried
 
 -- each is the value
-abbrev pub Holds : Line → List Line → Type 0
-Holds x bodies = AllByRecursion (λ b. b ≡ x) bodies
+abbrev pub BodiesAre : Line → List Line → Type 0
+BodiesAre x bodies = AllByRecursion (λ b. b ≡ x) bodies
 
-holds-append : (x : Line) (one other : List Line) → Holds x one → Holds x other → Holds x (one ++ other)
+holds-append : (x : Line) (one other : List Line) → BodiesAre x one → BodiesAre x other → BodiesAre x (one ++ other)
 holds-append x [] other p q = q
 holds-append x (b ∷ one) other p q = (p.0, holds-append x one other p.1 q)
 
-copy_holds : (x : Line) (copy : Option (Mode × Line)) → off_copy x copy ≡ 0 → Holds x (copy_carried copy)
+copy_holds : (x : Line) (copy : Option (Mode × Line)) → off_copy x copy ≡ 0 → BodiesAre x (copy_carried copy)
 copy_holds x None none = tt
 copy_holds x (Some (Read, body)) none = tt
 copy_holds x (Some (Write, body)) none = (same_of_off x body none, tt)
 
-down_holds : (x : Line) (down : List ToCache) → weigh (off_down x) down ≡ 0 → Holds x (flat_map down_carried down)
+down_holds : (x : Line) (down : List ToCache) → weigh (off_down x) down ≡ 0 → BodiesAre x (flat_map down_carried down)
 down_holds x [] none = tt
 down_holds x (RDATA body ∷ rest) none = down_holds x rest (omega arith)
 down_holds x (WDATA body ∷ rest) none = (same_of_off x body (omega arith), down_holds x rest (omega arith))
 down_holds x (INV ∷ rest) none = down_holds x rest (omega arith)
 down_holds x (BUSY ∷ rest) none = down_holds x rest (omega arith)
 
-up_holds : (x : Line) (up : List ToMemory) → weigh (off_up x) up ≡ 0 → Holds x (flat_map up_carried up)
+up_holds : (x : Line) (up : List ToMemory) → weigh (off_up x) up ≡ 0 → BodiesAre x (flat_map up_carried up)
 up_holds x [] none = tt
 up_holds x (RREQ ∷ rest) none = up_holds x rest (omega arith)
 up_holds x (WREQ ∷ rest) none = up_holds x rest (omega arith)
@@ -181,7 +181,7 @@ up_holds x (REPM body ∷ rest) none = (same_of_off x body (omega arith), up_hol
 up_holds x (UPDATE body ∷ rest) none = (same_of_off x body (omega arith), up_holds x rest (omega arith))
 up_holds x (ACKC ∷ rest) none = up_holds x rest (omega arith)
 
-carried_holds : (x : Line) (v : LineNode) → (census x v).off ≡ 0 → Holds x (carried v)
+carried_holds : (x : Line) (v : LineNode) → (census x v).off ≡ 0 → BodiesAre x (carried v)
 carried_holds x v none = holds-append x (copy_carried v.copy) (flat_map down_carried v.down ++ flat_map up_carried v.up) (copy_holds x v.copy (omega arith))
     (holds-append x (flat_map down_carried v.down) (flat_map up_carried v.up) (down_holds x v.down (omega arith)) (up_holds x v.up (omega arith)))
 
@@ -194,7 +194,7 @@ data_all_hold x (BUSY ∷ rest) none = data_all_hold x rest (omega arith)
 
 -- ---- the current value
 
-range_holds : (x : Line) (s : LineState) (a n : ℕ) → ((i : ℕ) → (census x (s.node i)).off ≡ 0) → Holds x (flat_map (λ i. carried (s.node i)) (range_with_len a n))
+range_holds : (x : Line) (s : LineState) (a n : ℕ) → ((i : ℕ) → (census x (s.node i)).off ≡ 0) → BodiesAre x (flat_map (λ i. carried (s.node i)) (range_with_len a n))
 range_holds x s a zero fresh = tt
 range_holds x s a (suc n) fresh = holds-append x (carried (s.node a)) _ (carried_holds x (s.node a) (fresh a)) (range_holds x s (a + 1) n fresh)
 
@@ -219,7 +219,7 @@ carriers_length n s = range_length s 0 n ∙ sum_same n _ _ (λ i l. ap (λ j. l
     zero_plus : (m : ℕ) → 0 + m ≡ m
     zero_plus m = omega arith
 
-by_one : (x : Line) (bodies : List Line) (home : Line) → length bodies ≤ 1 → Holds x bodies → (length bodies ≡ 0 → home ≡ x) → value_by bodies home ≡ x
+by_one : (x : Line) (bodies : List Line) (home : Line) → length bodies ≤ 1 → BodiesAre x bodies → (length bodies ≡ 0 → home ≡ x) → value_by bodies home ≡ x
 by_one x [] home few each none = none refl
 by_one x (b ∷ []) home few each none = each.0
 by_one x (b ∷ c ∷ rest) home few each none = absurd (omega arith)

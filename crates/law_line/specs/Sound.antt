@@ -50,7 +50,7 @@ role h i = record {
 }
 
 -- a node's census fits its part
-pub record Fits (r : Role) (c : Census) : Type 0 where
+pub record CensusFits (r : Role) (c : Census) : Type 0 where
   -- its transaction stands in one place: as a request, as a reply, or at the home
   pub tokens : c.rreq + c.rdata + r.reads + (c.wreq + c.wdata + r.writes) + c.busy ≡ c.tr + c.tw
   pub reads : c.rreq + c.rdata + r.reads ≤ c.tr
@@ -87,7 +87,7 @@ CounterFits _ None acks = ⊥
 -- a line of n nodes with this value is sound
 pub record Sound (n : ℕ) (value : Line) (s : LineState) : Type 0 where
   -- each node's census fits the part that the home gives it
-  pub each : (i : ℕ) → Fits (role s.home i) (census value (s.node i))
+  pub each : (i : ℕ) → CensusFits (role s.home i) (census value (s.node i))
   pub counter : CounterFits s.home.state (sole s.home.pointers) s.home.acks
   -- the counter is the number of answers that are owed
   pub total : sum_below n (λ i. owes (census value (s.node i))) ≡ s.home.acks

@@ -12,9 +12,9 @@ away None k old = old
 away (Some copy) k old = cond (k == copy.line) None old
 
 -- a copy stands in its line's set
-abbrev pub StandsAt : ℕ → ℕ → Option Copy → Type 0
-StandsAt sets set None = Unit {0}
-StandsAt sets set (Some copy) = set_of sets copy.line ≡ set
+abbrev pub CopyStandsAt : ℕ → ℕ → Option Copy → Type 0
+CopyStandsAt sets set None = Unit {0}
+CopyStandsAt sets set (Some copy) = set_of sets copy.line ≡ set
 
 kept_other : (k : ℕ) (copy : Copy) → copy.line ≢ k → kept_if (λ (held : Copy). held.line == k) (Some copy) ≡ None
 kept_other k copy other = rw (ne_eqb copy.line k other) refl
@@ -24,7 +24,7 @@ module _ (sets : ℕ) (cache : Cache) where
   in_its_set : (k set : ℕ) (o : Option Copy) → value_at cache set ≡ o → set_of sets k ≡ set → kept_if (λ copy. copy.line == k) o ≡ copy_at sets cache k
   in_its_set k set o e same = λ x. kept_if (λ copy. copy.line == k) ((sym e ∙ ap (value_at cache) (sym same)) x)
 
-  cleared : (k set : ℕ) (o : Option Copy) → value_at cache set ≡ o → StandsAt sets set o → cond (set_of sets k == set) None (copy_at sets cache k) ≡ away o k (copy_at sets cache k)
+  cleared : (k set : ℕ) (o : Option Copy) → value_at cache set ≡ o → CopyStandsAt sets set o → cond (set_of sets k == set) None (copy_at sets cache k) ≡ away o k (copy_at sets cache k)
   cleared k set None e stands = is_node _ (set_of sets k) set
       (λ same. rw (eq-eqb (set_of sets k) set same) (in_its_set k set None e same))
       (λ other. rw (ne_eqb (set_of sets k) set other) refl)
@@ -35,7 +35,7 @@ module _ (sets : ℕ) (cache : Cache) where
       (λ other. rw (ne_eqb (set_of sets k) set other) refl)))
 
   -- a line's copy after an eviction
-  pub copy_evicted : (set k : ℕ) → StandsAt sets set (value_at cache set) → copy_at sets (without_value cache set) k ≡ away (value_at cache set) k (copy_at sets cache k)
+  pub copy_evicted : (set k : ℕ) → CopyStandsAt sets set (value_at cache set) → copy_at sets (without_value cache set) k ≡ away (value_at cache set) k (copy_at sets cache k)
   copy_evicted set k stands = ap (kept_if (λ copy. copy.line == k)) (value-without cache set (set_of sets k)) ∙ (moved (set_of sets k == set) ∙ cleared k set (value_at cache set) refl stands)
     where
       moved : (b : Bool) → kept_if (λ copy. copy.line == k) (cond b None (value_at cache (set_of sets k))) ≡ cond b None (copy_at sets cache k)
@@ -43,7 +43,7 @@ module _ (sets : ℕ) (cache : Cache) where
       moved false = refl
 
   -- a line's copy after a fill
-  pub copy_filled : (copy : Copy) (k : ℕ) → StandsAt sets (set_of sets copy.line) (value_at cache (set_of sets copy.line)) → copy_at sets (with_value cache (set_of sets copy.line) copy) k ≡ cond (k == copy.line) (Some copy) (away (replaced sets cache copy.line) k (copy_at sets cache k))
+  pub copy_filled : (copy : Copy) (k : ℕ) → CopyStandsAt sets (set_of sets copy.line) (value_at cache (set_of sets copy.line)) → copy_at sets (with_value cache (set_of sets copy.line) copy) k ≡ cond (k == copy.line) (Some copy) (away (replaced sets cache copy.line) k (copy_at sets cache k))
   copy_filled copy k stands = ap (kept_if (λ held. held.line == k)) (value-with cache (set_of sets copy.line) copy (set_of sets k)) ∙ is_node _ k copy.line
       (λ is. rw (eq-eqb (set_of sets k) (set_of sets copy.line) (ap (set_of sets) is), eq-eqb k copy.line is, eq-eqb copy.line k (sym is)) refl)
       (λ isnt. rw (ne_eqb k copy.line isnt) (moved isnt (set_of sets k == set_of sets copy.line) ∙ (cleared k (set_of sets copy.line) (value_at cache (set_of sets copy.line)) refl stands ∙ others isnt (value_at cache (set_of sets copy.line)))))

@@ -22,7 +22,7 @@ use Rattle.law_lines.specs.LineEvents.{Follows, in_leaving}
 use Rattle.law_lines.specs.Standing.{IsCache, IsStanding}
 use Rattle.law_lines.proofs.Views.{seen_copy, seen_transaction, next_machine}
 use Rattle.law_lines.proofs.CacheSide as cache
-use Rattle.law_lines.proofs.CopyLaws.{away, StandsAt, copy_evicted}
+use Rattle.law_lines.proofs.CopyLaws.{away, CopyStandsAt, copy_evicted}
 use Rattle.law_lines.proofs.Following.{stays, takes_about, home_below, part_changes, part_stays}
 
 -- what the home of a copy's line is told where the copy leaves
@@ -40,7 +40,7 @@ module _ (parts : Parts) (parameters : Parameters) where
   copy_standing cache set copy each e = ap (λ p. kept_if (λ (held : Copy). held.line == copy.line) (value_at cache p)) (each set copy e).1
       ∙ (ap (kept_if (λ (held : Copy). held.line == copy.line)) e ∙ ap (λ b. cond b (Some copy) None) (eq-eqb copy.line copy.line refl))
 
-  pub stands_at : (cache : Cache) (set : ℕ) (o : Option Copy) → IsCache parts parameters cache → value_at cache set ≡ o → StandsAt parameters.sets set o
+  pub stands_at : (cache : Cache) (set : ℕ) (o : Option Copy) → IsCache parts parameters cache → value_at cache set ≡ o → CopyStandsAt parameters.sets set o
   stands_at cache set None each e = tt
   stands_at cache set (Some copy) each e = (each set copy e).1
 

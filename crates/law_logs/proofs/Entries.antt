@@ -168,13 +168,13 @@ same_entry a b u v l k e =
 
 module _ (parts : Parts) (parameters : Parameters) (machine : MachineState) (entry : Entry) where
   -- a text begins with an entry, whose numbers are of 64 bits, and a blank
-  pub record IsFront (text : List ℕ) : Type 0 where
+  pub record BeginsWithEntry (text : List ℕ) : Type 0 where
     pub fits : IsEntry entry
     pub rest : List ℕ
     pub whole : text ≡ decimal entry.stamp ++ (event_text entry.event ++ 32 ∷ rest)
 
   line_front : (stepped : Stepped) → IsEntry entry → Begins (deed_text parts parameters machine (step parts parameters machine entry.event) stepped.did entry.event)
-      → IsFront (line_by parts parameters machine entry stepped)
+      → BeginsWithEntry (line_by parts parameters machine entry stepped)
   line_front stepped fits deed = record {
     fits = fits;
     rest = deed.0 ++ (sends_text stepped.sends ++ codes "\n");
@@ -182,7 +182,7 @@ module _ (parts : Parts) (parameters : Parameters) (machine : MachineState) (ent
   }
 
   -- the line of an entry that may be next has such a front
-  pub event_front : IsImage parts → AreParameters parameters → IsNext parts parameters machine entry → IsFront (event_line parts parameters machine entry)
+  pub event_front : IsImage parts → AreParameters parameters → IsNext parts parameters machine entry → BeginsWithEntry (event_line parts parameters machine entry)
   unfolding event_line
   event_front image are next =
       let stepped = stepped_by parts parameters machine entry.event in
@@ -192,6 +192,6 @@ module _ (parts : Parts) (parameters : Parameters) (machine : MachineState) (ent
 
 -- two entries with one line are the same
 pub told_entry : (parts other_parts : Parts) (parameters other_parameters : Parameters) (machine other_machine : MachineState) (a b : Entry) (text : List ℕ)
-    → IsFront parts parameters machine a text → IsFront other_parts other_parameters other_machine b text → a ≡ b
+    → BeginsWithEntry parts parameters machine a text → BeginsWithEntry other_parts other_parameters other_machine b text → a ≡ b
 told_entry parts other_parts parameters other_parameters machine other_machine a b text one other =
     same_entry a b one.rest other.rest one.fits other.fits (sym one.whole ∙ other.whole)

@@ -15,7 +15,7 @@ use Rattle.alw_log.specs.Entries.{event_line}
 use Rattle.alw_log.specs.Logs.{lines_from}
 use Rattle.law_logs.proofs.Lines.{one_line}
 use Rattle.law_logs.proofs.Deeds.{event_whole}
-use Rattle.law_logs.proofs.Entries.{IsFront, event_front, told_entry}
+use Rattle.law_logs.proofs.Entries.{BeginsWithEntry, event_front, told_entry}
 
 -- no number begins with a `c`, with which the contexts begin
 no_letter : {P : Type 0} (text u v : List ℕ) → 0 < length text → AllDigits 10 text → 99 ∷ u ≡ text ++ v → P
@@ -30,7 +30,7 @@ no_stamp n u v small e = let numeral = (decimal_is_IsNumeral n small).0 in no_le
 
 module _ (image : Parts) (is : IsImage image) (parameters : Parameters) (are : AreParameters parameters) where
   front : (machine : MachineState) (entry : Entry) → IsNext image parameters machine entry
-      → IsFront image parameters machine entry (event_line image parameters machine entry)
+      → BeginsWithEntry image parameters machine entry (event_line image parameters machine entry)
   front machine entry next = event_front image parameters machine entry is are next
 
   -- where the contexts stand, no entry does
@@ -62,7 +62,7 @@ module _ (image other_image : Parts) (is : IsImage image) (also : IsImage other_
       let first = one_line (event_whole image parameters machine a) (event_whole other_image other_parameters other_machine b)
       (sym (append_assoc here left (99 ∷ u)) ∙ e ∙ append_assoc there right (99 ∷ v)) in
       let entry = told_entry image other_image parameters other_parameters machine other_machine a b there
-      (subst (IsFront image parameters machine a) first.0 (front image is parameters are machine a legal.0))
+      (subst (BeginsWithEntry image parameters machine a) first.0 (front image is parameters are machine a legal.0))
       (front other_image also other_parameters too other_machine b lawful.0) in
       let rest = one_journal (step image parameters machine a.event) (step other_image other_parameters other_machine b.event) one other u v legal.1
       lawful.1 first.1 in

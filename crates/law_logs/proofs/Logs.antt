@@ -156,7 +156,7 @@ log_is image parameters journal ended =
 module _ (image other_image : Parts) (is : IsImage image) (also : IsImage other_image) (parameters other_parameters : Parameters)
     (are : AreParameters parameters) (too : AreParameters other_parameters) (one other : List Entry) (ended other_ended : Ended) where
   -- what two logs that are one text tell in their first lines, and what stands behind these
-  record IsTold : Type 0 where
+  record IsHeadTold : Type 0 where
     sizes : SameSizes image other_image
     settings : Settings parameters other_parameters
     rest : rest_of image parameters one ended ≡ rest_of other_image other_parameters other other_ended
@@ -164,7 +164,7 @@ module _ (image other_image : Parts) (is : IsImage image) (also : IsImage other_
   abbrev Log : Type 0
   Log = log_of image parameters one ended ≡ log_of other_image other_parameters other other_ended
 
-  head_told : Log → IsTold
+  head_told : Log → IsHeadTold
   head_told e =
       let whole = sym (log_is image parameters one ended) ∙ e ∙ log_is other_image other_parameters other other_ended in
       let first = one_line title_is title_is whole in

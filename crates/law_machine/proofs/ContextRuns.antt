@@ -33,7 +33,7 @@ use Rattle.alw_model.specs.Lines.{LineNode, downs, line_node, line_of}
 use Rattle.alw_model.specs.MachineInvariant.{trapped_rightly}
 use Rattle.alw_model.proofs.Journals.{and_parts}
 use Rattle.law_line.specs.Census.{is_read, is_write, copies_of, transactions_of, census}
-use Rattle.law_line.specs.Sound.{Fits, role}
+use Rattle.law_line.specs.Sound.{CensusFits, role}
 use Rattle.law_lines.proofs.Links.{read_set}
 use Rattle.law_lines.proofs.CacheSide.{old_part}
 use Rattle.law_lines.proofs.Taken.{split_front}
@@ -66,8 +66,8 @@ no_copy (Some copy) e = absurd (go copy.mode e)
 
 module _ (parts : Parts) (parameters : Parameters) (s : MachineState) (values : ℕ → Line) (sound : MachineIsSoundWith parts parameters values s) where
   -- a node's numbers of a line
-  pub fits_at : (l n : ℕ) → l < line_count parts → n < node_count parts → Fits (role (line_of parts parameters s l).home n) (census (values l) (line_node parts parameters s l n))
-  fits_at l n lines here = subst (λ (v : LineNode). Fits (role (line_of parts parameters s l).home n) (census (values l) v)) (old_part parts parameters s n l here) ((sound.lines l lines).each n)
+  pub fits_at : (l n : ℕ) → l < line_count parts → n < node_count parts → CensusFits (role (line_of parts parameters s l).home n) (census (values l) (line_node parts parameters s l n))
+  fits_at l n lines here = subst (λ (v : LineNode). CensusFits (role (line_of parts parameters s l).home n) (census (values l) v)) (old_part parts parameters s n l here) ((sound.lines l lines).each n)
 
   -- the front of a link is the front of what is on its way about its line
   pub down_at : (from n : ℕ) (msg : Msg) (said : ToCache) → front (link_at parts s from n) ≡ Some msg → home_node parts msg.line.0 ≡ from → content msg ≡ ForCache said

@@ -41,7 +41,7 @@ use Rattle.law_profiles.specs.Sums.{is_outside}
 use Rattle.law_profiles.proofs.Rows.{in_column, inside}
 
 -- what it adds to the columns of misses, turns and actions of the handler
-pub record Acts (image : Parts) (node : NodeState) (ran : Option Ran) (packet : Option Msg) (did : Did) : Type 0 where
+pub record AddsColumns (image : Parts) (node : NodeState) (ran : Option Ran) (packet : Option Msg) (did : Did) : Type 0 where
   pub misses : weigh (in_column 1) (ran_marks did ran) + weigh (in_column 3) (ran_marks did ran) ≡ digit (is_miss did)
   pub handlers : weigh (in_column 7) (handled_marks did packet) ≡ digit (is_handling did)
   pub spills : weigh (in_column 8) (handled_marks did packet) ≡ digit (is_spill did)
@@ -82,7 +82,7 @@ no_word n column did (Some ran) turn miss = go (nat_lt (ran.pc / 4) n) (0 == col
 module _ (image : Parts) (node : NodeState) (ran : Option Ran) (packet : Option Msg) where
   -- an event that is no turn, no miss and no action of the handler
   quiet : (did : Did) → digit (is_turn did) ≡ 0 → digit (is_miss did) ≡ 0 → digit (is_handling did) ≡ 0 → digit (is_spill did) ≡ 0 → digit (is_outside image node did) ≡ 0
-      → Acts image node ran packet did
+      → AddsColumns image node ran packet did
   quiet did turn miss handler spill outside = record {
     misses = no_miss did ran miss ∙ sym miss;
     handlers = no_handler did packet handler ∙ sym handler;
@@ -113,7 +113,7 @@ module _ (image : Parts) (parameters : Parameters) (n stamp : ℕ) (node : NodeS
     abbrev needing : Need → Option Ran
     needing need = Some (record { pc = regs.pc; need = need })
 
-    turned : (need : Need) (outcome : Outcome) → Acts image node (needing need) packet (Turn slot outcome)
+    turned : (need : Need) (outcome : Outcome) → AddsColumns image node (needing need) packet (Turn slot outcome)
     turned need outcome = record {
       misses = no_miss (Turn slot outcome) (needing need) refl;
       handlers = no_handler (Turn slot outcome) packet refl;
@@ -130,7 +130,7 @@ module _ (image : Parts) (parameters : Parameters) (n stamp : ℕ) (node : NodeS
         miss true = refl
         miss false = refl
 
-    missed : (line : LineNo) (mode : Mode) → nat_lt (regs.pc / 4) words ≡ true → Acts image node (needing (needs.Copy line mode)) packet (Missed slot)
+    missed : (line : LineNo) (mode : Mode) → nat_lt (regs.pc / 4) words ≡ true → AddsColumns image node (needing (needs.Copy line mode)) packet (Missed slot)
     missed line mode there = record {
       misses = by_mode mode;
       handlers = no_handler (Missed slot) packet refl;
@@ -151,35 +151,35 @@ module _ (image : Parts) (parameters : Parameters) (n stamp : ℕ) (node : NodeS
         miss true there = refl
         miss false there = cc
 
-    by_need : (need : Need) → need_of image.code regs (line_count image) ≡ need → Acts image node (needing need) packet (instr_by image parameters n stamp node slot need).did
+    by_need : (need : Need) → need_of image.code regs (line_count image) ≡ need → AddsColumns image node (needing need) packet (instr_by image parameters n stamp node slot need).did
     by_need (needs.Copy line mode) is = by_copy (granted_copy parameters.sets node.cache line.0 mode)
       where
-        by_copy : (o : Option Copy) → Acts image node (needing (needs.Copy line mode)) packet (access image parameters n stamp node slot line.0 mode o).did
+        by_copy : (o : Option Copy) → AddsColumns image node (needing (needs.Copy line mode)) packet (access image parameters n stamp node slot line.0 mode o).did
         by_copy None = missed line mode (lt-ltb (regs.pc / 4) words (fetched_there image.code regs (line_count image) line mode is))
         by_copy (Some copy) = turned (needs.Copy line mode) _
     by_need needs.Nothing is = turned needs.Nothing _
     by_need (needs.Trap type) is = turned (needs.Trap type) _
 
-  instr_acts : (o : Option ℕ) → Acts image node (option_map (λ slot. ran_of image (slot_at node.slots slot)) o) packet (instr image parameters n stamp node o).did
+  instr_acts : (o : Option ℕ) → AddsColumns image node (option_map (λ slot. ran_of image (slot_at node.slots slot)) o) packet (instr image parameters n stamp node o).did
   instr_acts None = quiet image node None packet Took refl refl refl refl refl
   instr_acts (Some slot) = by_need slot (need_of image.code (slot_at node.slots slot).regs (line_count image)) refl
 
 -- ---- a message, and an action of the handler
 
 module _ (image : Parts) (parameters : Parameters) (n stamp : ℕ) (node : NodeState) (ran : Option Ran) where
-  home_acts : (packet : Option Msg) (msg : Msg) (said : ToMemory) (traps : Bool) → Acts image node ran packet (at_home image parameters n stamp node msg said traps).did
+  home_acts : (packet : Option Msg) (msg : Msg) (said : ToMemory) (traps : Bool) → AddsColumns image node ran packet (at_home image parameters n stamp node msg said traps).did
   home_acts packet msg said true = quiet image node ran packet Packet refl refl refl refl refl
   home_acts packet msg said false = quiet image node ran packet Took refl refl refl refl refl
 
-  message_acts : (packet : Option Msg) (msg : Msg) (said : Content) → Acts image node ran packet (deliver_by image parameters n stamp node msg said).did
+  message_acts : (packet : Option Msg) (msg : Msg) (said : Content) → AddsColumns image node ran packet (deliver_by image parameters n stamp node msg said).did
   message_acts packet msg (ForMemory said) = home_acts packet msg said (is_trapped parameters.pointers (home_at image node msg.line.0) msg.src.0 said)
   message_acts packet msg (ForCache said) = quiet image node ran packet Took refl refl refl refl refl
 
-  delivery_acts : (packet taken : Option Msg) → Acts image node ran packet (deliver image parameters n stamp node taken).did
+  delivery_acts : (packet taken : Option Msg) → AddsColumns image node ran packet (deliver image parameters n stamp node taken).did
   delivery_acts packet None = quiet image node ran packet Took refl refl refl refl refl
   delivery_acts packet (Some msg) = message_acts packet msg (content msg)
 
-  handled : (packet : Msg) (kind : Kind) (state : State) → Acts image node ran (Some packet) (Handled kind state)
+  handled : (packet : Msg) (kind : Kind) (state : State) → AddsColumns image node ran (Some packet) (Handled kind state)
   handled packet kind state = record {
     misses = no_miss (Handled kind state) ran refl;
     handlers = refl;
@@ -188,18 +188,18 @@ module _ (image : Parts) (parameters : Parameters) (n stamp : ℕ) (node : NodeS
     word_misses = no_word (length image.code) 1 (Handled kind state) ran refl refl;
   }
 
-  packet_acts : (rest : List Msg) (packet : Msg) (said : Content) → Acts image node ran (Some packet) (handle_by image parameters n stamp (record node { packets = rest }) packet said).did
+  packet_acts : (rest : List Msg) (packet : Msg) (said : Content) → AddsColumns image node ran (Some packet) (handle_by image parameters n stamp (record node { packets = rest }) packet said).did
   packet_acts rest packet (ForCache said) = quiet image node ran (Some packet) Took refl refl refl refl refl
   packet_acts rest packet (ForMemory said) = handled packet packet.kind _
 
-  queue_acts : (queue : List Msg) → Acts image node ran (front queue) (handle_front image parameters n stamp node queue).did
+  queue_acts : (queue : List Msg) → AddsColumns image node ran (front queue) (handle_front image parameters n stamp node queue).did
   queue_acts [] = quiet image node ran None Took refl refl refl refl refl
   queue_acts (packet ∷ rest) = packet_acts rest packet (content packet)
 
 -- ---- any event
 
 event_acts : (image : Parts) (parameters : Parameters) (n stamp : ℕ) (node : NodeState) (event : Event) (taken : Option Msg)
-    → Acts image node (seen_of image node).ran (seen_of image node).front (event_at image parameters n stamp node event taken).did
+    → AddsColumns image node (seen_of image node).ran (seen_of image node).front (event_at image parameters n stamp node event taken).did
 event_acts image parameters n stamp node (Instr at) taken = instr_acts image parameters n stamp node (front node.packets) (running node.slots node.current)
 event_acts image parameters n stamp node (Handle at) taken = queue_acts image parameters n stamp node (seen_of image node).ran node.packets
 event_acts image parameters n stamp node (Deliver from to) taken = delivery_acts image parameters n stamp node (seen_of image node).ran (front node.packets) taken
@@ -208,7 +208,7 @@ event_acts image parameters n stamp node (Evict at set) taken = quiet image node
 -- ---- a run
 
 abbrev pub HasActs : Parts → Moment → Type 0
-HasActs image moment = Acts image moment.before (seen_of image moment.before).ran (seen_of image moment.before).front moment.stepped.did
+HasActs image moment = AddsColumns image moment.before (seen_of image moment.before).ran (seen_of image moment.before).front moment.stepped.did
 
 acts_from : (image : Parts) (parameters : Parameters) (s : MachineState) (journal : List Entry) → AllByRecursion (HasActs image) (moments_from image parameters s journal)
 acts_from image parameters s [] = tt

@@ -13,7 +13,7 @@ use Rattle.sparc_place.specs.Places.{nothing_laid}
 use Rattle.sparc_assemble.specs.Assembly.{Filled, nothing_filled, some_starts, gathered, data_line, starts_of}
 use Rattle.sparc_assemble.proofs.Rising.{Rises}
 use Rattle.law_sources.specs.Parsed.{code_read, start_read, always_read, data_read, lines_read}
-use Rattle.law_sources.proofs.Steps.{Goes, Makes, IsAssembledTo, made}
+use Rattle.law_sources.proofs.Steps.{LinesGo, Makes, IsAssembledTo, made}
 use Rattle.law_sources.proofs.CodeLines.{laid_so, code_goes}
 use Rattle.law_sources.proofs.SizeLines.{sizes_go}
 use Rattle.law_sources.proofs.StartLines.{starts_with, starts_go, always_with, always_go}
@@ -73,7 +73,7 @@ image_back p image words begun in_data shared written started f code memory star
 
 -- ---- the lines
 
-lines_go : (p : Parts) → IsImage p → HasWords p → Goes (length p.code) 1 (lines_read p) nothing_laid nothing_filled (Makes p)
+lines_go : (p : Parts) → IsImage p → HasWords p → LinesGo (length p.code) 1 (lines_read p) nothing_laid nothing_filled (Makes p)
 unfolding lines_read
 lines_go p image words =
     let count = length p.code in

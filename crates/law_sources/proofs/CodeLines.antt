@@ -19,7 +19,7 @@ use Rattle.sparc_place.specs.Places.{Layout, here_of, is_unknown, statement_agai
 use Rattle.sparc_assemble.specs.Assembly.{Names, Filled, is_datum, value_fault, coded_fault, with_code, filled}
 use Rattle.law_sources.specs.Parsed.{number, line_of, word_read, statement_read, code_read}
 use Rattle.law_sources.proofs.Encoded.{is_plain, IsEncoded, statement_encoded}
-use Rattle.law_sources.proofs.Steps.{no_names, IsNumber, is_number, no_fault, Step, Goes, goes}
+use Rattle.law_sources.proofs.Steps.{no_names, HasNumber, is_number, no_fault, Step, LinesGo, goes}
 
 -- the layout of a machine with these sizes, where no line defines a name
 abbrev pub laid_so : Parts → Bool → Bool → ℕ → ℕ → (ℕ → Bool) → (ℕ → ℕ → Bool) → (ℕ → Bool) → Layout
@@ -93,7 +93,7 @@ module _ (p : Parts) (written : ℕ → Bool) (started : ℕ → ℕ → Bool) (
   data_step : (count n c word : ℕ) (begun : Bool) (f : Filled) → c + 1 ≤ 65536 → word < 2 ^ 32 → Step count n (line_of (word_read word)) (in_code begun c) (in_code true (c + 1)) f (with_code n (word ∷ []) f)
   data_step count n c word begun f room small = by_value (number word) (is_number word)
     where
-      by_value : (e : List Signed) → IsNumber e word → Step count n (line_of (statement.Data Word (e ∷ []))) (in_code begun c) (in_code true (c + 1)) f (with_code n (word ∷ []) f)
+      by_value : (e : List Signed) → HasNumber e word → Step count n (line_of (statement.Data Word (e ∷ []))) (in_code begun c) (in_code true (c + 1)) f (with_code n (word ∷ []) f)
       by_value e is =
           let inside : nat_le (c + 1) 65536 ≡ true = le-leb _ _ room in
           let within : is_datum Word is.value ≡ true = within_word word is.value is.above is.below small in
@@ -115,8 +115,8 @@ module _ (p : Parts) (written : ℕ → Bool) (started : ℕ → ℕ → Bool) (
   -- behind lines of code words, where so many stand: what they fill in has these words, and all else is as before
   pub code_goes : (count number c total address : ℕ) (words : List ℕ) (rest : List Line) (begun : Bool) (f : Filled) (Good : Layout → Filled → Type 0)
       → address ≡ 4 * c → c + length words ≡ total → total ≤ 65536 → AllByRecursion IsWord words
-      → ((b : Bool) (n : ℕ) (g : Filled) → map (λ w. w.0) g.words ≡ map (λ w. w.0) f.words ++ words → g.memory ≡ f.memory → g.starts ≡ f.starts → Goes count n rest (in_code b total) g Good)
-      → Goes count number (code_read address words ++ rest) (in_code begun c) f Good
+      → ((b : Bool) (n : ℕ) (g : Filled) → map (λ w. w.0) g.words ≡ map (λ w. w.0) f.words ++ words → g.memory ≡ f.memory → g.starts ≡ f.starts → LinesGo count n rest (in_code b total) g Good)
+      → LinesGo count number (code_read address words ++ rest) (in_code begun c) f Good
   code_goes count number c total address [] rest begun f Good stands sum room small more =
       let all : c ≡ total = omega arith in
       rw all (more begun number f (sym (append-nil (map (λ w. w.0) f.words))) refl refl)

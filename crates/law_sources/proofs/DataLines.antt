@@ -19,7 +19,7 @@ use Rattle.sparc_place.specs.Places.{Layout, here_of, with_range}
 use Rattle.sparc_assemble.specs.Assembly.{Filled, data_fault, datum, spelled_as, written_over, with_bytes}
 use Rattle.sparc_assemble.proofs.Rising.{Rises}
 use Rattle.law_sources.specs.Parsed.{number, line_of, data_read}
-use Rattle.law_sources.proofs.Steps.{no_names, IsNumber, is_number, no_fault, Step, Goes, goes, ends}
+use Rattle.law_sources.proofs.Steps.{no_names, HasNumber, is_number, no_fault, Step, LinesGo, goes, ends}
 use Rattle.law_sources.proofs.CodeLines.{laid_so, within_word}
 use Rattle.law_sources.proofs.SizeLines.{nothing_added}
 
@@ -48,7 +48,7 @@ between_is most n v high low small = rw (high, low) (le-leb n most small)
 
 -- ---- four words
 
-four_fit : (here : ℕ) (a b c d : List Signed) (body : Body) → IsNumber a body.a → IsNumber b body.b → IsNumber c body.c → IsNumber d body.d → body.a < 2 ^ 32 → body.b < 2 ^ 32 → body.c < 2 ^ 32 → body.d < 2 ^ 32
+four_fit : (here : ℕ) (a b c d : List Signed) (body : Body) → HasNumber a body.a → HasNumber b body.b → HasNumber c body.c → HasNumber d body.d → body.a < 2 ^ 32 → body.b < 2 ^ 32 → body.c < 2 ^ 32 → body.d < 2 ^ 32
     → data_fault no_names here Word (a ∷ b ∷ c ∷ d ∷ []) ≡ None
 four_fit here a b c d body is_a is_b is_c is_d small_a small_b small_c small_d =
     let wa = within_word body.a is_a.value is_a.above is_a.below small_a in
@@ -57,7 +57,7 @@ four_fit here a b c d body is_a is_b is_c is_d small_a small_b small_c small_d =
     let wd = within_word body.d is_d.value is_d.above is_d.below small_d in
     rw (is_a.is here, is_b.is here, is_c.is here, is_d.is here, wa, wb, wc, wd) refl
 
-datum_is : (here n : ℕ) (e : List Signed) → IsNumber e n → n < 2 ^ 32 → datum no_names here (2 ^ 32) e ≡ n
+datum_is : (here n : ℕ) (e : List Signed) → HasNumber e n → n < 2 ^ 32 → datum no_names here (2 ^ 32) e ≡ n
 datum_is here n e is small = let same : modulo (2 ^ 32) is.value ≡ n = omega (arith, is.above, is.below) in rw (is.is here, same) refl
 
 four_equal : (a b c d a' b' c' d' : ℕ) → a ≡ a' → b ≡ b' → c ≡ c' → d ≡ d' → a ∷ b ∷ c ∷ d ∷ [] ≡ a' ∷ b' ∷ c' ∷ d' ∷ []
@@ -67,7 +67,7 @@ module _ (p : Parts) (total : ℕ) (started : ℕ → ℕ → Bool) (always : �
   abbrev in_lines : Bool → Bool → ℕ → (ℕ → Bool) → Layout
   in_lines begun in_data shared written = laid_so p begun in_data total shared written started always
 
-  shared_step : (count n offset shared : ℕ) (begun in_data : Bool) (written : ℕ → Bool) (f : Filled) (a : List Signed) → IsNumber a offset → offset ≤ 16 * (p.width * p.height * p.per_node)
+  shared_step : (count n offset shared : ℕ) (begun in_data : Bool) (written : ℕ → Bool) (f : Filled) (a : List Signed) → HasNumber a offset → offset ≤ 16 * (p.width * p.height * p.per_node)
       → Step count n (line_of (statement.Shared a)) (in_lines begun in_data shared written) (in_lines true true offset written) f f
   unfolding coded
   shared_step count n offset shared begun in_data written f a is there =
@@ -80,7 +80,7 @@ module _ (p : Parts) (total : ℕ) (started : ℕ → ℕ → Bool) (always : �
         filled = nothing_added n f;
       }
 
-  words_step : (count n line : ℕ) (written : ℕ → Bool) (f : Filled) (a b c d : List Signed) (body : Body) → IsNumber a body.a → IsNumber b body.b → IsNumber c body.c → IsNumber d body.d
+  words_step : (count n line : ℕ) (written : ℕ → Bool) (f : Filled) (a b c d : List Signed) (body : Body) → HasNumber a body.a → HasNumber b body.b → HasNumber c body.c → HasNumber d body.d
       → body.a < 2 ^ 32 → body.b < 2 ^ 32 → body.c < 2 ^ 32 → body.d < 2 ^ 32 → line < p.width * p.height * p.per_node → WrittenBelow written line
       → Step count n (line_of (statement.Data Word (a ∷ b ∷ c ∷ d ∷ []))) (in_lines true true (16 * line) written) (in_lines true true (16 * line + 16) (with_range (16 * line) (16 * line + 16) written)) f (record f { memory = written_over (16 * line) (bytes_of body) f.memory })
   words_step count n line written f a b c d body is_a is_b is_c is_d small_a small_b small_c small_d there before =
@@ -101,7 +101,7 @@ module _ (p : Parts) (total : ℕ) (started : ℕ → ℕ → Bool) (always : �
   pub data_goes : (count from : ℕ) (xs : List (LineNo × Body)) (low high : ℕ) (begun in_data : Bool) (shared : ℕ) (written : ℕ → Bool) (f : Filled) (Good : Layout → Filled → Type 0)
       → AllByRecursion (IsDataLine p) xs → AllByRecursion HasFourWords xs → Rises low high (map (λ entry. entry.0.0) xs) → WrittenBelow written low
       → ((b d : Bool) (s : ℕ) (w : ℕ → Bool) (g : Filled) → g.words ≡ f.words → g.starts ≡ f.starts → g.memory ≡ memory_with xs f.memory → Good (in_lines b d s w) g)
-      → Goes count from (flat_map data_read xs) (in_lines begun in_data shared written) f Good
+      → LinesGo count from (flat_map data_read xs) (in_lines begun in_data shared written) f Good
   data_goes count from [] low high begun in_data shared written f Good all small up before more =
       ends count from (in_lines begun in_data shared written) f Good (more begun in_data shared written f refl refl refl)
   data_goes count from (x ∷ xs) low high begun in_data shared written f Good all small up before more =

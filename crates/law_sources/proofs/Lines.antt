@@ -128,14 +128,14 @@ first_line (byte ∷ text) rest allowed =
     rw (no_feed byte first.0, first_line text rest first.1)
 
 -- a text from a place of a source on, and the lines that it is read as
-pub record Told (text : List ℕ) (lines : List Line) : Type 0 where
+pub record LinesAreTold (text : List ℕ) (lines : List Line) : Type 0 where
   pub size : length text ≤ 80 * length lines
   pub reads : (source : List ℕ) (number at : ℕ) → drop at source ≡ text → read_from source number at (lines_of text) ≡ Ok lines
 
-pub end_told : Told [] []
+pub end_told : LinesAreTold [] []
 end_told = record { size = omega arith; reads = λ source number at stands. refl }
 
-pub line_told : {text rest : List ℕ} {line : Line} {lines : List Line} → IsLine text line → Told rest lines → Told (text ++ (10 ∷ rest)) (line ∷ lines)
+pub line_told : {text rest : List ℕ} {line : Line} {lines : List Line} → IsLine text line → LinesAreTold rest lines → LinesAreTold (text ++ (10 ∷ rest)) (line ∷ lines)
 line_told {text} {rest} {line} {lines} is more = record {
   size = omega (arith, length-append text (10 ∷ rest), is.size, more.size);
   reads = λ source number at stands.

@@ -25,10 +25,10 @@ use Rattle.law_sources.specs.Parsed.{number, line_of, statement_read, code_read,
 use Rattle.law_sources.proofs.Figures.{hex_plain}
 use Rattle.law_sources.proofs.Spelled.{statement_said}
 use Rattle.law_sources.proofs.Directives.{mesh_said, contexts_said, lines_said, always_said, shared_said, start_said, body_said}
-use Rattle.law_sources.proofs.Lines.{all_allowed, IsLine, bare, commented, Told, end_told, line_told}
+use Rattle.law_sources.proofs.Lines.{all_allowed, IsLine, bare, commented, LinesAreTold, end_told, line_told}
 
-told_as : {text other : List ℕ} {lines : List Line} → text ≡ other → Told other lines → Told text lines
-told_as {text} {other} {lines} e told = subst (λ (t : List ℕ). Told t lines) (sym e) told
+told_as : {text other : List ℕ} {lines : List Line} → text ≡ other → LinesAreTold other lines → LinesAreTold text lines
+told_as {text} {other} {lines} e told = subst (λ (t : List ℕ). LinesAreTold t lines) (sym e) told
 
 -- ---- sizes
 
@@ -37,8 +37,8 @@ sizes_split : (w h c l : ℕ) (rest : List ℕ) → sizes_text (record { width =
 unfolding sizes_text
 sizes_split w h c l rest = simp append_assoc
 
-sizes_told : {rest : List ℕ} {lines : List Line} (w h c l : ℕ) → w < 2 ^ 32 → h < 2 ^ 32 → c < 2 ^ 32 → l < 2 ^ 32 → Told rest lines
-    → Told (sizes_text (record { width = w; height = h; contexts = c; per_node = l }) ++ rest) (line_of (statement.Mesh (number w) (number h)) ∷ line_of (statement.Contexts (number c)) ∷ line_of (statement.Lines (number l)) ∷ lines)
+sizes_told : {rest : List ℕ} {lines : List Line} (w h c l : ℕ) → w < 2 ^ 32 → h < 2 ^ 32 → c < 2 ^ 32 → l < 2 ^ 32 → LinesAreTold rest lines
+    → LinesAreTold (sizes_text (record { width = w; height = h; contexts = c; per_node = l }) ++ rest) (line_of (statement.Mesh (number w) (number h)) ∷ line_of (statement.Contexts (number c)) ∷ line_of (statement.Lines (number l)) ∷ lines)
 sizes_told {rest} {lines} w h c l first second third fourth told =
     told_as (sizes_split w h c l rest) (line_told (bare _ _ (mesh_said w h first second)) (line_told (bare _ _ (contexts_said c third)) (line_told (bare _ _ (lines_said l fourth)) told)))
 
@@ -65,7 +65,7 @@ code_is_line address word small =
     commented (statement_text address word) (comment address word) (statement_read address word) (statement_said address word small) (comment_allowed address word)
     (omega (arith, length-append (hex_digits address) (32 ∷ hex_digits word), length-hex_digits address, length-hex_digits word))
 
-code_told : {rest : List ℕ} {lines : List Line} (address : ℕ) (code : List ℕ) → AllByRecursion IsWord code → Told rest lines → Told (code_from address code ++ rest) (code_read address code ++ lines)
+code_told : {rest : List ℕ} {lines : List Line} (address : ℕ) (code : List ℕ) → AllByRecursion IsWord code → LinesAreTold rest lines → LinesAreTold (code_from address code ++ rest) (code_read address code ++ lines)
 code_told address [] all told = told
 code_told {rest} address (word ∷ code) all told =
     told_as (code_split address word (code_from (address + 4) code) rest) (line_told (code_is_line address word all.0) (code_told (address + 4) code all.1 told))
@@ -105,7 +105,7 @@ unfolding start_bare
 start_is_line p start bounds is =
     bare _ _ (start_said start.0.0 start.1 start.2 (omega (arith, is.0, bounds.nodes)) (omega (arith, is.1, bounds.contexts)) (omega (arith, is.3, bounds.code)))
 
-starts_told : {rest : List ℕ} {lines : List Line} (p : Parts) (starts : List (NodeNo × ℕ × ℕ)) → IsSmall p → AllByRecursion (IsStart p) starts → Told rest lines → Told (flat_map start_line starts ++ rest) (map start_read starts ++ lines)
+starts_told : {rest : List ℕ} {lines : List Line} (p : Parts) (starts : List (NodeNo × ℕ × ℕ)) → IsSmall p → AllByRecursion (IsStart p) starts → LinesAreTold rest lines → LinesAreTold (flat_map start_line starts ++ rest) (map start_read starts ++ lines)
 starts_told p [] bounds all told = told
 starts_told {rest} p (start ∷ starts) bounds all told =
     told_as (start_split start (flat_map start_line starts) rest) (line_told (start_is_line p start bounds all.0) (starts_told p starts bounds all.1 told))
@@ -116,7 +116,7 @@ always_split : (line : ℕ) (more rest : List ℕ) → (always_line line ++ more
 unfolding always_line
 always_split line more rest = simp append_assoc
 
-always_told : {rest : List ℕ} {lines : List Line} (p : Parts) (always : List ℕ) → IsSmall p → AllByRecursion (λ line. line < line_count p) always → Told rest lines → Told (flat_map always_line always ++ rest) (map always_read always ++ lines)
+always_told : {rest : List ℕ} {lines : List Line} (p : Parts) (always : List ℕ) → IsSmall p → AllByRecursion (λ line. line < line_count p) always → LinesAreTold rest lines → LinesAreTold (flat_map always_line always ++ rest) (map always_read always ++ lines)
 always_told p [] bounds all told = told
 always_told {rest} p (line ∷ always) bounds all told =
     told_as (always_split line (flat_map always_line always) rest) (line_told (bare _ _ (always_said line (omega (arith, all.0, bounds.lines)))) (always_told p always bounds all.1 told))
@@ -162,8 +162,8 @@ body_is_line : (entry : LineNo × Body) → HasFourWords entry → IsLine (body_
 unfolding body_bare
 body_is_line entry has = bare _ _ (body_said entry.1.a entry.1.b entry.1.c entry.1.d has.0 has.1.0 has.1.1.0 has.1.1.1)
 
-data_told : {rest : List ℕ} {lines : List Line} (p : Parts) (bodies : List (LineNo × Body)) → IsSmall p → AllByRecursion (IsDataLine p) bodies → AllByRecursion HasFourWords bodies → Told rest lines
-    → Told (flat_map data_lines bodies ++ rest) (flat_map data_read bodies ++ lines)
+data_told : {rest : List ℕ} {lines : List Line} (p : Parts) (bodies : List (LineNo × Body)) → IsSmall p → AllByRecursion (IsDataLine p) bodies → AllByRecursion HasFourWords bodies → LinesAreTold rest lines
+    → LinesAreTold (flat_map data_lines bodies ++ rest) (flat_map data_read bodies ++ lines)
 data_told p [] bounds all words told = told
 data_told {rest} p (entry ∷ bodies) bounds all words told =
     told_as (data_split entry (flat_map data_lines bodies) rest)
@@ -171,12 +171,12 @@ data_told {rest} p (entry ∷ bodies) bounds all words told =
 
 -- ---- the source
 
-data_at_end : (p : Parts) → IsImage p → HasWords p → Told (flat_map data_lines p.bodies) (flat_map data_read p.bodies)
+data_at_end : (p : Parts) → IsImage p → HasWords p → LinesAreTold (flat_map data_lines p.bodies) (flat_map data_read p.bodies)
 data_at_end p image words =
     let told = data_told p p.bodies (small p image) image.bodies words.bodies end_told in
     rw (append-nil (flat_map data_lines p.bodies), append-nil (flat_map data_read p.bodies)) at told
 
-pub source_told : (p : Parts) → IsImage p → HasWords p → Told (source_of p) (lines_read p)
+pub source_told : (p : Parts) → IsImage p → HasWords p → LinesAreTold (source_of p) (lines_read p)
 unfolding source_of lines_read
 source_told p image words =
     let bounds = small p image in

@@ -16,7 +16,7 @@ use Rattle.sparc_asm.specs.Words.{coded_words}
 use Rattle.sparc_place.specs.Places.{Layout, nothing_laid, is_size}
 use Rattle.sparc_assemble.specs.Assembly.{Names, Filled, with_code}
 use Rattle.law_sources.specs.Parsed.{number, line_of, sizes_read}
-use Rattle.law_sources.proofs.Steps.{IsNumber, is_number, Step, Goes, goes}
+use Rattle.law_sources.proofs.Steps.{HasNumber, is_number, Step, LinesGo, goes}
 use Rattle.law_sources.proofs.CodeLines.{laid_so}
 
 -- a line without a code word fills in nothing
@@ -33,7 +33,7 @@ sized width height contexts per_node = record nothing_laid { width = width; heig
 size_within : (most n : ℕ) (v : Sum) → above v ≡ n → 1 ≤ n → n ≤ most → is_size most v ≡ true
 size_within most n v is low high = rw is (and_from _ _ (le-leb 1 n low) (le-leb n most high))
 
-mesh_step : (count n width height : ℕ) (a b : List Signed) (f : Filled) → IsNumber a width → IsNumber b height → 1 ≤ width → width ≤ 16 → 1 ≤ height → height ≤ 16
+mesh_step : (count n width height : ℕ) (a b : List Signed) (f : Filled) → HasNumber a width → HasNumber b height → 1 ≤ width → width ≤ 16 → 1 ≤ height → height ≤ 16
     → Step count n (line_of (statement.Mesh a b)) (sized None None None None) (sized (Some width) (Some height) None None) f f
 unfolding coded
 mesh_step count n width height a b f first second low high low' high' =
@@ -46,7 +46,7 @@ mesh_step count n width height a b f first second low high low' high' =
       filled = nothing_added n f;
     }
 
-contexts_step : (count n width height contexts : ℕ) (a : List Signed) (f : Filled) → IsNumber a contexts → 1 ≤ contexts → contexts ≤ 4
+contexts_step : (count n width height contexts : ℕ) (a : List Signed) (f : Filled) → HasNumber a contexts → 1 ≤ contexts → contexts ≤ 4
     → Step count n (line_of (statement.Contexts a)) (sized (Some width) (Some height) None None) (sized (Some width) (Some height) (Some contexts) None) f f
 unfolding coded
 contexts_step count n width height contexts a f is low high =
@@ -58,7 +58,7 @@ contexts_step count n width height contexts a f is low high =
       filled = nothing_added n f;
     }
 
-lines_step : (count n width height contexts per_node : ℕ) (a : List Signed) (f : Filled) → IsNumber a per_node → 1 ≤ per_node → per_node ≤ 4096
+lines_step : (count n width height contexts per_node : ℕ) (a : List Signed) (f : Filled) → HasNumber a per_node → 1 ≤ per_node → per_node ≤ 4096
     → Step count n (line_of (statement.Lines a)) (sized (Some width) (Some height) (Some contexts) None) (sized (Some width) (Some height) (Some contexts) (Some per_node)) f f
 unfolding coded
 lines_step count n width height contexts per_node a f is low high =
@@ -72,8 +72,8 @@ lines_step count n width height contexts per_node a f is low high =
 
 -- behind the lines of sizes, code words may stand
 pub sizes_go : (p : Parts) → IsImage p → (count : ℕ) (rest : List Line) (f : Filled) (Good : Layout → Filled → Type 0)
-    → Goes count 4 rest (laid_so p false false 0 0 (λ place. false) (λ node slot. false) (λ line. false)) f Good
-    → Goes count 1 (sizes_read p ++ rest) nothing_laid f Good
+    → LinesGo count 4 rest (laid_so p false false 0 0 (λ place. false) (λ node slot. false) (λ line. false)) f Good
+    → LinesGo count 1 (sizes_read p ++ rest) nothing_laid f Good
 sizes_go p image count rest f Good more =
     goes count 1 _ _ _ _ f f Good (mesh_step count 1 p.width p.height (number p.width) (number p.height) f (is_number p.width) (is_number p.height) image.width.0 image.width.1 image.height.0 image.height.1)
     (goes count 2 _ _ _ _ f f Good (contexts_step count 2 p.width p.height p.contexts (number p.contexts) f (is_number p.contexts) image.contexts.0 image.contexts.1)

@@ -15,7 +15,7 @@ use Rattle.sparc_place.specs.Places.{Layout, is_index, with_start, with_range}
 use Rattle.sparc_assemble.specs.Assembly.{Filled, put_start}
 use Rattle.sparc_assemble.proofs.Rising.{Rises}
 use Rattle.law_sources.specs.Parsed.{number, line_of, start_read, always_read}
-use Rattle.law_sources.proofs.Steps.{IsNumber, is_number, Step, Goes, goes}
+use Rattle.law_sources.proofs.Steps.{HasNumber, is_number, Step, LinesGo, goes}
 use Rattle.law_sources.proofs.CodeLines.{laid_so}
 use Rattle.law_sources.proofs.SizeLines.{nothing_added}
 
@@ -48,7 +48,7 @@ module _ (p : Parts) (total : ℕ) (written : ℕ → Bool) (always : ℕ → Bo
   abbrev in_starts : Bool → (ℕ → ℕ → Bool) → Layout
   in_starts begun started = laid_so p begun false total 0 written started always
 
-  start_step : (count n node slot address : ℕ) (begun : Bool) (started : ℕ → ℕ → Bool) (f : Filled) (a b e : List Signed) → IsNumber a node → IsNumber b slot → IsNumber e address
+  start_step : (count n node slot address : ℕ) (begun : Bool) (started : ℕ → ℕ → Bool) (f : Filled) (a b e : List Signed) → HasNumber a node → HasNumber b slot → HasNumber e address
       → started node slot ≡ false → node < p.width * p.height → slot < p.contexts → address % 4 ≡ 0 → address < 4 * count → count ≤ 65536
       → Step count n (line_of (statement.Start a b e)) (in_starts begun started) (in_starts true (with_start node slot started)) f (record f { starts = put_start node slot address f.starts })
   start_step count n node slot address begun started f a b e is_a is_b is_e new node_is slot_is even low few =
@@ -67,8 +67,8 @@ module _ (p : Parts) (total : ℕ) (written : ℕ → Bool) (always : ℕ → Bo
   -- behind lines of starts that ascend
   pub starts_go : (from : ℕ) (xs : List (NodeNo × ℕ × ℕ)) (low high : ℕ) (rest : List Line) (begun : Bool) (started : ℕ → ℕ → Bool) (f : Filled) (Good : Layout → Filled → Type 0)
       → length p.code ≤ 65536 → AllByRecursion (IsStart p) xs → Rises low high (map (context_started p) xs) → StartsBelow p.contexts started low
-      → ((b : Bool) (n : ℕ) (started' : ℕ → ℕ → Bool) (g : Filled) → g.words ≡ f.words → g.memory ≡ f.memory → g.starts ≡ starts_with xs f.starts → Goes (length p.code) n rest (in_starts b started') g Good)
-      → Goes (length p.code) from (map start_read xs ++ rest) (in_starts begun started) f Good
+      → ((b : Bool) (n : ℕ) (started' : ℕ → ℕ → Bool) (g : Filled) → g.words ≡ f.words → g.memory ≡ f.memory → g.starts ≡ starts_with xs f.starts → LinesGo (length p.code) n rest (in_starts b started') g Good)
+      → LinesGo (length p.code) from (map start_read xs ++ rest) (in_starts begun started) f Good
   starts_go from [] low high rest begun started f Good few all up before more = more begun from started f refl refl refl
   starts_go from (x ∷ xs) low high rest begun started f Good few all up before more =
       let new : started x.0.0 x.1 ≡ false = false_from_ne_true _ (λ holds. (let below = before x.0.0 x.1 all.0.1 holds in let least = up.0 in omega arith)) in
@@ -99,7 +99,7 @@ module _ (p : Parts) (total : ℕ) (written : ℕ → Bool) (started : ℕ → �
   abbrev in_always : Bool → (ℕ → Bool) → Layout
   in_always begun always = laid_so p begun false total 0 written started always
 
-  always_step : (count n line : ℕ) (begun : Bool) (always : ℕ → Bool) (f : Filled) (a : List Signed) → IsNumber a line → always line ≡ false → line < p.width * p.height * p.per_node
+  always_step : (count n line : ℕ) (begun : Bool) (always : ℕ → Bool) (f : Filled) (a : List Signed) → HasNumber a line → always line ≡ false → line < p.width * p.height * p.per_node
       → Step count n (line_of (statement.Always a)) (in_always begun always) (in_always true (with_range line (line + 1) always)) f f
   unfolding coded
   always_step count n line begun always f a is new there =
@@ -114,8 +114,8 @@ module _ (p : Parts) (total : ℕ) (written : ℕ → Bool) (started : ℕ → �
   -- behind lines of Trap-Always lines that ascend
   pub always_go : (count from : ℕ) (xs : List ℕ) (low high : ℕ) (rest : List Line) (begun : Bool) (always : ℕ → Bool) (f : Filled) (Good : Layout → Filled → Type 0)
       → AllByRecursion (λ line. line < p.width * p.height * p.per_node) xs → Rises low high xs → AlwaysBelow always low
-      → ((b : Bool) (n : ℕ) → Goes count n rest (in_always b (always_with xs always)) f Good)
-      → Goes count from (map always_read xs ++ rest) (in_always begun always) f Good
+      → ((b : Bool) (n : ℕ) → LinesGo count n rest (in_always b (always_with xs always)) f Good)
+      → LinesGo count from (map always_read xs ++ rest) (in_always begun always) f Good
   always_go count from [] low high rest begun always f Good all up before more = more begun from
   always_go count from (x ∷ xs) low high rest begun always f Good all up before more =
       let new : always x ≡ false = false_from_ne_true _ (λ holds. (let below = before x holds in let least = up.0 in omega arith)) in

@@ -19,13 +19,13 @@ abbrev pub no_names : Names
 no_names = λ name. None
 
 -- an expression whose value is a number
-pub record IsNumber (e : List Signed) (n : ℕ) : Type 0 where
+pub record HasNumber (e : List Signed) (n : ℕ) : Type 0 where
   pub value : Sum
   pub is : (here : ℕ) → value_of no_names here e ≡ Some value
   pub above : above value ≡ n
   pub below : below value ≡ 0
 
-pub is_number : (n : ℕ) → IsNumber (number n) n
+pub is_number : (n : ℕ) → HasNumber (number n) n
 is_number n = record { value = sum n 0; is = λ here. number_is no_names here n; above = omega arith; below = omega arith }
 
 -- a statement without a fault
@@ -42,16 +42,16 @@ pub record Step (count number : ℕ) (line : Line) (l m : Layout) (f g : Filled)
   pub filled : filled_in no_names number (place_of l line.statement) line.statement f ≡ g
 
 -- lines have no fault, and what stands behind them is good together with what they fill in
-pub record Goes (count number : ℕ) (lines : List Line) (l : Layout) (f : Filled) (Good : Layout → Filled → Type 0) : Type 0 where
+pub record LinesGo (count number : ℕ) (lines : List Line) (l : Layout) (f : Filled) (Good : Layout → Filled → Type 0) : Type 0 where
   pub end : Layout
   pub placed : places number l lines ≡ Ok end
   pub valued : values_fault no_names count number (places_of l lines) lines ≡ None
   pub good : Good end (all_filled no_names number (places_of l lines) lines f)
 
-pub ends : (count number : ℕ) (l : Layout) (f : Filled) (Good : Layout → Filled → Type 0) → Good l f → Goes count number [] l f Good
+pub ends : (count number : ℕ) (l : Layout) (f : Filled) (Good : Layout → Filled → Type 0) → Good l f → LinesGo count number [] l f Good
 ends count number l f Good good = record { end = l; placed = refl; valued = refl; good = good }
 
-pub goes : (count number : ℕ) (line : Line) (rest : List Line) (l m : Layout) (f g : Filled) (Good : Layout → Filled → Type 0) → Step count number line l m f g → Goes count (number + 1) rest m g Good → Goes count number (line ∷ rest) l f Good
+pub goes : (count number : ℕ) (line : Line) (rest : List Line) (l m : Layout) (f g : Filled) (Good : Layout → Filled → Type 0) → Step count number line l m f g → LinesGo count (number + 1) rest m g Good → LinesGo count number (line ∷ rest) l f Good
 goes count number line rest l m f g Good step more = record {
   end = more.end;
   placed = ap (λ (fault : Option Fault). place_or number fault (places (number + 1) (behind l line) rest)) step.placed ∙ (ap (λ (n : Layout). places (number + 1) n rest) step.laid ∙ more.placed);
@@ -78,7 +78,7 @@ pub record IsAssembledTo (lines : List Line) (p : Parts) : Type 0 where
   pub right : after_lines (Ok lines) ≡ Ok whole
   pub image : whole.image ≡ p
 
-pub made : (p : Parts) (lines : List Line) → length p.code ≢ 0 → Goes (length p.code) 1 lines nothing_laid nothing_filled (Makes p) → IsAssembledTo lines p
+pub made : (p : Parts) (lines : List Line) → length p.code ≢ 0 → LinesGo (length p.code) 1 lines nothing_laid nothing_filled (Makes p) → IsAssembledTo lines p
 made p lines some h = record {
   whole = record { image = parts_of h.end f; lines = map (λ w. w.1) f.words };
   right = ap (after_places (places_of nothing_laid lines) lines) h.placed ∙ by_end h.end h.good.names h.good.code;

@@ -47,14 +47,14 @@ tail_text Waits n = decimal n
 tail_text Rests n = []
 tail_text Traps n = hex_byte n
 
-abbrev Fits : Stem → ℕ → Type 0
-Fits Holds n = IsNumber n
-Fits Runs n = n ≡ 0
-Fits Waits n = IsNumber n
-Fits Rests n = n ≡ 0
-Fits Traps n = n < 256
+abbrev StemFits : Stem → ℕ → Type 0
+StemFits Holds n = IsNumber n
+StemFits Runs n = n ≡ 0
+StemFits Waits n = IsNumber n
+StemFits Rests n = n ≡ 0
+StemFits Traps n = n < 256
 
-tail : {B : Type 0} {b d : List ℕ} (stem : Stem) (n m : ℕ) → Fits stem n → Fits stem m → Stops b → Stops d → Tells B b d
+tail : {B : Type 0} {b d : List ℕ} (stem : Stem) (n m : ℕ) → StemFits stem n → StemFits stem m → Stops b → Stops d → Tells B b d
     → Tells ((n ≡ m) × B) (tail_text stem n ++ b) (tail_text stem m ++ d)
 tail Holds n m l k stops ends rest = number n m l k stops ends rest
 tail Runs n m l k stops ends rest = said_as (λ b. (l ∙ sym k, b)) rest
@@ -86,13 +86,13 @@ status-is None Halted = refl
 status-is None (Trapped pc tt) = refl
 
 -- what a slot can be doing: with a hold it is Ready, and it is trapped where it stands
-abbrev pub Stands : ℕ → Option ℕ → Status → Type 0
-Stands pc (Some line) status = IsNumber line × (status ≡ Ready)
-Stands pc None (Waiting line) = IsNumber line.0
-Stands pc None (Trapped at tt) = (at ≡ pc) × (tt < 256)
-Stands pc None _ = Unit {0}
+abbrev pub StatusStands : ℕ → Option ℕ → Status → Type 0
+StatusStands pc (Some line) status = IsNumber line × (status ≡ Ready)
+StatusStands pc None (Waiting line) = IsNumber line.0
+StatusStands pc None (Trapped at tt) = (at ≡ pc) × (tt < 256)
+StatusStands pc None _ = Unit {0}
 
-fits : (pc : ℕ) (hold : Option ℕ) (status : Status) → Stands pc hold status → Fits (stem_in hold status) (number_in hold status)
+fits : (pc : ℕ) (hold : Option ℕ) (status : Status) → StatusStands pc hold status → StemFits (stem_in hold status) (number_in hold status)
 fits pc (Some line) status is = is.0
 fits pc None Ready is = refl
 fits pc None (Waiting line) is = is
@@ -110,7 +110,7 @@ doing pc Waits n = (None, Waiting (record { 0 = n }))
 doing pc Rests n = (None, Halted)
 doing pc Traps n = (None, Trapped pc n)
 
-doing-is : (pc : ℕ) (hold : Option ℕ) (status : Status) → Stands pc hold status
+doing-is : (pc : ℕ) (hold : Option ℕ) (status : Status) → StatusStands pc hold status
     → doing pc (stem_in hold status) (number_in hold status) ≡ held_doing hold status
 doing-is pc (Some line) status is = ap (λ (s : Status). held_doing (Some line) s) (sym is.1)
 doing-is pc None Ready is = refl
@@ -119,7 +119,7 @@ doing-is pc None Halted is = refl
 doing-is pc None (Trapped at tt) is = ap (λ (k : ℕ). held_doing None (Trapped k tt)) (sym is.0)
 
 -- a status before a text that stops it
-pub one_status : {B : Type 0} {b d : List ℕ} (pc pc' : ℕ) (hold hold' : Option ℕ) (status status' : Status) → Stands pc hold status → Stands pc' hold' status'
+pub one_status : {B : Type 0} {b d : List ℕ} (pc pc' : ℕ) (hold hold' : Option ℕ) (status status' : Status) → StatusStands pc hold status → StatusStands pc' hold' status'
     → Stops b → Stops d → Tells B b d
     → Tells ((pc ≡ pc' → held_doing hold status ≡ held_doing hold' status') × B) (status_text hold status ++ b) (status_text hold' status' ++ d)
 one_status {B} {b} {d} pc pc' hold hold' status status' is also stops ends rest = record {
@@ -132,7 +132,7 @@ one_status {B} {b} {d} pc pc' hold hold' status status' is also stops ends rest 
       let first = (one_stem stem stem').read (tail_text stem n ++ (b ++ u)) (tail_text stem' m ++ (d ++ v))
       (sym (ap (λ (t : List ℕ). (t ++ b) ++ u) (status-is hold status) ∙ text stem n b u) ∙ e
       ∙ ap (λ (t : List ℕ). (t ++ d) ++ v) (status-is hold' status') ∙ text stem' m d v) in
-      let fit : Fits stem m = subst (λ (s : Stem). Fits s m) (sym first.0) (fits pc' hold' status' also) in
+      let fit : StemFits stem m = subst (λ (s : Stem). StemFits s m) (sym first.0) (fits pc' hold' status' also) in
       let same = (tail stem n m (fits pc hold status is) fit stops ends rest).read u v
       (append_assoc (tail_text stem n) b u ∙ first.1
       ∙ ap (λ (s : Stem). tail_text s m ++ (d ++ v)) (sym first.0) ∙ sym (append_assoc (tail_text stem m) d v)) in

@@ -87,13 +87,13 @@ same_entry one other =
     same s s' m m' h h' w w' a a' b b' t t' e1 e2 e3 e4 e5 e6 e7 = cc
 
 -- a home line with its number
-abbrev pub IsRow : (ℕ → Bool) → ℕ × Directory → Type 0
-IsRow listed row = IsNumber row.0 × IsHome (listed row.0) row.1
+abbrev pub IsHomeRow : (ℕ → Bool) → ℕ × Directory → Type 0
+IsHomeRow listed row = IsNumber row.0 × IsHome (listed row.0) row.1
 
 abbrev rest_of : Directory → List ℕ
 rest_of entry = pointers entry ++ (body_text entry.body ++ codes "\n")
 
-pub one_home : (listed : ℕ → Bool) (one other : ℕ × Directory) → IsRow listed one → IsRow listed other
+pub one_home : (listed : ℕ → Bool) (one other : ℕ × Directory) → IsHomeRow listed one → IsHomeRow listed other
     → Tells (one ≡ other) (home_line one.0 one.1) (home_line other.0 other.1)
 one_home listed one other is also = record {
   read = λ u v e.

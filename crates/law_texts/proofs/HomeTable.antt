@@ -11,51 +11,51 @@ use Rattle.law_texts.specs.Words.{AreWords}
 use Rattle.law_texts.proofs.Messages.{AsksWords, TellsWords, AllTell}
 use Rattle.law_order.proofs.Aims.{every_of}
 
-record Acts (after : Home × Sends) : Type 0 where
+record LeavesWords (after : Home × Sends) : Type 0 where
   body : AreWords after.0.body
   sends : AllTell after.1
 
 module _ (h : Home) (i : ℕ) (are : AreWords h.body) where
-  still : Acts (h, [])
+  still : LeavesWords (h, [])
   still = record { body = are; sends = tt }
 
   all_invs : (nodes : List ℕ) → AllTell (invs nodes)
   all_invs nodes = every_of (λ (send : ℕ × ToCache). TellsWords send.1) (λ j. (j, INV)) nodes (λ j. tt)
 
-  of_shared : (nodes : List ℕ) → Acts (write_shared h i nodes)
+  of_shared : (nodes : List ℕ) → LeavesWords (write_shared h i nodes)
   of_shared [] = record { body = are; sends = (are, tt) }
   of_shared (j ∷ rest) = record { body = are; sends = all_invs (j ∷ rest) }
 
-  of_recall : (state : State) (owner : Option ℕ) → Acts (recall h i state owner)
+  of_recall : (state : State) (owner : Option ℕ) → LeavesWords (recall h i state owner)
   of_recall state None = still
   of_recall state (Some owner) = go (i == owner)
     where
-      go : (b : Bool) → Acts (recall_from h i state owner b)
+      go : (b : Bool) → LeavesWords (recall_from h i state owner b)
       go true = still
       go false = record { body = are; sends = (tt, tt) }
 
-  of_return : (body : Line) → AreWords body → (owner : Option ℕ) → Acts (give_back h i body owner)
+  of_return : (body : Line) → AreWords body → (owner : Option ℕ) → LeavesWords (give_back h i body owner)
   of_return body words None = still
   of_return body words (Some owner) = go (i == owner)
     where
-      go : (b : Bool) → Acts (give_back_from h body b)
+      go : (b : Bool) → LeavesWords (give_back_from h body b)
       go true = record { body = words; sends = tt }
       go false = still
 
-  read_ends : (body : Line) → AreWords body → (k : Option ℕ) → Acts (end_read h body k)
+  read_ends : (body : Line) → AreWords body → (k : Option ℕ) → LeavesWords (end_read h body k)
   read_ends body words None = still
   read_ends body words (Some k) = record { body = words; sends = (words, tt) }
 
-  write_ends : (body : Line) → AreWords body → (k : Option ℕ) → Acts (end_write h body k)
+  write_ends : (body : Line) → AreWords body → (k : Option ℕ) → LeavesWords (end_write h body k)
   write_ends body words None = still
   write_ends body words (Some k) = record { body = words; sends = (words, tt) }
 
-  acknowledged : (ended : Home × Sends) → Acts ended → (acks : ℕ) → Acts (acknowledge h ended acks)
+  acknowledged : (ended : Home × Sends) → LeavesWords ended → (acks : ℕ) → LeavesWords (acknowledge h ended acks)
   acknowledged ended acts zero = still
   acknowledged ended acts (suc zero) = acts
   acknowledged ended acts (suc (suc left)) = record { body = are; sends = tt }
 
-  row_acts : (state : State) (message : ToMemory) → AsksWords message → Acts (row h i state message)
+  row_acts : (state : State) (message : ToMemory) → AsksWords message → LeavesWords (row h i state message)
   row_acts RO RREQ asks = record { body = are; sends = (are, tt) }
   row_acts RO WREQ asks = of_shared (others h.pointers i)
   row_acts RO (REPM body) asks = still

@@ -21,7 +21,7 @@ use Rattle.alw_save.specs.Lines.{home_line}
 use Rattle.alw_save.specs.States.{is_read_only, begins_so, is_as_begun, home_text, homes_text}
 use Rattle.law_texts.proofs.Runs.{rank, run_rank, one_run, rows, said_of, said-rows, rows_text, each_row, same_texts}
 use Rattle.law_texts.proofs.Words.{same_words}
-use Rattle.law_texts.proofs.HomeLines.{IsRow, same_entry, one_home, home-ranks}
+use Rattle.law_texts.proofs.HomeLines.{IsHomeRow, same_entry, one_home, home-ranks}
 
 -- ---- as at the start
 
@@ -88,7 +88,7 @@ EachLine parts n P = (line : ℕ) → n * parts.per_node ≤ line → line < n *
 
 -- what a line in range has
 abbrev pub IsHomeLine : Parts → MachineState → ℕ → Type 0
-IsHomeLine parts machine line = IsRow (is_always parts) (line, entry_of parts machine line)
+IsHomeLine parts machine line = IsHomeRow (is_always parts) (line, entry_of parts machine line)
 
 module _ (parts : Parts) where
   -- the entry of a line, where it is told
@@ -126,12 +126,12 @@ module _ (parts : Parts) where
         (range_with_len start parts.per_node)
         ∙ rows_text (told machine) home_line start parts.per_node
 
-    rows_fit : (machine : MachineState) → EachLine parts n (IsHomeLine parts machine) → AllByRecursion (IsRow (is_always parts)) (home_rows machine)
-    rows_fit machine each = each_row (told machine) (IsRow (is_always parts)) start parts.per_node
+    rows_fit : (machine : MachineState) → EachLine parts n (IsHomeLine parts machine) → AllByRecursion (IsHomeRow (is_always parts)) (home_rows machine)
+    rows_fit machine each = each_row (told machine) (IsHomeRow (is_always parts)) start parts.per_node
         (λ line l m. go (is_begun parts line (entry_of parts machine line)) line (entry_of parts machine line) (each line l m))
       where
-        go : (b : Bool) (line : ℕ) (entry : Directory) → IsRow (is_always parts) (line, entry)
-            → AllByRecursion (λ e. IsRow (is_always parts) (line, e)) (told_if b entry)
+        go : (b : Bool) (line : ℕ) (entry : Directory) → IsHomeRow (is_always parts) (line, entry)
+            → AllByRecursion (λ e. IsHomeRow (is_always parts) (line, e)) (told_if b entry)
         go true line entry is = tt
         go false line entry is = (is, tt)
 
@@ -139,14 +139,14 @@ module _ (parts : Parts) where
     pub homes_rank : (machine : MachineState) (u : List ℕ) → 3 ≤ rank u → 3 ≤ rank (homes_text parts machine n ++ u)
     homes_rank machine u l =
         subst (λ (t : List ℕ). 3 ≤ rank (t ++ u)) (sym (homes-are machine))
-        (run_rank (IsRow (is_always parts)) row_line 3 home-ranks (home_rows machine) u l)
+        (run_rank (IsHomeRow (is_always parts)) row_line 3 home-ranks (home_rows machine) u l)
 
     -- home lines of one text are the same
     pub one_homes : (one other : MachineState) → EachLine parts n (IsHomeLine parts one) → EachLine parts n (IsHomeLine parts other)
         → (u v : List ℕ) → 3 < rank u → 3 < rank v → homes_text parts one n ++ u ≡ homes_text parts other n ++ v
         → EachLine parts n (λ line. entry_of parts one line ≡ entry_of parts other line) × (u ≡ v)
     one_homes one other are all u v l k e =
-        let run = one_run (IsRow (is_always parts)) row_line 3 home-ranks (one_home (is_always parts)) (home_rows one) (home_rows other) u v
+        let run = one_run (IsHomeRow (is_always parts)) row_line 3 home-ranks (one_home (is_always parts)) (home_rows one) (home_rows other) u v
         (rows_fit one are) (rows_fit other all) l k
         (sym (ap (λ (t : List ℕ). t ++ u) (homes-are one)) ∙ e ∙ ap (λ (t : List ℕ). t ++ v) (homes-are other)) in (
           λ line low high. same_told line _ _ (entry_of parts one line) (entry_of parts other line) refl refl

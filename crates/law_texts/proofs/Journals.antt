@@ -31,7 +31,7 @@ use Rattle.law_machine.proofs.Runs.{node_at_start}
 use Rattle.law_machine.proofs.ContextFacts.{SlotStands}
 use Rattle.law_machine.proofs.ContextRuns.{after_keeps}
 use Rattle.law_machine.proofs.MachineRuns.{IsKept, entry_kept, start_kept}
-use Rattle.law_texts.specs.Words.{AreWords, SlotHasWords, HasWords}
+use Rattle.law_texts.specs.Words.{AreWords, SlotHasWords, MachineHasWords}
 use Rattle.law_texts.proofs.Messages.{AllSend}
 use Rattle.law_texts.proofs.NodeEvents.{AllMessages, TakesWords, NodeWords, StepWords, entry_words, slot_words, step_leaves}
 use Rattle.law_texts.proofs.Starts.{start_words, start_listed}
@@ -168,7 +168,7 @@ module _ (parts : Parts) (parameters : Parameters) (s : MachineState) (kept : Is
         held = held_ready at (node_at s n).cache (node_at s n).transactions stands at.hold refl;
       }
 
-  words_are : HasWords parts s
+  words_are : MachineHasWords parts s
   words_are = record {
     slots = λ n slot here there. slot_is n slot here;
     copies = λ n here. (worded.nodes n here).copies;
@@ -181,7 +181,7 @@ module _ (parts : Parts) (parameters : Parameters) (s : MachineState) (kept : Is
   }
 
 pub always_words : (parts : Parts) → IsImage parts → (parameters : Parameters) → AreParameters parameters
-    → (journal : List Entry) → IsLegal parts parameters journal → numbers.HasWords parts → HasWords parts (state parts parameters journal)
+    → (journal : List Entry) → IsLegal parts parameters journal → numbers.HasWords parts → MachineHasWords parts (state parts parameters journal)
 always_words parts image parameters are journal legal words =
     let both = always_worded parts image parameters are journal legal words in
     words_are parts parameters (state parts parameters journal) both.0 both.1

@@ -16,7 +16,7 @@ use Rattle.law_texts.proofs.Readings.{Tells, fixed, both, behind, said_as, numbe
 use Rattle.law_texts.proofs.Runs.{rank}
 use Rattle.law_texts.proofs.Choices.{one_flag, one_mode}
 use Rattle.law_texts.proofs.Words.{one_spaced, one_body}
-use Rattle.law_texts.proofs.Doings.{one_status, Stands, held_doing}
+use Rattle.law_texts.proofs.Doings.{one_status, StatusStands, held_doing}
 
 -- as many lines, each read in one way
 one_list : {X : Type 0} (IsX : X → Type 0) (line : X → List ℕ) → ((x y : X) → IsX x → IsX y → Tells (x ≡ y) (line x) (line y)) → (xs ys : List X)
@@ -89,7 +89,7 @@ same_regs one other s r =
 -- a slot whose registers are words, and which does what one can do
 pub record IsSlot (slot : Slot) : Type 0 where
   pub regs : AreRegisters slot.regs
-  pub stands : Stands slot.regs.pc slot.hold slot.status
+  pub stands : StatusStands slot.regs.pc slot.hold slot.status
 
 same_slot : (one other : Slot) → one.regs ≡ other.regs → held_doing one.hold one.status ≡ held_doing other.hold other.status → one ≡ other
 same_slot one other e f =

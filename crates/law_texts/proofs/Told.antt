@@ -28,11 +28,11 @@ use Rattle.alw_model.specs.MachineInvariant.{MachineInvariant, slot_fits, waits_
 use Rattle.alw_model.proofs.Journals.{and_parts}
 use Rattle.law_machine.proofs.Ended.{all_at}
 use Rattle.alw_trace.specs.Lines.{IsNumber}
-use Rattle.law_texts.specs.Words.{HasWords, AreWords}
+use Rattle.law_texts.specs.Words.{MachineHasWords, AreWords}
 use Rattle.law_texts.proofs.Homes.{IsHomeLine}
 use Rattle.law_texts.proofs.NodeTexts.{IsNode}
 use Rattle.law_texts.proofs.States.{IsMachineTold}
-use Rattle.law_texts.proofs.Doings.{Stands}
+use Rattle.law_texts.proofs.Doings.{StatusStands}
 use Rattle.law_texts.proofs.NodeLines.{IsSlot, IsPending, IsCopy}
 use Rattle.law_texts.proofs.MessageLines.{IsMessage}
 
@@ -68,14 +68,14 @@ module _ (parts : Parts) (image : IsImage parts) where
 
   slot_stands : (pc : ℕ) (hold : Option ℕ) (status : Status) → IsTrue (passes_if_some (λ line. nat_lt line (line_count parts)) (waited status))
       → IsTrue (passes_if_some (λ line. nat_lt line (line_count parts)) hold) → ((at type : ℕ) → status ≡ Trapped at type → (at ≡ pc) × (type < 256))
-      → (IsSome hold → status ≡ Ready) → Stands pc hold status
+      → (IsSome hold → status ≡ Ready) → StatusStands pc hold status
   slot_stands pc (Some line) status waits holds trapped held = (below line holds, held refl)
   slot_stands pc None Ready waits holds trapped held = tt
   slot_stands pc None (Waiting line) waits holds trapped held = below line.0 waits
   slot_stands pc None Halted waits holds trapped held = tt
   slot_stands pc None (Trapped at type) waits holds trapped held = trapped at type refl
 
-  module _ (parameters : Parameters) (machine : MachineState) (invariant : MachineInvariant parts parameters machine) (has : HasWords parts machine)
+  module _ (parameters : Parameters) (machine : MachineState) (invariant : MachineInvariant parts parameters machine) (has : MachineHasWords parts machine)
       (small : (n : ℕ) → n < node_count parts → (node_at machine n).clock < 2 ^ 32 - 1) where
     module _ (n : ℕ) (here : n < node_count parts) where
       slot_is : (slot : ℕ) → slot < parts.contexts → IsSlot (slot_at (node_at machine n).slots slot)

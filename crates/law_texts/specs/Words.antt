@@ -34,7 +34,7 @@ pub record SlotHasWords (slot : Slot) : Type 0 where
   pub held : IsSome slot.hold → slot.status ≡ Ready
 
 -- a machine's words; and the entry of a home line is Trap-Always as the image lists it
-pub record HasWords (parts : Parts) (machine : MachineState) : Type 0 where
+pub record MachineHasWords (parts : Parts) (machine : MachineState) : Type 0 where
   pub slots : (n slot : ℕ) → n < node_count parts → slot < parts.contexts → SlotHasWords (slot_at (node_at machine n).slots slot)
   pub copies : (n : ℕ) → n < node_count parts → AllByRecursion (λ (entry : ℕ × Copy). AreWords entry.1.body) (node_at machine n).cache.entries
   pub homes : (line : ℕ) → line < line_count parts → AreWords (entry_of parts machine line).body

@@ -92,7 +92,7 @@ pub record Drains (parts : Parts) (parameters : Parameters) (c : ℕ) (s : Machi
   pub clocks : greatest_clock (after parts parameters s more) ≤ greatest_clock s + heft_of parts s
 
 -- entries without a turn, behind which an event is enabled that the limit alone keeps back, with a stamp of at most this above the greatest clock
-pub record Stops (parts : Parts) (parameters : Parameters) (c : ℕ) (s : MachineState) (most : ℕ) (more : List Entry) : Type 0 where
+pub record StopsThere (parts : Parts) (parameters : Parameters) (c : ℕ) (s : MachineState) (most : ℕ) (more : List Entry) : Type 0 where
   pub legal : AreLegal parts parameters s more
   pub own : AllServe c more
   pub turns : turns_from parts parameters s more ≡ []
@@ -104,12 +104,12 @@ pub record Stops (parts : Parts) (parameters : Parameters) (c : ℕ) (s : Machin
 
 module _ (parts : Parts) (image : IsImage parts) (parameters : Parameters) (are : AreMeans parameters) (c : ℕ) where
   -- an event that the limit keeps back
-  pub stops_now : (s : MachineState) → IsKept parts parameters s → (event : Event) → serves c event ≡ true → is_enabled parts parameters s event ≡ true → parameters.limit < stamp_at parts s event → (most : ℕ) → 1 ≤ most → Stops parts parameters c s most []
+  pub stops_now : (s : MachineState) → IsKept parts parameters s → (event : Event) → serves c event ≡ true → is_enabled parts parameters s event ≡ true → parameters.limit < stamp_at parts s event → (most : ℕ) → 1 ≤ most → StopsThere parts parameters c s most []
   stops_now s kept event own enabled above most some = record { legal = tt; own = tt; turns = refl; event = event; event_own = own; enabled = enabled; above = above; stamp = omega (arith, stamp_near parts image parameters are s kept event enabled) }
 
   -- one entry earlier
   pub stops_later : (s : MachineState) (event : Event) (kept : IsKept parts parameters s) (enabled : is_enabled parts parameters s event ≡ true) → serves c event ≡ true → stamp_at parts s event ≤ parameters.limit → turn_in parts (node_of event) (stepped_by parts parameters s event).did ≡ []
-      → (most next_most : ℕ) → next_most + 1 ≤ most → (more : List Entry) → Stops parts parameters c (step parts parameters s event) next_most more → Stops parts parameters c s most (entry_for parts s event ∷ more)
+      → (most next_most : ℕ) → next_most + 1 ≤ most → (more : List Entry) → StopsThere parts parameters c (step parts parameters s event) next_most more → StopsThere parts parameters c s most (entry_for parts s event ∷ more)
   stops_later s event kept enabled own within no_turn most next_most less more x =
       let grows = next_clock parts image parameters are s kept event enabled in
       record {
@@ -126,7 +126,7 @@ module _ (parts : Parts) (image : IsImage parts) (parameters : Parameters) (are 
 module _ (parts : Parts) (image : IsImage parts) (one : parts.contexts ≡ 1) (parameters : Parameters) (are : AreMeans parameters) (c : ℕ) where
   -- what is on its way is delivered, or the limit keeps an event back
   abbrev pub DrainsOrStops : MachineState → Type 0
-  DrainsOrStops s = (more : List Entry) × (Drains parts parameters c s more ⊎ Stops parts parameters c s (heft_of parts s) more)
+  DrainsOrStops s = (more : List Entry) × (Drains parts parameters c s more ⊎ StopsThere parts parameters c s (heft_of parts s) more)
 
   drained_next : (s : MachineState) (event : Event) (kept : IsKept parts parameters s) (enabled : is_enabled parts parameters s event ≡ true) → is_quiet event ≡ true → stamp_at parts s event ≤ parameters.limit → heft_of parts (step parts parameters s event) + 1 ≤ heft_of parts s
       → DrainsOrStops (step parts parameters s event) → DrainsOrStops s

@@ -31,7 +31,7 @@ use Rattle.law_machine.proofs.Timing.{each_front}
 use Rattle.law_machine.proofs.MachineRuns.{IsKept}
 use Rattle.law_turns.proofs.Hefts.{heft, packet_heft}
 use Rattle.law_turns.proofs.Means.{AreMeans, clocks_small, fit_on}
-use Rattle.law_turns.proofs.Stages.{heft_of, own, Holds, IsServing, no_others, nobody_waits, nothing_down}
+use Rattle.law_turns.proofs.Stages.{heft_of, own, SlotHolds, IsServing, no_others, nobody_waits, nothing_down}
 use Rattle.law_turns.specs.Orders.{is_quiet}
 
 -- a list that weighs something has a member that does
@@ -129,20 +129,20 @@ module _ (parts : Parts) (image : IsImage parts) (parameters : Parameters) (are 
 
 module _ (parts : Parts) (one : parts.contexts ≡ 1) (parameters : Parameters) (s : MachineState) (kept : IsKept parts parameters s) where
   -- what is kept is so by a hold of a node's one slot
-  holder_is : (n line : ℕ) → n < node_count parts → is_held (node_at s n).slots line ≡ true → Holds (own s n)
+  holder_is : (n line : ℕ) → n < node_count parts → is_held (node_at s n).slots line ≡ true → SlotHolds (own s n)
   holder_is n line here is =
       let h = held_slot (node_at s n).slots line is in
       by_slot h.0 h.1
     where
-      by_slot : (i : ℕ) → (slot_at (node_at s n).slots i).hold ≡ Some line → Holds (own s n)
+      by_slot : (i : ℕ) → (slot_at (node_at s n).slots i).hold ≡ Some line → SlotHolds (own s n)
       by_slot zero e = (line, e)
       by_slot (suc i) e = absurd (let none : None ≡ Some line = sym (ap (λ (u : Slot). u.hold) (no_others parts one parameters s kept.has n i here)) ∙ e in cc)
 
-  replaced_held : (n : ℕ) → n < node_count parts → (o : Option Copy) → passes (λ (copy : Copy). is_held (node_at s n).slots copy.line) o ≡ true → Holds (own s n)
+  replaced_held : (n : ℕ) → n < node_count parts → (o : Option Copy) → passes (λ (copy : Copy). is_held (node_at s n).slots copy.line) o ≡ true → SlotHolds (own s n)
   replaced_held n here None is = absurd (false≢true is)
   replaced_held n here (Some copy) is = holder_is n copy.line here is
 
-  blocked : (n l : ℕ) → n < node_count parts → (said : ToCache) → may_reach_cache parameters.sets (node_at s n).slots (node_at s n).cache l said ≡ false → Holds (own s n)
+  blocked : (n l : ℕ) → n < node_count parts → (said : ToCache) → may_reach_cache parameters.sets (node_at s n).slots (node_at s n).cache l said ≡ false → SlotHolds (own s n)
   blocked n l here INV e = holder_is n l here (not_false (is_held (node_at s n).slots l) e)
   blocked n l here BUSY e = absurd (false≢true (sym e))
   blocked n l here (RDATA body) e = replaced_held n here (replaced parameters.sets (node_at s n).cache l) (not_false _ e)
@@ -160,7 +160,7 @@ module _ (parts : Parts) (one : parts.contexts ≡ 1) (parameters : Parameters) 
       let m = each_front (MsgStands parts from n (node_at s from).clock) (link_at parts s from n) msg (kept.times.links from n f here) e in
       let home : home_node parts l ≡ from = eqb-true (home_node parts l) from (sym (ap (λ t. is_at_home t (home_node parts l) from n) is) ∙ m.home) in
       let down = ap (λ (v : LineNode). v.down) (old_part parts parameters s n l here) ∙ down_at parts parameters s kept.has.values kept.has.sound from n msg said e home is in
-      let holds : Holds (own s c) = is_node (Holds (own s c)) n c (λ same. (h.0, ap (λ k. (own s k).hold) (sym same) ∙ h.1)) (λ other. absurd (let none : None ≡ Some h.0 = sym (serving.free n other) ∙ h.1 in cc)) in
+      let holds : SlotHolds (own s c) = is_node (SlotHolds (own s c)) n c (λ same. (h.0, ap (λ k. (own s k).hold) (sym same) ∙ h.1)) (λ other. absurd (let none : None ≡ Some h.0 = sym (serving.free n other) ∙ h.1 in cc)) in
       let none = nothing_down parts one parameters s kept.has (nobody_waits parts one parameters s kept.has c serving holds) l n m.exists in
       let size : length (said ∷ downs l (behind (link_at parts s from n))) ≡ 0 = ap length (sym down ∙ none) in
       absurd (omega arith)

@@ -45,7 +45,7 @@ use Rattle.law_machine.proofs.ContextRuns.{HasContexts, down_at}
 use Rattle.law_turns.specs.Orders.{is_quiet}
 use Rattle.law_turns.proofs.Hefts.{heft, packet_heft, heft_in, packed_in, busy_in, of_msg, sends_heft, sends_busy, sends_weigh, requests_weigh, links_more, react_light, act_light, busy_none}
 use Rattle.law_turns.proofs.Busy.{act_calm}
-use Rattle.law_turns.proofs.Stages.{heft_of, busy_of, Waits, Holds, IsServing, opener_is, alone}
+use Rattle.law_turns.proofs.Stages.{heft_of, busy_of, Waits, SlotHolds, IsServing, opener_is, alone}
 
 some_seen : (o : Option Transaction) → IsSome (seen_transaction o) → IsSome o
 some_seen None is = is
@@ -62,7 +62,7 @@ module _ (parts : Parts) (one : parts.contexts ≡ 1) (parameters : Parameters) 
 
   -- the slots stay, or c has its line
   abbrev pub NextStage : ℕ → NodeState → Type 0
-  NextStage at v = (v.slots ≡ (node_at s at).slots) ⊎ ((at ≡ c) × Holds (slot_at v.slots 0))
+  NextStage at v = (v.slots ≡ (node_at s at).slots) ⊎ ((at ≡ c) × SlotHolds (slot_at v.slots 0))
 
   abbrev sends_weight : (Content → ℕ) → List (ℕ × Msg) → ℕ
   sends_weight f sends = weigh (λ (send : ℕ × Msg). of_msg f send.1) sends
@@ -175,7 +175,7 @@ module _ (parts : Parts) (one : parts.contexts ≡ 1) (parameters : Parameters) 
 
     -- data that comes is for c, and gives it its hold
     data_comes : IsServing c s → (said : ToCache) → content msg ≡ ForCache said → Fit parts from.0 to.0 msg (ForCache said) → is_reply said ≡ true → (o : Option Transaction) → value_at (node_at s to.0).transactions msg.line.0 ≡ o
-        → (to.0 ≡ c) × Holds (slot_at (slots_after (node_at s to.0).slots msg.line.0 true o) 0)
+        → (to.0 ≡ c) × SlotHolds (slot_at (slots_after (node_at s to.0).slots msg.line.0 true o) 0)
     data_comes serving said is fit reply None g = absurd (
         let l = msg.line.0 in
         let down = down_at parts parameters s has.values has.sound from.0 to.0 msg said e (eqb-true (home_node parts l) from.0 fit.home) is in
@@ -248,6 +248,6 @@ module _ (parts : Parts) (one : parts.contexts ≡ 1) (parameters : Parameters) 
       awake_by v m line other (inl same) = ap (λ (slots : List Slot). waits_on line (slot_at slots 0).status) same ∙ serving.awake m line other
       awake_by v m line other (inr is) = absurd (other is.0)
 
-      stage_by : (v : NodeState) → NextStage c v → Waits (slot_at v.slots 0) ⊎ Holds (slot_at v.slots 0)
-      stage_by v (inl same) = subst (λ (slots : List Slot). Waits (slot_at slots 0) ⊎ Holds (slot_at slots 0)) (sym same) serving.stage
+      stage_by : (v : NodeState) → NextStage c v → Waits (slot_at v.slots 0) ⊎ SlotHolds (slot_at v.slots 0)
+      stage_by v (inl same) = subst (λ (slots : List Slot). Waits (slot_at slots 0) ⊎ SlotHolds (slot_at slots 0)) (sym same) serving.stage
       stage_by v (inr is) = inr is.1

@@ -36,12 +36,12 @@ use Rattle.law_machine.proofs.MachineRuns.{IsKept}
 use Rattle.law_machine.proofs.Sums.{weigh_set}
 use Rattle.law_turns.specs.Turns.{IsAtRest, greatest_clock, turns_from, turn_events, serves, ServesTurn}
 use Rattle.law_turns.proofs.Hefts.{heft, packet_heft, busy, heft_in, busy_in, of_msg, links_more, requests_weigh}
-use Rattle.law_turns.proofs.Stages.{heft_of, busy_of, own, Waits, Holds, IsServing, no_others}
+use Rattle.law_turns.proofs.Stages.{heft_of, busy_of, own, Waits, SlotHolds, IsServing, no_others}
 use Rattle.law_turns.proofs.Resting.{settled_light, settled_calm, light_settled, none_open, none_waits}
 use Rattle.law_turns.proofs.Means.{AreMeans, clocks_small, entry_kept}
 use Rattle.law_turns.proofs.Instructions.{Turned, Asked, Does, instr_does}
 use Rattle.law_turns.specs.Orders.{entry_for}
-use Rattle.law_turns.proofs.Draining.{stamp_near, is_next, next_kept, next_clock, Drains, DrainsOrStops, Stops, stops_now, stops_later, drains}
+use Rattle.law_turns.proofs.Draining.{stamp_near, is_next, next_kept, next_clock, Drains, DrainsOrStops, StopsThere, stops_now, stops_later, drains}
 use Rattle.law_turns.proofs.Turns.{legal_more, turns_more, EachIsServed, NobodyWaits}
 use Rattle.alw_num.proofs.Alls.{all_append}
 
@@ -157,7 +157,7 @@ module _ (parts : Parts) (image : IsImage parts) (one : parts.contexts ≡ 1) (p
   granted_by node _ = true
 
   -- once c has its line its instruction is a turn
-  turns_then : (c : ℕ) (here : c < n) (s : MachineState) (kept : IsKept parts parameters s) (light : heft_of parts s ≡ 0) (h : Holds (own s c)) (ready : (own s c).status ≡ Ready)
+  turns_then : (c : ℕ) (here : c < n) (s : MachineState) (kept : IsKept parts parameters s) (light : heft_of parts s ≡ 0) (h : SlotHolds (own s c)) (ready : (own s c).status ≡ Ready)
       → Does parts parameters c (stamp c here s kept light ready) (node_at s c) (stepped c here s kept light ready) → Turned parts parameters c (stamp c here s kept light ready) (node_at s c) (stepped c here s kept light ready)
   turns_then c here s kept light h ready (inl t) = t
   turns_then c here s kept light h ready (inr a) =
@@ -182,7 +182,7 @@ module _ (parts : Parts) (image : IsImage parts) (one : parts.contexts ≡ 1) (p
         clocks = omega arith;
       }
 
-  has_line : (c : ℕ) → c < n → (t : MachineState) → IsKept parts parameters t → heft_of parts t ≡ 0 → Waits (own t c) ⊎ Holds (own t c) → Holds (own t c)
+  has_line : (c : ℕ) → c < n → (t : MachineState) → IsKept parts parameters t → heft_of parts t ≡ 0 → Waits (own t c) ⊎ SlotHolds (own t c) → SlotHolds (own t c)
   has_line c here t kept empty (inl w) = absurd (none_waits parts t parameters kept.has empty c 0 w.0 here w.1.0)
   has_line c here t kept empty (inr h) = h
 
@@ -195,7 +195,7 @@ module _ (parts : Parts) (image : IsImage parts) (one : parts.contexts ≡ 1) (p
     abbrev far : MachineState
     far = after parts parameters (step parts parameters s own_event) r
 
-    far_holds : Holds (own far c)
+    far_holds : SlotHolds (own far c)
     far_holds = has_line c here far d.kept d.empty d.serving.stage
 
     far_ready : (own far c).status ≡ Ready
@@ -231,7 +231,7 @@ module _ (parts : Parts) (image : IsImage parts) (one : parts.contexts ≡ 1) (p
           clocks = subst (λ (u : MachineState). greatest_clock u ≤ greatest_clock s + turn_events parts) (sym joined) (omega arith);
         }
 
-    served_last : stamp_at parts s own_event ≤ parameters.limit → (all : List Entry) × (ServesTurn parts parameters s c all ⊎ Stops parts parameters c s (turn_events parts) all)
+    served_last : stamp_at parts s own_event ≤ parameters.limit → (all : List Entry) × (ServesTurn parts parameters s c all ⊎ StopsThere parts parameters c s (turn_events parts) all)
     served_last within =
         let can = enabled c here s kept light ready in
         let grows = next_clock parts image parameters are s kept own_event can in
@@ -257,7 +257,7 @@ module _ (parts : Parts) (image : IsImage parts) (one : parts.contexts ≡ 1) (p
 
   served_miss : (s : MachineState) (kept : IsKept parts parameters s) (light : heft_of parts s ≡ 0) (c : ℕ) (here : c < n) (ready : (own s c).status ≡ Ready) → stamp_at parts s (Instr (record { 0 = c })) ≤ parameters.limit
       → Asked parts parameters c (stamp c here s kept light ready) (node_at s c) (stepped c here s kept light ready) → DrainsOrStops parts image one parameters are c (step parts parameters s (Instr (record { 0 = c })))
-      → (all : List Entry) × (ServesTurn parts parameters s c all ⊎ Stops parts parameters c s (turn_events parts) all)
+      → (all : List Entry) × (ServesTurn parts parameters s c all ⊎ StopsThere parts parameters c s (turn_events parts) all)
   served_miss s kept light c here ready within a (more, inl d) = served_last s kept light c here ready a more d within
   served_miss s kept light c here ready within a (more, inr x) =
       let event = Instr (record { 0 = c }) in
@@ -295,7 +295,7 @@ module _ (parts : Parts) (image : IsImage parts) (one : parts.contexts ≡ 1) (p
       light : heft_of parts s ≡ 0
       light = settled_light parts s rests.settled
 
-      go : stamp_at parts s event ≤ parameters.limit → Does parts parameters c (stamp c here s kept light ready) (node_at s c) (stepped c here s kept light ready) → (more : List Entry) × (ServesTurn parts parameters s c more ⊎ Stops parts parameters c s (turn_events parts) more)
+      go : stamp_at parts s event ≤ parameters.limit → Does parts parameters c (stamp c here s kept light ready) (node_at s c) (stepped c here s kept light ready) → (more : List Entry) × (ServesTurn parts parameters s c more ⊎ StopsThere parts parameters c s (turn_events parts) more)
       go within (inl t) = (entry_for parts s event ∷ [], inl (served_hit s kept light c here ready (λ m other. free_at s kept rests m) (is_next parts image parameters are s kept event (enabled c here s kept light ready) within) t))
       go within (inr a) = served_miss s kept light c here ready within a
           (drains parts image one parameters are c (step parts parameters s event) (next_kept parts image parameters are s kept event (enabled c here s kept light ready) within)

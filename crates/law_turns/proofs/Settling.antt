@@ -27,7 +27,7 @@ use Rattle.law_machine.proofs.MachineRuns.{IsKept}
 use Rattle.law_machine.proofs.Sums.{weigh_set}
 use Rattle.law_turns.specs.Turns.{IsAtRest, greatest_clock}
 use Rattle.law_turns.proofs.Hefts.{heft, packet_heft}
-use Rattle.law_turns.proofs.Stages.{heft_of, own, Holds}
+use Rattle.law_turns.proofs.Stages.{heft_of, own, SlotHolds}
 use Rattle.law_turns.specs.Orders.{is_quiet, entry_for}
 use Rattle.law_turns.proofs.Quiet.{quiet_lightens}
 use Rattle.law_turns.proofs.Moves.{heavy, left_moves, free_reaches}
@@ -115,7 +115,7 @@ module _ (parts : Parts) (image : IsImage parts) (one : parts.contexts ≡ 1) (p
 
     -- ---- a slot with a hold
 
-    module _ (c : ℕ) (here : c < node_count parts) (h : Holds (own s c)) where
+    module _ (c : ℕ) (here : c < node_count parts) (h : SlotHolds (own s c)) where
       hold_turns : Turned parts parameters c (stamp_of (node_at s c).clock None) (node_at s c) (stepped_by parts parameters s (Instr (record { 0 = c })))
       hold_turns =
           let hs = ((kept.has.contexts c here).each 0).holds h.0 h.1 in
@@ -135,14 +135,14 @@ module _ (parts : Parts) (image : IsImage parts) (one : parts.contexts ≡ 1) (p
           omega arith
 
     -- who holds, where there is a hold; and where there is none
-    some_holder : 1 ≤ count_holds s → (c : ℕ) × ((c < node_count parts) × Holds (own s c))
+    some_holder : 1 ≤ count_holds s → (c : ℕ) × ((c < node_count parts) × SlotHolds (own s c))
     some_holder some =
         let at = heavy (λ (node : NodeState). weigh (λ (slot : Slot). digit (is_some slot.hold)) node.slots) no_node s.nodes some in
         let c = at.0 in
         let here : c < node_count parts = subst (λ k. c < k) kept.has.sound.standing.nodes at.1.0 in
         (c, (here, own_holds c here (node_at s c).slots refl at.1.1))
       where
-        own_holds : (c : ℕ) → c < node_count parts → (slots : List Slot) → (node_at s c).slots ≡ slots → 1 ≤ weigh (λ (slot : Slot). digit (is_some slot.hold)) slots → Holds (own s c)
+        own_holds : (c : ℕ) → c < node_count parts → (slots : List Slot) → (node_at s c).slots ≡ slots → 1 ≤ weigh (λ (slot : Slot). digit (is_some slot.hold)) slots → SlotHolds (own s c)
         own_holds c here [] e some = absurd (omega arith)
         own_holds c here (slot ∷ []) e some = let h = hold_some slot.hold (omega arith) in (h.0, ap (λ (slots : List Slot). (slot_at slots 0).hold) e ∙ h.1)
         own_holds c here (slot ∷ next ∷ rest) e some = absurd (let size = (kept.has.contexts c here).size in let long : length (node_at s c).slots ≡ length (slot ∷ next ∷ rest) = ap (λ (slots : List Slot). length slots) e in omega (arith, one))

@@ -24,14 +24,14 @@ use Rattle.law_machine.proofs.FlatStarts.{flat_view_is, contexts_length}
 use Rattle.law_machine.proofs.FlatViews.{HaveSlots, context_read}
 use Rattle.law_machine.proofs.MachineRuns.{IsKept}
 use Rattle.law_turns.specs.Limits.{IsKeptBack}
-use Rattle.law_turns.proofs.Draining.{Stops}
+use Rattle.law_turns.proofs.Draining.{StopsThere}
 use Rattle.law_turns.proofs.Means.{AreMeans, always_kept}
 use Rattle.law_turns.specs.Turns.{IsAtRest, greatest_clock, turns_from, turn_events, AllServe, ServesTurn, ServesTurns}
 
 -- what is shown of each turn: a context that is Ready in a machine at rest is served, or the limit keeps an event back
 abbrev pub EachIsServed : Parts → Parameters → Type 0
 EachIsServed parts parameters = (s : MachineState) → IsKept parts parameters s → IsAtRest parts s → (c : ℕ) → c < node_count parts → (slot_at (node_at s c).slots 0).status ≡ statuses.Ready
-    → (more : List Entry) × (ServesTurn parts parameters s c more ⊎ Stops parts parameters c s (turn_events parts) more)
+    → (more : List Entry) × (ServesTurn parts parameters s c more ⊎ StopsThere parts parameters c s (turn_events parts) more)
 
 -- a machine at rest has no context that waits
 abbrev pub NobodyWaits : Parts → Parameters → Type 0
@@ -160,7 +160,7 @@ module _ (parts : Parts) (image : IsImage parts) (one : parts.contexts ≡ 1) (p
       })
 
   -- where no turn is taken any more
-  stops_here : (c : ℕ) (rest done : List ℕ) (journal : List Entry) (m : List Entry) → IsLegal parts parameters journal → turns_of parts parameters journal ≡ done → Stops parts parameters c (state parts parameters journal) (turn_events parts) m → StopsBehind journal done (c ∷ rest)
+  stops_here : (c : ℕ) (rest done : List ℕ) (journal : List Entry) (m : List Entry) → IsLegal parts parameters journal → turns_of parts parameters journal ≡ done → StopsThere parts parameters c (state parts parameters journal) (turn_events parts) m → StopsBehind journal done (c ∷ rest)
   stops_here c rest done journal m legal taken x =
       let one_more = suc-mul (length rest) (turn_events parts) in
       record {
@@ -195,7 +195,7 @@ module _ (parts : Parts) (image : IsImage parts) (one : parts.contexts ≡ 1) (p
       (subst (IsAtRest parts) (sym (state_more parts parameters journal m.0)) v.rests) (subst (AreReady parts) (sym (append_assoc done (c ∷ []) rest)) ready)))
       (λ past. absurd (false≢true (sym (ap (λ (x : Context). is_ready x.status) (none_past journal legal c past)) ∙ is_so)))
     where
-      by_served : (m : List Entry) → ServesTurn parts parameters (state parts parameters journal) c m ⊎ Stops parts parameters c (state parts parameters journal) (turn_events parts) m
+      by_served : (m : List Entry) → ServesTurn parts parameters (state parts parameters journal) c m ⊎ StopsThere parts parameters c (state parts parameters journal) (turn_events parts) m
           → (ServesTurn parts parameters (state parts parameters journal) c m → RunsOrStops (journal ++ m) (done ++ c ∷ []) rest) → RunsOrStops journal done (c ∷ rest)
       by_served m (inl v) others = turn_then c rest done journal m legal taken v (others v)
       by_served m (inr x) others = inr (stops_here c rest done journal m legal taken x)

@@ -8,7 +8,7 @@ use Rattle.sparc_asm.proofs.Reading.{drop_get}
 use Rattle.sparc_place.specs.declared.cursors.Position.{Position}
 use Rattle.sparc_place.specs.Places.{Layout, place_fault, place_or, behind, places, place_of, places_of, fault_at}
 use Rattle.sparc_assemble.specs.Assembly.{Names, Filled, value_fault_in, filled_in, values_fault, all_filled}
-use Rattle.sparc_assemble.specs.Fillings.{HasRoom, FillsLine, FillsAll, refused_at}
+use Rattle.sparc_assemble.specs.Fillings.{HasFewWords, FillsLine, FillsAll, refused_at}
 use Rattle.sparc_assemble.specs.declared.refusals.Refusal.{Refusal}
 use Rattle.sparc_assemble.specs.declared.refusals.Refusal.TheVariants as refusal
 use Rattle.sparc_assemble.proofs.Growth.{line_grows}
@@ -31,7 +31,7 @@ no_fault number (Some fault) rest l e = absurd cc
 pub sound_here : (before : Layout) (lines : List Line) (i : ℕ) (line : Line) (l : Layout) → slice_get lines i ≡ Some line → places (i + 1) before (drop i lines) ≡ Ok l → (place_fault before line ≡ None) × (places (i + 1 + 1) (behind before line) (drop (i + 1) lines) ≡ Ok l)
 sound_here before lines i line l at laid = no_fault (i + 1) (place_fault before line) (places (i + 1 + 1) (behind before line) (drop (i + 1) lines)) l (sym (ap (places (i + 1) before) (drop_get lines i line at)) ∙ laid)
 
-pub room_here : (names : Names) (count number : ℕ) (before : Layout) (line : Line) (place : Position) (f : Filled) → place_fault before line ≡ None → place ≡ place_of before line.statement → length f.words ≡ before.code → length f.words ≤ 65536 → HasRoom (filled_in names number place line.statement f)
+pub room_here : (names : Names) (count number : ℕ) (before : Layout) (line : Line) (place : Position) (f : Filled) → place_fault before line ≡ None → place ≡ place_of before line.statement → length f.words ≡ before.code → length f.words ≤ 65536 → HasFewWords (filled_in names number place line.statement f)
 room_here names count number before line place f none at same few = rw at (record { few = (line_grows names count number before line.label line.statement f none same (omega arith)).room })
 
 pub count_here : (names : Names) (count number : ℕ) (before : Layout) (line : Line) (place : Position) (f after : Filled) → place_fault before line ≡ None → place ≡ place_of before line.statement → length f.words ≡ before.code → length f.words ≤ 65536 → value_fault_in names count place line.statement ≡ None → after ≡ filled_in names number place line.statement f → (length after.words ≡ (behind before line).code) × (length after.words ≤ 65536)

@@ -26,7 +26,7 @@ abbrev pub filled_of : Filling → Filled
 filled_of f = record { words = f.words; memory = slice_index f.memory; starts = address_in f.starts }
 
 -- no more code words than a program may have
-pub record HasRoom (f : Filled) : Type 0 where
+pub record HasFewWords (f : Filled) : Type 0 where
   pub few : length f.words ≤ 65536
 
 -- from one filling to the next by the instructions of a statement, or its fault; or memory was refused

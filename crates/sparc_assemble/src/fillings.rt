@@ -7,7 +7,7 @@ ghost use Rattle.sparc_place.specs.Places.{nothing_laid, places, places_of};
 ghost use Rattle.sparc_place.specs.Plans.{layout_of};
 ghost use Rattle.sparc_asm.specs.declared.statements.Statement.TheVariants.{Data, Start};
 ghost use Rattle.sparc_assemble.specs.Assembly.{nothing_filled, with_code, spelled_as, with_bytes, with_address, filled, filled_in, values_fault, all_filled};
-ghost use Rattle.sparc_assemble.specs.Fillings.{filled_of, HasRoom, refused_at, FillsCode, Fills, FillsLine, FillsAll};
+ghost use Rattle.sparc_assemble.specs.Fillings.{filled_of, HasFewWords, refused_at, FillsCode, Fills, FillsLine, FillsAll};
 
 use crate::addresses::Addresses;
 use crate::data::{data_values, start_address};
@@ -86,7 +86,7 @@ impl Filling {
         values: &Sequence<Expression>,
         number: u32,
     ) -> Result<(), Refusal>
-        requires { HasRoom (filled (value_in names.now) number place.now (Data width values.now) (filled_of self.old)) }
+        requires { HasFewWords (filled (value_in names.now) number place.now (Data width values.now) (filled_of self.old)) }
         ensures { Fills (value_in names.now) 0 number place.now (Data width values.now) (filled_of self.old) (filled_of self.new) result }
     {
         let values = data_values(alloc, names, place.here, width, values)?;
@@ -138,7 +138,7 @@ impl Filling {
     ) -> Result<(), Refusal>
         requires count { count ≤ 65536 }
         requires few { length self.old.words ≤ 65536 }
-        requires room { HasRoom (filled (value_in names.now) number place.now statement.now (filled_of self.old)) }
+        requires room { HasFewWords (filled (value_in names.now) number place.now statement.now (filled_of self.old)) }
         requires fits { StatementFits statement.now }
         ensures { Fills (value_in names.now) count number place.now statement.now (filled_of self.old) (filled_of self.new) result }
     {
@@ -173,7 +173,7 @@ impl Filling {
     ) -> Result<(), Refusal>
         requires count { count ≤ 65536 }
         requires few { length self.old.words ≤ 65536 }
-        requires room { HasRoom (filled_in (value_in names.now) number place.now statement.now (filled_of self.old)) }
+        requires room { HasFewWords (filled_in (value_in names.now) number place.now statement.now (filled_of self.old)) }
         requires fits { FitsIn statement.now }
         ensures { FillsLine (value_in names.now) count number place.now statement.now (filled_of self.old) (filled_of self.new) result }
     {

@@ -1,7 +1,7 @@
 -- The place is there already, or one place more.
 use Rattle.std.proofs.Common.{ℕ, List, ◌++◌, inl, inr, refl, arith, ap, ◌∙◌, subst}
 use Rattle.alw_outcomes.specs.declared.explored.Explored.{Explored}
-use Rattle.alw_outcomes.specs.Explored.{IsRow}
+use Rattle.alw_outcomes.specs.Explored.{IsPlaceRow}
 use Rattle.alw_outcomes.proofs.Rows.{row_put, digests_as_places}
 use Rattle.alw_outcomes.proofs.Storing.{IsAdded, already, places_added, stored_added}
 use Rattle.alw_outcomes.proofs.explored.add.Goals as goal
@@ -9,7 +9,7 @@ use Rattle.alw_outcomes.proofs.explored.add.Goals as goal
 pub returns-in-Some-clause-adds : goal.returns-in-Some-clause-adds
 returns-in-Some-clause-adds c = λ _.
     let row = c.deref-2.ensures.value ∙ c.in_ok-row.ensures in
-    let there = subst (λ (row : List ℕ). IsRow c.args.found.now c.in-Some._at c.args.to.memory row) row c.in-Some.ensures.some in
+    let there = subst (λ (row : List ℕ). IsPlaceRow c.args.found.now c.in-Some._at c.args.to.memory row) row c.in-Some.ensures.some in
     inl (already c.args.image.now c.args.found.now c.args.at c.args.context c.args.to c.requires.stored c.requires.at c.requires.to c.in-Some._at there, refl)
 
 pub returns-clause-stored : goal.returns-clause-stored

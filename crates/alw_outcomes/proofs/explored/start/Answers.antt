@@ -5,7 +5,7 @@ use Rattle.alw_outcomes.specs.declared.explored.Explored.{Explored}
 use Rattle.alw_outcomes.specs.Digests.{link_digest}
 use Rattle.alw_outcomes.proofs.Indexing.{index_none}
 use Rattle.alw_outcomes.proofs.Rows.{row_put_first}
-use Rattle.alw_outcomes.proofs.Storing.{IsBegun, AreTables, start_stored, start_real}
+use Rattle.alw_outcomes.proofs.Storing.{SearchIsBegun, AreTables, start_stored, start_real}
 use Rattle.alw_outcomes.proofs.explored.start.Goals as goal
 
 pub returns-clause-stored : goal.returns-clause-stored
@@ -32,7 +32,7 @@ returns-clause-stored c =
       broken = c.new-3.result;
       is_complete = false;
     } in
-    let begun : IsBegun c.args.image.now found c.in_ok-memory.memory c.in_ok-number.number = record {
+    let begun : SearchIsBegun c.args.image.now found c.in_ok-memory.memory c.in_ok-number.number = record {
       width = c.contexts_of.ensures;
       numbered = rw c.empty-pools.ensures.lists.2 at c.in_ok-number.ensures.number;
       memory_is = rw c.lines_of.ensures at c.in_ok-memory.ensures;
@@ -74,7 +74,7 @@ returns-clause-real c =
       broken = c.new-3.result;
       is_complete = false;
     } in
-    let begun : IsBegun c.args.image.now found c.in_ok-memory.memory c.in_ok-number.number = record {
+    let begun : SearchIsBegun c.args.image.now found c.in_ok-memory.memory c.in_ok-number.number = record {
       width = c.contexts_of.ensures;
       numbered = rw c.empty-pools.ensures.lists.2 at c.in_ok-number.ensures.number;
       memory_is = rw c.lines_of.ensures at c.in_ok-memory.ensures;

@@ -1,7 +1,7 @@
 use Rattle.std.proofs.Common.{[], ◌∷◌, ◌++◌, sym, subst, ap, ◌∙◌, arith}
 use Rattle.alw_model.specs.Threads.{Logged}
 use Rattle.alw_cells.specs.Logs.{Written}
-use Rattle.alw_cells.specs.Records.{IsRecord, AreBelow}
+use Rattle.alw_cells.specs.Records.{IsRecord, StampsAreBelow}
 use Rattle.alw_cells.proofs.Unpacking.{packed_more, read_more}
 use Rattle.alw_cells.proofs.logs.Log.push.Goals as goal
 
@@ -12,7 +12,7 @@ invariant_of-self c =
     let room = ap (λ (w : Written). w.room) c.self.view_is in
     packed_more c.self.inside.node.0 c.self.inside.events c.self.inside.bytes.items c.put_record.new.bytes.items c.self.inside.room _ _ one c.self.invariant is
     c.put_record.ensures.fits c.put_record.ensures.items
-    (subst (λ (w : Written). AreBelow c.args.entry.stamp w.entries) (sym c.self.view_is) c.requires.stamp) (omega (arith, room, c.requires.room))
+    (subst (λ (w : Written). StampsAreBelow c.args.entry.stamp w.entries) (sym c.self.view_is) c.requires.stamp) (omega (arith, room, c.requires.room))
     (omega (
       arith,
       room,

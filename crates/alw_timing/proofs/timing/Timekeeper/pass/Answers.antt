@@ -7,7 +7,7 @@ use Rattle.alw_times.specs.declared.happenings.TimedMoment.{TimedMoment}
 use Rattle.alw_waits.specs.declared.waits.Waited.{Waited}
 use Rattle.alw_waits.specs.Waits.{told_by}
 use Rattle.alw_mesh.specs.Histories.{History}
-use Rattle.alw_timing.proofs.Keeping.{IsTold, goes_on}
+use Rattle.alw_timing.proofs.Keeping.{IsTimedMoment, goes_on}
 use Rattle.alw_timing.proofs.timing.Timekeeper.pass.Goals as goal
 
 pub returns : goal.returns
@@ -30,7 +30,7 @@ returns c h was start so_far =
       woken = c.woken_since.result;
     } in
     let what : Waited = record { asked = look.asked; taken = moment.taken; arrival = look.arrival; span = span } in
-    let told : IsTold h after event times.clocks times.waits look moment.taken happened = record {
+    let told : IsTimedMoment h after event times.clocks times.waits look moment.taken happened = record {
       look_is = was.look_is;
       message_is = was.moment_is.taken;
       sends = was.moment_is.sends;

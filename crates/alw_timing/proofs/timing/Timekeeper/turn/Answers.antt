@@ -6,7 +6,7 @@ use Rattle.alw_times.specs.Happening.{kind_of, IsTurnOf}
 use Rattle.alw_times.specs.Times.{start_of, finish_of, passed}
 use Rattle.alw_times.specs.declared.happenings.TimedMoment.{TimedMoment}
 use Rattle.alw_mesh.specs.Histories.{History}
-use Rattle.alw_timing.proofs.Keeping.{IsTold, none_told, goes_on}
+use Rattle.alw_timing.proofs.Keeping.{IsTimedMoment, none_told, goes_on}
 use Rattle.alw_timing.proofs.timing.Timekeeper.turn.Goals as goal
 
 pub returns : goal.returns
@@ -27,7 +27,7 @@ returns c moment turn silent none h was start so_far =
       woken = false ∷ false ∷ false ∷ false ∷ [];
     } in
     let is_turn_of : IsTurnOf c.args.node look.slot look.last happened = record { event_is = refl; slot_is = refl; last_is = refl; turn_is = turn } in
-    let told : IsTold h after event times.clocks times.waits look moment.taken happened = record {
+    let told : IsTimedMoment h after event times.clocks times.waits look moment.taken happened = record {
       look_is = was.look_is;
       message_is = was.moment_is.taken;
       sends = was.moment_is.sends;
