@@ -88,7 +88,8 @@ pub picks : (cell : Cell) (number : ℕ) (event : Event) → 0 < length (next_ev
 picks cell number event some is =
     ap (λ b. cond b (cond (is_evicted cell number) (Some (asked_eviction cell number)) (slice_get (next_events cell) (number % length (next_events cell)))) None) (some_there (next_events cell) some) ∙ is
 
-pub picks_evicted : (cell : Cell) (row : Row) (number : ℕ) (event : Event) → IsCellRow cell row → 0 < row_count row → cond (is_evicted cell number) (Some (asked_eviction cell number)) None ≡ Some event
+pub picks_evicted : (cell : Cell) (row : Row) (number : ℕ) (event : Event) → IsCellRow cell row → 0 < row_count row
+    → cond (is_evicted cell number) (Some (asked_eviction cell number)) None ≡ Some event
     → picked_event cell number ≡ Some event
 picks_evicted cell row number event is some evicted = picks cell number event (subst (λ n. 0 < n) (row_counts cell row is) some) (go (is_evicted cell number) evicted)
   where

@@ -84,7 +84,8 @@ module _ {image : Parts} {parameters : Parameters} {journal : List Entry} {count
       let start : end_of (bound count width 0) journal ≡ 0 = ap (λ (begin : Option ℕ). end_of begin journal) (bound_is count width 0 some) ∙ (ap (λ (stamp : ℕ). place_of stamp journal) (omega arith) ∙ place_start journal) in
       record {
         are = subst (AreSpans image parameters journal count width) (sym all) are;
-        walked_is = subst (λ (i : ℕ). IsWalkedTo image parameters journal i walked) (sym start) (walked_begins image parameters journal walked (subst (λ (n : ℕ). WalkIsBegun n walked) nodes_are begun));
+        walked_is = subst (λ (i : ℕ). IsWalkedTo image parameters journal i walked) (sym start)
+            (walked_begins image parameters journal walked (subst (λ (n : ℕ). WalkIsBegun n walked) nodes_are begun));
       }
 
   module _ {before left : List (Result Span NoMemory)} {walked : Walked} (so_far : AreUnderWay image parameters journal count width before left walked) where

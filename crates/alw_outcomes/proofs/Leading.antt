@@ -150,7 +150,8 @@ chain_grows parts classes context thread before after to more are grow is = reco
   end = thread_grows parts before after to are grow is.inside ∙ is.end;
 }
 
-pub chain_more : (parts : Parts) (classes : List Class) (context : ℕ) (thread : Thread) (before after : Pools) (to next : Numbers) (more : ℕ) → IsPrivateChain parts classes context thread before to more
+pub chain_more : (parts : Parts) (classes : List Class) (context : ℕ) (thread : Thread) (before after : Pools) (to next : Numbers) (more : ℕ)
+    → IsPrivateChain parts classes context thread before to more
     → AreIn after next
     → thread_in after next ≡ thread_turn parts (thread_in before to) → ThreadPrivate parts classes context (thread_in before to) → IsPrivateChain parts classes context thread after next (more + 1)
 chain_more parts classes context thread before after to next more is inside turn private =

@@ -185,7 +185,8 @@ module _ (key : ℕ → List ℕ) (sorted : List Keyed) (past : ℕ) (kept : Lis
       go (suc k) e = let b = some_member sorted k (let w = slice_get_within sorted past one here in omega (arith, w, e)) in way_same k b.0 e b.1 (again.1 k b.0 one e b.1 here)
 
 -- the same, as code reads the list
-pub way_kept : (key : ℕ → List ℕ) (sorted : List Keyed) (past : ℕ) (kept after : List ℕ) (one : Keyed) → AreKeyed key sorted → IsRising sorted → SortIsUnderWay key sorted past kept → past < length sorted
+pub way_kept : (key : ℕ → List ℕ) (sorted : List Keyed) (past : ℕ) (kept after : List ℕ) (one : Keyed) → AreKeyed key sorted → IsRising sorted → SortIsUnderWay key sorted past kept
+    → past < length sorted
     → one ≡ slice_index_or sorted past one → IsNew sorted past true → after ≡ kept ++ one.number ∷ [] → SortIsUnderWay key sorted (past + 1) after
 way_kept key sorted past kept after one keyed rises is less read new pushed =
     subst (SortIsUnderWay key sorted (past + 1)) (sym pushed) (way_new key sorted past kept one keyed rises is (get_read sorted past one less read) new)

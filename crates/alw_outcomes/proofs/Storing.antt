@@ -222,7 +222,8 @@ module _ (parts : Parts) (before : Explored) (at context : ℕ) (to : Numbers) (
   rows_there None row same is = is
   rows_there (Some k) row same is = row_there k (subst (λ (l : List ℕ). IsPlaceRow before k to.memory l) same is)
 
-  pub already : (k : ℕ) → IsPlaceRow before k to.memory (slice_set (row_in before at) context to.seat) → IsAmong (places_in before) (with_thread (place_in before at) context (thread_in before.pools to))
+  pub already : (k : ℕ) → IsPlaceRow before k to.memory (slice_set (row_in before at) context to.seat)
+      → IsAmong (places_in before) (with_thread (place_in before at) context (thread_in before.pools to))
   already k is = record { at = k; there = row_there k is }
 
   module _ (after : Explored) (row : List ℕ) (added : IsAdded before after at context to row) where

@@ -32,7 +32,8 @@ turn_with parts place context =
     place_turn_is parts place context
     ∙ (λ i. record { flat = record { memory = effect.memory; contexts = slice_set place.flat.contexts context (thread_left (thread_at place context) effect).context }; printed = printed_is place.printed context effect.outcome i })
 
-thread_with : (parts : Parts) (place : Place) (context : ℕ) (thread : Thread) → PlaceHasSizes parts place → context < context_count parts → thread_at (with_thread place context thread) context ≡ thread
+thread_with : (parts : Parts) (place : Place) (context : ℕ) (thread : Thread) → PlaceHasSizes parts place → context < context_count parts
+    → thread_at (with_thread place context thread) context ≡ thread
 thread_with parts place context thread sizes exists =
     let none : Context = record { regs = start_of 0 0 0; status = Halted } in
     let empty : List ℕ = [] in

@@ -109,7 +109,8 @@ pub record IsTimedMoment (h after : History) (event : Event) (times : Times) (wa
   pub woken : AreWoken event look.ready (node_in after (node_of event)).slots happened.woken
 
 module _ (h after : History) (run : IsRun h) (event : Event) (here : node_of event < node_count h.image) (grew : after ≡ grown h event)
-    (costs : Costs) (times : Times) (waits : Option WaitsSoFar) (look : Look) (message : Option Msg) (happened : TimedMoment) (told : IsTimedMoment h after event times waits look message happened) where
+    (costs : Costs) (times : Times) (waits : Option WaitsSoFar) (look : Look) (message : Option Msg) (happened : TimedMoment)
+    (told : IsTimedMoment h after event times waits look message happened) where
   abbrev this : TimedMoment
   this = happened_of (moment_in h event)
 

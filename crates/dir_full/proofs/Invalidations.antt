@@ -32,7 +32,8 @@ goes_on before now next line body all rest after m way least sent dropped =
       room = omega (arith, way.room, length-append now.messages ((m, event_message now kinds.INV line body) ∷ []));
     })
 
-pub has_place : (before now : Sending) (line : LineNo) (all rest : Nodes) (m : ℕ) → InvsAreUnderWay before now line all rest → members rest ≡ m ∷ members (drop_node rest m) → length now.messages < now.room
+pub has_place : (before now : Sending) (line : LineNo) (all rest : Nodes) (m : ℕ) → InvsAreUnderWay before now line all rest → members rest ≡ m ∷ members (drop_node rest m)
+    → length now.messages < now.room
 has_place before now line all rest m way least = let count = ap length least in omega (arith, way.room)
 
 pub ends : (before now : Sending) (line : LineNo) (all rest : Nodes) → InvsAreUnderWay before now line all rest → members rest ≡ [] → now ≡ with_sends before line.0 (invs (members all))

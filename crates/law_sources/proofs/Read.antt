@@ -65,7 +65,8 @@ code_is_line address word small =
     commented (statement_text address word) (comment address word) (statement_read address word) (statement_said address word small) (comment_allowed address word)
     (omega (arith, length-append (hex_digits address) (32 ∷ hex_digits word), length-hex_digits address, length-hex_digits word))
 
-code_told : {rest : List ℕ} {lines : List Line} (address : ℕ) (code : List ℕ) → AllByRecursion IsWord code → LinesAreTold rest lines → LinesAreTold (code_from address code ++ rest) (code_read address code ++ lines)
+code_told : {rest : List ℕ} {lines : List Line} (address : ℕ) (code : List ℕ) → AllByRecursion IsWord code → LinesAreTold rest lines
+    → LinesAreTold (code_from address code ++ rest) (code_read address code ++ lines)
 code_told address [] all told = told
 code_told {rest} address (word ∷ code) all told =
     told_as (code_split address word (code_from (address + 4) code) rest) (line_told (code_is_line address word all.0) (code_told (address + 4) code all.1 told))
@@ -162,7 +163,8 @@ body_is_line : (entry : LineNo × Body) → HasFourWords entry → IsLine (body_
 unfolding body_bare
 body_is_line entry has = bare _ _ (body_said entry.1.a entry.1.b entry.1.c entry.1.d has.0 has.1.0 has.1.1.0 has.1.1.1)
 
-data_told : {rest : List ℕ} {lines : List Line} (p : Parts) (bodies : List (LineNo × Body)) → IsSmall p → AllByRecursion (IsDataLine p) bodies → AllByRecursion HasFourWords bodies → LinesAreTold rest lines
+data_told : {rest : List ℕ} {lines : List Line} (p : Parts) (bodies : List (LineNo × Body)) → IsSmall p → AllByRecursion (IsDataLine p) bodies → AllByRecursion HasFourWords bodies
+    → LinesAreTold rest lines
     → LinesAreTold (flat_map data_lines bodies ++ rest) (flat_map data_read bodies ++ lines)
 data_told p [] bounds all words told = told
 data_told {rest} p (entry ∷ bodies) bounds all words told =
