@@ -3,30 +3,13 @@ use Rattle.std.proofs.Common.{◌≡◌, ℕ, ◌+◌, ◌<◌, ◌≤◌, ◌==
 use Rattle.std.specs.List.{list_all}
 use Rattle.std.proofs.lemmas.Bool.{eq-eqb, eqb-true}
 use Rattle.std.proofs.lemmas.List.Folds.{list_all-append}
-use Rattle.alw_num.specs.Weights.{weigh, sum_below}
+use Rattle.law_machine.proofs.Vocabulary.{weigh, sum_below, value_at, State, RO, RW, RT, WT, Msg, Status, Ready, Waiting, Halted, Trapped, Parts, node_count, line_count, Parameters, ToMemory}
+use Rattle.law_machine.proofs.Vocabulary.{RREQ, WREQ, REPM, UPDATE, ACKC, ToCache, ForMemory, ForCache, content, request_in, is_repm, Home, act, row, sole, give_back, give_back_from, Transaction}
+use Rattle.law_machine.proofs.Vocabulary.{is_halted, waits_on, slot_at, home_node, NodeState, front, behind, MachineState, node_at, link_at, has_halted, LineNode, ups, downs, sent_by, packets_at}
+use Rattle.law_machine.proofs.Vocabulary.{line_node, line_of, IsPacket}
 use Rattle.alw_num.proofs.Weigh.{sum_le, sum_ones, cases_lt_then}
-use Rattle.alw_num.specs.Maps.{value_at}
-use Rattle.alw_num.specs.declared.states.State.{State}
-use Rattle.alw_num.specs.declared.states.State.TheVariants.{RO, RW, RT, WT}
-use Rattle.alw_msg.specs.declared.messages.Msg.{Msg}
-use Rattle.alw_msg.specs.declared.contexts.Status.{Status}
-use Rattle.alw_msg.specs.declared.contexts.Status.TheVariants.{Ready, Waiting, Halted, Trapped}
-use Rattle.alw_image.specs.declared.parts.Parts.{Parts}
-use Rattle.alw_image.specs.Images.{node_count, line_count}
-use Rattle.alw_image.specs.Parameters.{Parameters}
-use Rattle.alw_msg.specs.Contents.{ToMemory, RREQ, WREQ, REPM, UPDATE, ACKC, ToCache, ForMemory, ForCache, content, request_in, is_repm}
-use Rattle.alw_model.specs.FullMap.{Home, act, row, sole, give_back, give_back_from}
-use Rattle.alw_model.specs.Caches.{Transaction}
-use Rattle.alw_msg.specs.Statuses.{is_halted, waits_on}
-use Rattle.alw_model.specs.Contexts.{slot_at}
-use Rattle.alw_model.specs.Messages.{home_node}
-use Rattle.alw_model.specs.NodeStates.{NodeState}
-use Rattle.alw_msg.specs.Lists.{front, behind}
-use Rattle.alw_model.specs.Machine.{MachineState, node_at, link_at, has_halted}
-use Rattle.alw_model.specs.Lines.{LineNode, ups, downs, sent_by, packets_at, line_node, line_of}
 use Rattle.alw_model.proofs.Journals.{and_parts}
 use Rattle.law_line.proofs.Consequences.{rests, one_left}
-use Rattle.law_lines.specs.Standing.{IsPacket}
 use Rattle.law_lines.proofs.CacheSide.{old_part}
 use Rattle.law_lines.proofs.Taken.{split_front}
 use Rattle.law_lines.proofs.Steps.{Fit}

@@ -4,16 +4,8 @@ use Rattle.std.specs.List.{AllByRecursion, list_any}
 use Rattle.std.proofs.lemmas.Bool.{eqb-true, false≢true}
 use Rattle.std.proofs.lemmas.Bool.Decides.{nat_tests}
 use Rattle.std.proofs.lemmas.Nat.{mul-le}
-use Rattle.alw_num.specs.Maps.{ascends_from}
-use Rattle.alw_msg.specs.declared.events.Event.{Event}
-use Rattle.alw_image.specs.declared.parts.Parts.{Parts}
-use Rattle.alw_image.specs.Images.{node_count, IsImage}
-use Rattle.alw_image.specs.Parameters.{Parameters, AreParameters, set_counts}
-use Rattle.alw_model.specs.Caches.{Copy, Cache, set_of}
-use Rattle.alw_model.specs.NodeStates.{NodeState}
-use Rattle.alw_model.specs.Machine.{MachineState, no_node, node_at, is_enabled, step, has_halted}
-use Rattle.alw_model.specs.MachineInvariant.{left_to_do, most_to_do}
-use Rattle.law_lines.specs.Standing.{IsCache}
+use Rattle.law_machine.proofs.Vocabulary.{ascends_from, Event, Parts, node_count, IsImage, Parameters, AreParameters, set_counts, Copy, Cache, set_of, NodeState, MachineState, no_node, node_at}
+use Rattle.law_machine.proofs.Vocabulary.{is_enabled, step, has_halted, left_to_do, most_to_do, IsCache}
 use Rattle.law_machine.proofs.ContextRuns.{HasContexts}
 use Rattle.law_machine.proofs.Timing.{HasTimes}
 use Rattle.law_machine.proofs.Stores.{each_entry}

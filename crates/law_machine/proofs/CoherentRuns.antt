@@ -2,19 +2,8 @@
 use Rattle.std.proofs.Common.{◌≡◌, ℕ, zero, suc, ◌+◌, ◌<◌, ◌≤◌, List, ◌++◌, take, refl, sym, ap, ◌∙◌, arith}
 use Rattle.std.specs.List.{flat_map, range_with_len}
 use Rattle.std.proofs.lemmas.List.FromFn.{get_or-map-range_with_len}
-use Rattle.alw_num.specs.declared.addresses.Line.{Line}
-use Rattle.alw_msg.specs.declared.events.Entry.{Entry}
-use Rattle.alw_image.specs.declared.parts.Parts.{Parts}
-use Rattle.alw_image.specs.Parameters.{Parameters}
-use Rattle.alw_model.specs.declared.ends.Ended.{Ended}
-use Rattle.alw_image.specs.Images.{line_count, zero_line}
-use Rattle.alw_model.specs.Machine.{IsLegal, state}
-use Rattle.alw_model.specs.Flat.{Flat, line_at, flat_after}
-use Rattle.alw_model.specs.Lines.{current_value}
-use Rattle.alw_model.specs.Counts.{words_of, listed_words, memory_words}
-use Rattle.alw_model.specs.Runs.{turns_of, flat_view}
-use Rattle.alw_model.specs.Ends.{IsEnd}
-use Rattle.alw_model.specs.Headline.{IsCoherentRun}
+use Rattle.law_machine.proofs.Vocabulary.{Line, Entry, Parts, Parameters, Ended, line_count, zero_line, IsLegal, state, Flat, line_at, flat_after, current_value, words_of, listed_words}
+use Rattle.law_machine.proofs.Vocabulary.{memory_words, turns_of, flat_view, IsEnd, IsCoherentRun}
 use Rattle.alw_model.proofs.Journals.{legal_take}
 use Rattle.law_machine.proofs.FlatStarts.{flat_view_is, turns_are_ready, prints_are}
 use Rattle.law_machine.proofs.FullMaps.{always_full_maps}

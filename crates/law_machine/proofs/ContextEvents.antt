@@ -2,30 +2,12 @@
 use Rattle.std.proofs.Common.{◌≡◌, ℕ, nat_lt, Bool, true, false, Option, Some, None, List, [], ◌∷◌, length, IsTrue, refl, sym, subst, ap, ◌∙◌}
 use Rattle.std.specs.Prelude.{is_some}
 use Rattle.std.proofs.lemmas.Bool.{false≢true}
-use Rattle.alw_num.specs.declared.addresses.Line.{Line}
-use Rattle.alw_num.specs.declared.addresses.LineNo.{LineNo}
-use Rattle.alw_num.specs.declared.states.Mode.{Mode}
-use Rattle.alw_num.specs.declared.states.Mode.TheVariants.{Read, Write}
-use Rattle.alw_num.specs.Maps.{kept_if, value_at, passes, with_value, without_value}
-use Rattle.sparc_table.specs.declared.outcomes.Need.{Need}
+use Rattle.law_machine.proofs.Vocabulary.{Line, LineNo, Mode, Read, Write, kept_if, value_at, passes, with_value, without_value, Need, need_of, turn_of, Msg, Event, Instr, Handle, Deliver, Evict}
+use Rattle.law_machine.proofs.Vocabulary.{Parts, node_count, line_count, zero_line, Parameters, ToMemory, ToCache, RDATA, WDATA, INV, BUSY, Content, ForMemory, ForCache, content, is_trapped}
+use Rattle.law_machine.proofs.Vocabulary.{Copy, Cache, Transaction, grants, copy_at, granted_copy, react, set_of, is_ready, slot_at, running, is_fit, node_of, NodeState, home_at, may, may_reach}
+use Rattle.law_machine.proofs.Vocabulary.{may_reach_cache, may_deliver, written, slots_after, access, instr_by, instr, at_home, at_cache, deliver_by, deliver, handle_by, handle_front, event_at}
+use Rattle.law_machine.proofs.Vocabulary.{clocked}
 use Rattle.sparc_table.specs.declared.outcomes.Need.TheVariants as needs
-use Rattle.sparc_table.specs.Turns.{need_of, turn_of}
-use Rattle.alw_msg.specs.declared.messages.Msg.{Msg}
-use Rattle.alw_msg.specs.declared.events.Event.{Event}
-use Rattle.alw_msg.specs.declared.events.Event.TheVariants.{Instr, Handle, Deliver, Evict}
-use Rattle.alw_image.specs.declared.parts.Parts.{Parts}
-use Rattle.alw_image.specs.Images.{node_count, line_count, zero_line}
-use Rattle.alw_image.specs.Parameters.{Parameters}
-use Rattle.alw_msg.specs.Contents.{ToMemory, ToCache, RDATA, WDATA, INV, BUSY, Content, ForMemory, ForCache, content}
-use Rattle.alw_model.specs.LimitLess.{is_trapped}
-use Rattle.alw_model.specs.Caches.{Copy, Cache, Transaction, grants, copy_at, granted_copy, react, set_of}
-use Rattle.alw_msg.specs.Statuses.{is_ready}
-use Rattle.alw_model.specs.Contexts.{slot_at, running}
-use Rattle.alw_model.specs.Messages.{is_fit}
-use Rattle.alw_msg.specs.Events.{node_of}
-use Rattle.alw_model.specs.NodeStates.{NodeState, home_at, may, may_reach, may_reach_cache, may_deliver}
-use Rattle.alw_model.specs.ProcessorSteps.{written, slots_after}
-use Rattle.alw_model.specs.NodeSteps.{access, instr_by, instr, at_home, at_cache, deliver_by, deliver, handle_by, handle_front, event_at, clocked}
 use Rattle.alw_model.proofs.Journals.{and_parts}
 use Rattle.law_machine.proofs.FlatSlots.{Chosen, runs_ready}
 use Rattle.law_machine.proofs.ContextFacts.{ContextsStand, NodeContexts}

@@ -3,20 +3,9 @@ use Rattle.std.proofs.Common.{◌≡◌, ◌≢◌, ℕ, zero, suc, ◌<◌, ◌
 use Rattle.std.specs.Prelude.{is_some}
 use Rattle.std.proofs.Math.Bool.{or-true}
 use Rattle.std.proofs.lemmas.Bool.{eq-eqb, ne_eqb, eqb-true}
-use Rattle.alw_num.specs.declared.states.Mode.{Mode}
-use Rattle.sparc_table.specs.Turns.{need_of}
+use Rattle.law_machine.proofs.Vocabulary.{Mode, need_of, Status, Ready, Waiting, Halted, Trapped, Parts, line_count, Parameters, value_at, passes, Cache, Transaction, Transactions, granted_copy}
+use Rattle.law_machine.proofs.Vocabulary.{is_ready, waits_on, Slot, slot_at, woken, wake, give_hold, is_held, NodeState, trapped_rightly}
 use Rattle.sparc_table.specs.declared.outcomes.Need.TheVariants as needs
-use Rattle.alw_msg.specs.declared.contexts.Status.{Status}
-use Rattle.alw_msg.specs.declared.contexts.Status.TheVariants.{Ready, Waiting, Halted, Trapped}
-use Rattle.alw_image.specs.declared.parts.Parts.{Parts}
-use Rattle.alw_image.specs.Images.{line_count}
-use Rattle.alw_image.specs.Parameters.{Parameters}
-use Rattle.alw_num.specs.Maps.{value_at, passes}
-use Rattle.alw_model.specs.Caches.{Cache, Transaction, Transactions, granted_copy}
-use Rattle.alw_msg.specs.Statuses.{is_ready, waits_on}
-use Rattle.alw_model.specs.Contexts.{Slot, slot_at, woken, wake, give_hold, is_held}
-use Rattle.alw_model.specs.NodeStates.{NodeState}
-use Rattle.alw_model.specs.MachineInvariant.{trapped_rightly}
 
 -- a slot that holds a line is Ready, its next instruction needs the line, and there is a copy that grants it
 pub record HoldStands (parts : Parts) (parameters : Parameters) (cache : Cache) (slot : Slot) (line : ℕ) : Type 0 where

@@ -7,33 +7,13 @@ use Rattle.std.proofs.lemmas.List.{length-map}
 use Rattle.std.proofs.lemmas.List.FromFn.{length-range_with_len}
 use Rattle.alw_num.proofs.Weigh.{at_nodes}
 use Rattle.alw_num.proofs.MapLaws.{value-empty}
-use Rattle.alw_num.specs.declared.addresses.Line.{Line}
-use Rattle.alw_num.specs.declared.states.Mode.{Mode}
-use Rattle.alw_num.specs.declared.states.Mode.TheVariants.{Read, Write}
-use Rattle.alw_num.specs.Maps.{empty_map, value_at, passes}
-use Rattle.alw_msg.specs.declared.messages.Msg.{Msg}
-use Rattle.alw_msg.specs.declared.events.Event.{Event}
-use Rattle.alw_msg.specs.declared.events.Event.TheVariants.{Instr, Handle, Deliver, Evict}
-use Rattle.alw_msg.specs.declared.events.Entry.{Entry}
-use Rattle.alw_msg.specs.declared.contexts.Status.TheVariants.{Ready, Halted}
-use Rattle.alw_image.specs.declared.parts.Parts.{Parts}
-use Rattle.alw_image.specs.Images.{node_count, line_count, body_of}
+use Rattle.law_machine.proofs.Vocabulary.{Line, Mode, Read, Write, empty_map, value_at, passes, Msg, Event, Instr, Handle, Deliver, Evict, Entry, Ready, Halted, Parts, node_count, line_count}
+use Rattle.law_machine.proofs.Vocabulary.{body_of, Parameters, ToCache, RDATA, WDATA, INV, BUSY, Content, ForMemory, ForCache, content, reply_in, is_rdata, Copy, Transaction, copy_at, waits_on}
+use Rattle.law_machine.proofs.Vocabulary.{Slot, slot_at, no_slot, slot_start, home_node, is_fit, node_of, node_start, stamp_of, may_deliver, front, behind, count_of, MachineState, machine_start}
+use Rattle.law_machine.proofs.Vocabulary.{node_at, link_at, taken_by, is_enabled, step, stepped_by, after, state, IsNext, AreLegal, IsLegal, LineNode, downs, line_node, line_of, trapped_rightly}
+use Rattle.law_machine.proofs.Vocabulary.{is_read, is_write, copies_of, transactions_of, census, CensusFits, role}
 use Rattle.alw_image.specs.Images as images
-use Rattle.alw_image.specs.Parameters.{Parameters}
-use Rattle.alw_msg.specs.Contents.{ToCache, RDATA, WDATA, INV, BUSY, Content, ForMemory, ForCache, content, reply_in, is_rdata}
-use Rattle.alw_model.specs.Caches.{Copy, Transaction, copy_at}
-use Rattle.alw_msg.specs.Statuses.{waits_on}
-use Rattle.alw_model.specs.Contexts.{Slot, slot_at, no_slot, slot_start}
-use Rattle.alw_model.specs.Messages.{home_node, is_fit}
-use Rattle.alw_msg.specs.Events.{node_of}
-use Rattle.alw_model.specs.NodeStates.{node_start, stamp_of, may_deliver}
-use Rattle.alw_msg.specs.Lists.{front, behind, count_of}
-use Rattle.alw_model.specs.Machine.{MachineState, machine_start, node_at, link_at, taken_by, is_enabled, step, stepped_by, after, state, IsNext, AreLegal, IsLegal}
-use Rattle.alw_model.specs.Lines.{LineNode, downs, line_node, line_of}
-use Rattle.alw_model.specs.MachineInvariant.{trapped_rightly}
 use Rattle.alw_model.proofs.Journals.{and_parts}
-use Rattle.law_line.specs.Census.{is_read, is_write, copies_of, transactions_of, census}
-use Rattle.law_line.specs.Sound.{CensusFits, role}
 use Rattle.law_lines.proofs.Links.{read_set}
 use Rattle.law_lines.proofs.CacheSide.{old_part}
 use Rattle.law_lines.proofs.Taken.{split_front}

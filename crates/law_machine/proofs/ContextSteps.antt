@@ -5,22 +5,10 @@ use Rattle.std.proofs.lemmas.Bool.{eq-eqb, ne_eqb, eqb-true, eqb-false, false≢
 use Rattle.std.proofs.lemmas.List.{length-set}
 use Rattle.alw_num.proofs.Weigh.{at_nodes}
 use Rattle.alw_num.proofs.MapLaws.{value-with, value-without}
-use Rattle.alw_num.specs.Maps.{value_at, with_value, without_value}
-use Rattle.alw_num.specs.declared.states.Mode.{Mode}
-use Rattle.sparc_table.specs.Turns.{need_of}
+use Rattle.law_machine.proofs.Vocabulary.{value_at, with_value, without_value, Mode, need_of, Outcome, Regs, Ready, Waiting, Parts, line_count, Parameters, Cache, Transaction, Transactions}
+use Rattle.law_machine.proofs.Vocabulary.{granted_copy, is_ready, waits_on, Slot, slot_at, no_slot, woken, wake, ran, give_hold, status_after, opened, trapped_rightly}
 use Rattle.sparc_table.specs.declared.outcomes.Need.TheVariants as needs
-use Rattle.sparc_table.specs.declared.outcomes.Outcome.{Outcome}
 use Rattle.sparc_table.specs.declared.outcomes.Outcome.TheVariants as outcomes
-use Rattle.sparc_table.specs.declared.registers.Regs.{Regs}
-use Rattle.alw_msg.specs.declared.contexts.Status.TheVariants.{Ready, Waiting}
-use Rattle.alw_image.specs.declared.parts.Parts.{Parts}
-use Rattle.alw_image.specs.Images.{line_count}
-use Rattle.alw_image.specs.Parameters.{Parameters}
-use Rattle.alw_model.specs.Caches.{Cache, Transaction, Transactions, granted_copy}
-use Rattle.alw_msg.specs.Statuses.{is_ready, waits_on}
-use Rattle.alw_model.specs.Contexts.{Slot, slot_at, no_slot, woken, wake, ran, give_hold}
-use Rattle.alw_model.specs.ProcessorSteps.{status_after, opened}
-use Rattle.alw_model.specs.MachineInvariant.{trapped_rightly}
 use Rattle.law_lines.proofs.Links.{read_set}
 use Rattle.law_machine.proofs.FlatSlots.{Chosen}
 use Rattle.law_machine.proofs.ContextFacts.{HoldStands, SlotStands, TransactionStands, ContextsStand, ready_not_waiting, waits_once, wake_at, length-wake, hold_regs, hold_status}

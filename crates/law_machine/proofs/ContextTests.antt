@@ -3,24 +3,12 @@ use Rattle.std.proofs.Common.{◌≡◌, ℕ, suc, ◌<◌, ◌==◌, nat_lt, �
 use Rattle.std.specs.Prelude.{is_some}
 use Rattle.std.specs.List.{list_all}
 use Rattle.std.proofs.lemmas.Bool.{eq-eqb, lt-ltb}
-use Rattle.alw_num.specs.declared.states.Mode.{Mode}
+use Rattle.law_machine.proofs.Vocabulary.{Mode, passes, passes_if_some, value_at, need_of, Need, Status, Ready, Waiting, Halted, Trapped, Parts, node_count, line_count, Parameters, Transaction}
+use Rattle.law_machine.proofs.Vocabulary.{granted_copy, grants, is_ready, waits_on, waited, Slot, slot_at, NodeState, MachineState, node_at, mode_in, next_mode, waits_rightly, opens_rightly}
+use Rattle.law_machine.proofs.Vocabulary.{holds_rightly, trapped_rightly, slot_fits, transaction_stands, sizes_fit}
 use Rattle.alw_num.specs.declared.states.Mode.TheVariants as modes
-use Rattle.alw_num.specs.Maps.{passes, passes_if_some, value_at}
-use Rattle.sparc_table.specs.Turns.{need_of}
-use Rattle.sparc_table.specs.declared.outcomes.Need.{Need}
 use Rattle.sparc_table.specs.declared.outcomes.Need.TheVariants as needs
 use Rattle.sparc_table.proofs.Effects.{turn_exists}
-use Rattle.alw_msg.specs.declared.contexts.Status.{Status}
-use Rattle.alw_msg.specs.declared.contexts.Status.TheVariants.{Ready, Waiting, Halted, Trapped}
-use Rattle.alw_image.specs.declared.parts.Parts.{Parts}
-use Rattle.alw_image.specs.Images.{node_count, line_count}
-use Rattle.alw_image.specs.Parameters.{Parameters}
-use Rattle.alw_model.specs.Caches.{Transaction, granted_copy, grants}
-use Rattle.alw_msg.specs.Statuses.{is_ready, waits_on, waited}
-use Rattle.alw_model.specs.Contexts.{Slot, slot_at}
-use Rattle.alw_model.specs.NodeStates.{NodeState}
-use Rattle.alw_model.specs.Machine.{MachineState, node_at}
-use Rattle.alw_model.specs.MachineInvariant.{mode_in, next_mode, waits_rightly, opens_rightly, holds_rightly, trapped_rightly, slot_fits, transaction_stands, sizes_fit}
 use Rattle.alw_model.proofs.Journals.{and_is}
 use Rattle.law_machine.proofs.Stores.{all_of, each_entry}
 use Rattle.law_machine.proofs.ContextFacts.{SlotStands, TransactionStands, NodeContexts}

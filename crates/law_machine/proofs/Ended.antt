@@ -3,30 +3,12 @@ use Rattle.std.proofs.Common.{◌≡◌, ℕ, zero, suc, Bool, true, false, cond
 use Rattle.std.specs.List.{list_all}
 use Rattle.std.proofs.lemmas.Bool.{ne_eqb}
 use Rattle.alw_num.proofs.Weigh.{at_nodes}
-use Rattle.sparc_table.specs.declared.outcomes.Need.{Need}
+use Rattle.law_machine.proofs.Vocabulary.{Need, need_of, Mode, Msg, Event, Instr, Handle, Deliver, Evict, Status, Ready, Waiting, Halted, Trapped, Parts, line_count, Parameters, ToMemory}
+use Rattle.law_machine.proofs.Vocabulary.{brings_line, Content, ForMemory, ForCache, content, is_trapped, Copy, Transaction, granted_copy, ended_by, is_ready, is_halted, waits_on, Slot, slot_at}
+use Rattle.law_machine.proofs.Vocabulary.{no_slot, woken, wake, running, all_halted, node_of, NodeState, stamp_of, home_at, slots_after, access, instr_by, instr, at_home, deliver_by, deliver}
+use Rattle.law_machine.proofs.Vocabulary.{handle_by, handle_front, event_at, clocked, MachineState, no_node, node_at, taken_by, is_enabled, step, stepped_by, has_halted, IsStanding}
 use Rattle.sparc_table.specs.declared.outcomes.Need.TheVariants as needs
-use Rattle.sparc_table.specs.Turns.{need_of}
-use Rattle.alw_num.specs.declared.states.Mode.{Mode}
-use Rattle.alw_msg.specs.declared.messages.Msg.{Msg}
-use Rattle.alw_msg.specs.declared.events.Event.{Event}
-use Rattle.alw_msg.specs.declared.events.Event.TheVariants.{Instr, Handle, Deliver, Evict}
-use Rattle.alw_msg.specs.declared.contexts.Status.{Status}
-use Rattle.alw_msg.specs.declared.contexts.Status.TheVariants.{Ready, Waiting, Halted, Trapped}
-use Rattle.alw_image.specs.declared.parts.Parts.{Parts}
-use Rattle.alw_image.specs.Images.{line_count}
-use Rattle.alw_image.specs.Parameters.{Parameters}
-use Rattle.alw_msg.specs.Contents.{ToMemory, brings_line, Content, ForMemory, ForCache, content}
-use Rattle.alw_model.specs.LimitLess.{is_trapped}
-use Rattle.alw_model.specs.Caches.{Copy, Transaction, granted_copy, ended_by}
-use Rattle.alw_msg.specs.Statuses.{is_ready, is_halted, waits_on}
-use Rattle.alw_model.specs.Contexts.{Slot, slot_at, no_slot, woken, wake, running, all_halted}
-use Rattle.alw_msg.specs.Events.{node_of}
-use Rattle.alw_model.specs.NodeStates.{NodeState, stamp_of, home_at}
-use Rattle.alw_model.specs.ProcessorSteps.{slots_after}
-use Rattle.alw_model.specs.NodeSteps.{access, instr_by, instr, at_home, deliver_by, deliver, handle_by, handle_front, event_at, clocked}
-use Rattle.alw_model.specs.Machine.{MachineState, no_node, node_at, taken_by, is_enabled, step, stepped_by, has_halted}
 use Rattle.alw_model.proofs.Journals.{and_parts, and_is}
-use Rattle.law_lines.specs.Standing.{IsStanding}
 use Rattle.law_lines.proofs.Links.{read_set}
 use Rattle.law_lines.proofs.Steps.{enabled_is}
 use Rattle.law_machine.specs.Endings.{has_ended}

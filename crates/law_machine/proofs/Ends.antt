@@ -3,15 +3,8 @@ use Rattle.std.proofs.Common.{◌≡◌, ℕ, suc, ◌<◌, ◌&&◌, Bool, true
 use Rattle.std.specs.List.{list_any, list_all}
 use Rattle.std.proofs.lemmas.Bool.{false≢true}
 use Rattle.std.proofs.lemmas.List.Folds.{list_any_at}
-use Rattle.alw_msg.specs.declared.contexts.Status.{Status}
-use Rattle.alw_msg.specs.declared.contexts.Status.TheVariants.{Ready, Waiting, Halted, Trapped}
-use Rattle.alw_image.specs.declared.parts.Parts.{Parts}
-use Rattle.alw_image.specs.Images.{IsImage}
-use Rattle.alw_image.specs.Parameters.{Parameters, AreParameters}
-use Rattle.alw_msg.specs.Statuses.{is_halted, has_trapped}
-use Rattle.alw_model.specs.Contexts.{Slot, slot_at, no_slot, all_halted}
-use Rattle.alw_model.specs.NodeStates.{NodeState}
-use Rattle.alw_model.specs.Machine.{MachineState, no_node, node_at, has_halted, is_settled, any_trapped, goes_on, end_of}
+use Rattle.law_machine.proofs.Vocabulary.{Status, Ready, Waiting, Halted, Trapped, Parts, IsImage, Parameters, AreParameters, is_halted, has_trapped, Slot, slot_at, no_slot, all_halted}
+use Rattle.law_machine.proofs.Vocabulary.{NodeState, MachineState, no_node, node_at, has_halted, is_settled, any_trapped, goes_on, end_of}
 use Rattle.alw_model.specs.Machine as machine
 use Rattle.law_machine.specs.Endings.{has_ended, may_go_on}
 use Rattle.law_machine.proofs.MachineRuns.{IsKept}

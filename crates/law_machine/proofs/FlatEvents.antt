@@ -1,33 +1,13 @@
 -- Each event of the machine is a turn of the flat machine, or nothing to it.
 use Rattle.std.proofs.Common.{◌≡◌, ℕ, ◌+◌, ◌<◌, ◌==◌, Bool, true, false, cond, Option, Some, None, List, [], ◌∷◌, ◌++◌, length, refl, sym, ap, ◌∙◌, arith}
-use Rattle.alw_num.specs.declared.addresses.Line.{Line}
-use Rattle.alw_num.specs.declared.addresses.LineNo.{LineNo}
-use Rattle.alw_num.specs.declared.states.Mode.{Mode}
-use Rattle.alw_num.specs.declared.states.Mode.TheVariants.{Read, Write}
-use Rattle.sparc_table.specs.declared.outcomes.Need.{Need}
+use Rattle.law_machine.proofs.Vocabulary.{Line, LineNo, Mode, Read, Write, Need, need_of, turn_of, Msg, Event, Instr, Handle, Deliver, Evict, Parts, node_count, line_count, Parameters, value_at}
+use Rattle.law_machine.proofs.Vocabulary.{ToMemory, ToCache, brings_line, Content, ForMemory, ForCache, content, is_trapped, Copy, Transaction, granted_copy, ended_by, replaced, is_ready}
+use Rattle.law_machine.proofs.Vocabulary.{slot_at, running, NodeState, home_at, Stepped, clocked, access, instr_by, instr, at_home, deliver_by, deliver, handle_by, handle_front, event_at}
+use Rattle.law_machine.proofs.Vocabulary.{MachineState, node_at, LineNode, line_of, turn_in, LineEvent, Opens, Stores, Leaves, Comes, Acts, value_after, last_stored, about, in_leaving, in_miss}
+use Rattle.law_machine.proofs.Vocabulary.{in_access, in_need, in_instr, in_cache, in_home, in_delivery, in_packet, in_queue, in_taken, events_at}
 use Rattle.sparc_table.specs.declared.outcomes.Need.TheVariants as needs
-use Rattle.sparc_table.specs.Turns.{need_of, turn_of}
 use Rattle.sparc_table.proofs.Effects.{turn_exists}
-use Rattle.alw_msg.specs.declared.messages.Msg.{Msg}
-use Rattle.alw_msg.specs.declared.events.Event.{Event}
-use Rattle.alw_msg.specs.declared.events.Event.TheVariants.{Instr, Handle, Deliver, Evict}
-use Rattle.alw_image.specs.declared.parts.Parts.{Parts}
-use Rattle.alw_image.specs.Images.{node_count, line_count}
-use Rattle.alw_image.specs.Parameters.{Parameters}
-use Rattle.alw_num.specs.Maps.{value_at}
-use Rattle.alw_msg.specs.Contents.{ToMemory, ToCache, brings_line, Content, ForMemory, ForCache, content}
-use Rattle.alw_model.specs.LimitLess.{is_trapped}
-use Rattle.alw_model.specs.Caches.{Copy, Transaction, granted_copy, ended_by, replaced}
-use Rattle.alw_msg.specs.Statuses.{is_ready}
-use Rattle.alw_model.specs.Contexts.{slot_at, running}
-use Rattle.alw_model.specs.NodeStates.{NodeState, home_at}
-use Rattle.alw_model.specs.NodeSteps.{Stepped, clocked, access, instr_by, instr, at_home, deliver_by, deliver, handle_by, handle_front, event_at}
-use Rattle.alw_model.specs.Machine.{MachineState, node_at}
-use Rattle.alw_model.specs.Lines.{LineNode, line_of}
-use Rattle.alw_model.specs.Runs.{turn_in}
-use Rattle.law_line.specs.Protocol.{LineEvent, Opens, Stores, Leaves, Comes, Acts, value_after, last_stored}
 use Rattle.law_line.proofs.Consequences.{copy_value}
-use Rattle.law_lines.specs.LineEvents.{about, in_leaving, in_miss, in_access, in_need, in_instr, in_cache, in_home, in_delivery, in_packet, in_queue, in_taken, events_at}
 use Rattle.law_lines.proofs.Views.{seen_copy}
 use Rattle.law_lines.proofs.CacheSide.{old_part}
 use Rattle.law_lines.proofs.Instructions.{granted_is}

@@ -4,19 +4,9 @@ use Rattle.std.specs.List.{flat_map}
 use Rattle.std.proofs.lemmas.List.{map-append, length-set}
 use Rattle.std.proofs.lemmas.List.Concat.{flat_map-append}
 use Rattle.alw_num.proofs.Weigh.{at_nodes}
-use Rattle.alw_num.specs.declared.addresses.Line.{Line}
-use Rattle.sparc_table.specs.declared.outcomes.Outcome.{Outcome}
-use Rattle.alw_msg.specs.declared.events.Entry.{Entry}
-use Rattle.alw_image.specs.declared.parts.Parts.{Parts}
-use Rattle.alw_image.specs.Parameters.{Parameters}
-use Rattle.alw_msg.specs.Events.{node_of}
-use Rattle.alw_model.specs.NodeStates.{NodeState, stamp_of}
-use Rattle.alw_model.specs.Machine.{MachineState, node_at, no_node, taken_by, step, stepped_by, after, AreLegal}
-use Rattle.alw_model.specs.Flat.{Flat, flat_turn, turns_after, turns_ready, turns_print, print_of, context_at}
+use Rattle.law_machine.proofs.Vocabulary.{Line, Outcome, Entry, Parts, Parameters, node_of, NodeState, stamp_of, MachineState, node_at, no_node, taken_by, step, stepped_by, after, AreLegal, Flat}
+use Rattle.law_machine.proofs.Vocabulary.{flat_turn, turns_after, turns_ready, turns_print, print_of, context_at, Moment, number_of, moments_from, turn_in, last_stored, line_events}
 use Rattle.alw_msg.specs.Statuses as statuses
-use Rattle.alw_model.specs.Runs.{Moment, number_of, moments_from, turn_in}
-use Rattle.law_line.specs.Protocol.{last_stored}
-use Rattle.law_lines.specs.LineEvents.{line_events}
 use Rattle.law_lines.proofs.Links.{read_set}
 use Rattle.law_lines.proofs.Steps.{enabled_is}
 use Rattle.law_machine.specs.Values.{MachineIsSoundWith, stored_from}

@@ -2,17 +2,9 @@
 use Rattle.std.proofs.Common.{◌≡◌, ℕ, zero, suc, ◌+◌, ◌%◌, ◌<◌, Bool, true, false, cond, Option, Some, None, List, [], ◌∷◌, length, set, map, find, refl, sym, ap, ◌∙◌, arith}
 use Rattle.std.specs.List.{range_with_len}
 use Rattle.std.proofs.lemmas.List.{map-set, set-get_or}
-use Rattle.sparc_table.specs.declared.registers.Regs.{Regs}
-use Rattle.sparc_table.specs.declared.outcomes.Outcome.{Outcome}
+use Rattle.law_machine.proofs.Vocabulary.{Regs, Outcome, LineNo, Status, Ready, Waiting, Halted, Trapped, Transaction, is_ready, waits_on, Slot, slot_at, no_slot, woken, wake, running}
+use Rattle.law_machine.proofs.Vocabulary.{status_after, slots_after, flat_status, flat_context}
 use Rattle.sparc_table.specs.declared.outcomes.Outcome.TheVariants as outcomes
-use Rattle.alw_num.specs.declared.addresses.LineNo.{LineNo}
-use Rattle.alw_msg.specs.declared.contexts.Status.{Status}
-use Rattle.alw_msg.specs.declared.contexts.Status.TheVariants.{Ready, Waiting, Halted, Trapped}
-use Rattle.alw_model.specs.Caches.{Transaction}
-use Rattle.alw_msg.specs.Statuses.{is_ready, waits_on}
-use Rattle.alw_model.specs.Contexts.{Slot, slot_at, no_slot, woken, wake, running}
-use Rattle.alw_model.specs.ProcessorSteps.{status_after, slots_after}
-use Rattle.alw_model.specs.Runs.{flat_status, flat_context}
 
 -- a slot that becomes one with the same context leaves the contexts as they are
 pub same_context : (slots : List Slot) (slot : ℕ) (next : Slot) → flat_context next ≡ flat_context (slot_at slots slot) → map flat_context (set slots slot next) ≡ map flat_context slots

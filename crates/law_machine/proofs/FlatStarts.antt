@@ -5,17 +5,9 @@ use Rattle.std.proofs.lemmas.List.{length-map, length-append, ext_get_or}
 use Rattle.std.proofs.lemmas.List.FromFn.{length-range_with_len, get_or-map-range_with_len}
 use Rattle.std.proofs.Math.Nat.{suc-mul, mod-add-div'}
 use Rattle.std.proofs.lemmas.Nat.{row_below_turned}
-use Rattle.alw_msg.specs.declared.events.Entry.{Entry}
-use Rattle.alw_msg.specs.declared.contexts.Status.TheVariants.{Ready, Halted}
-use Rattle.alw_image.specs.declared.parts.Parts.{Parts}
-use Rattle.alw_image.specs.Images.{node_count, line_count, context_count, body_of, started_at}
-use Rattle.alw_image.specs.Parameters.{Parameters}
-use Rattle.alw_model.specs.Contexts.{slot_at, no_slot, slot_start, regs_start, status_start}
-use Rattle.alw_model.specs.NodeStates.{NodeState, node_start}
-use Rattle.alw_model.specs.Machine.{machine_start, IsLegal, state}
-use Rattle.alw_model.specs.Lines.{current_value}
-use Rattle.alw_model.specs.Flat.{Context, Flat, context_start, flat_start, turns_after, turns_ready, turns_print, flat_after, flat_prints, are_ready, AreReady}
-use Rattle.alw_model.specs.Runs.{moments, turns_in, turns_of, prints_of, flat_status, flat_context, flat_view}
+use Rattle.law_machine.proofs.Vocabulary.{Entry, Ready, Halted, Parts, node_count, line_count, context_count, body_of, started_at, Parameters, slot_at, no_slot, slot_start, regs_start}
+use Rattle.law_machine.proofs.Vocabulary.{status_start, NodeState, node_start, machine_start, IsLegal, state, current_value, Context, Flat, context_start, flat_start, turns_after, turns_ready}
+use Rattle.law_machine.proofs.Vocabulary.{turns_print, flat_after, flat_prints, are_ready, AreReady, moments, turns_in, turns_of, prints_of, flat_status, flat_context, flat_view}
 use Rattle.law_machine.specs.Values.{stored_after}
 use Rattle.law_machine.specs.FlatRuns.{contexts_of, flat_of, RunsFlat}
 use Rattle.law_machine.proofs.Runs.{start_sound_with, node_at_start, always_sound_with}

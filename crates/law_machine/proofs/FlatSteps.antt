@@ -3,25 +3,10 @@ use Rattle.std.proofs.Common.{◌≡◌, ◌≢◌, ℕ, ◌+◌, ◌*◌, ◌<�
 use Rattle.std.specs.List.{range_with_len}
 use Rattle.std.proofs.lemmas.List.{length-set, length-map, map-set}
 use Rattle.std.proofs.lemmas.List.FromFn.{get_or-map-range_with_len}
-use Rattle.alw_num.specs.declared.addresses.Line.{Line}
-use Rattle.alw_num.specs.declared.addresses.LineNo.{LineNo}
-use Rattle.alw_num.specs.declared.states.Mode.{Mode}
-use Rattle.sparc_table.specs.declared.registers.Regs.{Regs}
-use Rattle.sparc_table.specs.declared.outcomes.Need.{Need}
+use Rattle.law_machine.proofs.Vocabulary.{Line, LineNo, Mode, Regs, Need, Outcome, need_of, turn_of, Parts, line_count, zero_line, Waiting, is_ready, slot_at, ran, NodeState, status_after}
+use Rattle.law_machine.proofs.Vocabulary.{MachineState, node_at, Context, Flat, context_at, line_at, stored_in, turned, flat_turn_by, flat_turn, print_of, flat_context, flat_status}
 use Rattle.sparc_table.specs.declared.outcomes.Need.TheVariants as needs
-use Rattle.sparc_table.specs.declared.outcomes.Outcome.{Outcome}
-use Rattle.sparc_table.specs.Turns.{need_of, turn_of}
 use Rattle.sparc_table.proofs.Effects.{turn_exists}
-use Rattle.alw_image.specs.declared.parts.Parts.{Parts}
-use Rattle.alw_image.specs.Images.{line_count, zero_line}
-use Rattle.alw_msg.specs.declared.contexts.Status.TheVariants.{Waiting}
-use Rattle.alw_msg.specs.Statuses.{is_ready}
-use Rattle.alw_model.specs.Contexts.{slot_at, ran}
-use Rattle.alw_model.specs.NodeStates.{NodeState}
-use Rattle.alw_model.specs.ProcessorSteps.{status_after}
-use Rattle.alw_model.specs.Machine.{MachineState, node_at}
-use Rattle.alw_model.specs.Flat.{Context, Flat, context_at, line_at, stored_in, turned, flat_turn_by, flat_turn, print_of}
-use Rattle.alw_model.specs.Runs.{flat_context, flat_status}
 use Rattle.law_machine.specs.FlatRuns.{contexts_of, flat_of, RunsFlat}
 use Rattle.law_machine.proofs.FlatViews.{HaveSlots, contexts_stay, context_set, context_read, values_same}
 use Rattle.law_machine.proofs.FlatSlots.{same_context, flat_after_turn, Chosen, ready_is}

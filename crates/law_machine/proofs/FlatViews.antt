@@ -4,11 +4,7 @@ use Rattle.std.specs.List.{range_with_len}
 use Rattle.std.proofs.lemmas.Bool.{eq-eqb, ne_eqb}
 use Rattle.std.proofs.lemmas.List.{length-map, set-append_left, set-append_right, get_or_append_left, get_or-append_right, get_or-map}
 use Rattle.std.proofs.Math.Nat.{suc-mul}
-use Rattle.alw_model.specs.Contexts.{slot_at, no_slot}
-use Rattle.alw_model.specs.NodeStates.{NodeState}
-use Rattle.alw_model.specs.Machine.{no_node}
-use Rattle.alw_model.specs.Flat.{Context}
-use Rattle.alw_model.specs.Runs.{flat_context}
+use Rattle.law_machine.proofs.Vocabulary.{slot_at, no_slot, NodeState, no_node, Context, flat_context}
 use Rattle.law_machine.specs.FlatRuns.{contexts_of}
 
 -- each node has this number of slots

@@ -2,26 +2,11 @@
 use Rattle.std.proofs.Common.{◌≡◌, ℕ, ◌<◌, ◌≤◌, Option, Some, None, List, [], ◌∷◌, flat_map, option_map, IsTrue, refl, sym, subst, ap, ◌∙◌}
 use Rattle.std.specs.Prelude.{IsSome}
 use Rattle.std.specs.List.{AllByRecursion}
-use Rattle.alw_num.specs.declared.addresses.Line.{Line}
-use Rattle.alw_num.specs.Maps.{value_at}
-use Rattle.alw_msg.specs.declared.events.Entry.{Entry}
-use Rattle.alw_msg.specs.Contents.{ToMemory}
-use Rattle.alw_msg.specs.Events.{node_of}
-use Rattle.alw_image.specs.declared.parts.Parts.{Parts}
-use Rattle.alw_image.specs.Images.{node_count, line_count, body_of}
-use Rattle.alw_image.specs.Parameters.{Parameters}
-use Rattle.alw_model.specs.FullMap.{Home, home_start}
-use Rattle.alw_model.specs.LimitLess.{full_map_of}
-use Rattle.alw_model.specs.Caches.{Transaction}
-use Rattle.alw_model.specs.Machine.{MachineState, machine_start, node_at, is_enabled, step, after, AreLegal, IsLegal, state}
-use Rattle.alw_model.specs.Lines.{LineNode, LineState, line_of, entry_of}
-use Rattle.alw_model.specs.Runs.{Moment, moment_of, moments_from, moments, acted_by, acted_messages, acted_on, full_map_after}
-use Rattle.law_line.specs.Protocol.{last_stored}
-use Rattle.law_line.specs.Combinations.{AreListed}
-use Rattle.law_line.specs.Exchanges.{acted_in}
+use Rattle.law_machine.proofs.Vocabulary.{Line, value_at, Entry, ToMemory, node_of, Parts, node_count, line_count, body_of, Parameters, Home, home_start, full_map_of, Transaction, MachineState}
+use Rattle.law_machine.proofs.Vocabulary.{machine_start, node_at, is_enabled, step, after, AreLegal, IsLegal, state, LineNode, LineState, line_of, entry_of, Moment, moment_of, moments_from}
+use Rattle.law_machine.proofs.Vocabulary.{moments, acted_by, acted_messages, acted_on, full_map_after, last_stored, AreListed, acted_in, line_events}
 use Rattle.law_line.proofs.Consequences.{reply_meets}
 use Rattle.law_line.proofs.Acted.{ActsOn, acts_then, run_acts}
-use Rattle.law_lines.specs.LineEvents.{line_events}
 use Rattle.law_lines.proofs.CacheSide.{old_part}
 use Rattle.law_lines.proofs.Steps.{line_follows, enabled_is}
 use Rattle.law_lines.proofs.Acted.{event_acts, event_comes}

@@ -3,18 +3,9 @@ use Rattle.std.proofs.Common.{◌≡◌, ℕ, ◌+◌, ◌<◌, ◌≤◌, nat_l
 use Rattle.std.proofs.lemmas.Bool.{ltb-true}
 use Rattle.std.proofs.lemmas.List.{length-set}
 use Rattle.alw_num.proofs.Weigh.{at_nodes}
-use Rattle.alw_msg.specs.declared.messages.Msg.{Msg}
-use Rattle.alw_msg.specs.declared.events.Event.{Event}
-use Rattle.alw_msg.specs.declared.events.Event.TheVariants.{Instr, Handle, Deliver, Evict}
-use Rattle.alw_image.specs.declared.parts.Parts.{Parts}
-use Rattle.alw_image.specs.Images.{node_count}
-use Rattle.alw_image.specs.Parameters.{Parameters}
-use Rattle.alw_msg.specs.Events.{node_of}
-use Rattle.alw_model.specs.NodeStates.{NodeState, stamp_of}
-use Rattle.alw_msg.specs.Lists.{front}
-use Rattle.alw_model.specs.Machine.{MachineState, no_node, node_at, link_at, stamp_at, is_enabled, step, stepped_by}
+use Rattle.law_machine.proofs.Vocabulary.{Msg, Event, Instr, Handle, Deliver, Evict, Parts, node_count, Parameters, node_of, NodeState, stamp_of, front, MachineState, no_node, node_at, link_at}
+use Rattle.law_machine.proofs.Vocabulary.{stamp_at, is_enabled, step, stepped_by, IsStanding}
 use Rattle.alw_model.proofs.Journals.{and_parts}
-use Rattle.law_lines.specs.Standing.{IsStanding}
 use Rattle.law_lines.proofs.Links.{read_set}
 use Rattle.law_lines.proofs.Steps.{enabled_is}
 use Rattle.law_machine.proofs.Sends.{MsgStands}

@@ -4,24 +4,10 @@ use Rattle.std.specs.Prelude.{is_some}
 use Rattle.std.specs.List.{AllByRecursion}
 use Rattle.std.proofs.lemmas.Bool.{eq-eqb, false≢true}
 use Rattle.std.proofs.lemmas.List.FromFn.{get_or-map-range_with_len}
-use Rattle.alw_num.specs.Weights.{digit, weigh}
-use Rattle.alw_num.specs.Maps.{value_at}
-use Rattle.alw_num.specs.declared.addresses.NodeNo.{NodeNo}
-use Rattle.alw_msg.specs.declared.events.Entry.{Entry}
-use Rattle.alw_msg.specs.declared.events.Event.TheVariants.{Instr}
-use Rattle.alw_msg.specs.declared.contexts.Status.{Status}
-use Rattle.alw_msg.specs.declared.contexts.Status.TheVariants.{Ready, Halted}
-use Rattle.alw_image.specs.declared.parts.Parts.{Parts}
-use Rattle.alw_image.specs.Images.{node_count, line_count, started_at, start_in, IsStart, IsImage}
-use Rattle.alw_image.specs.Parameters.{Parameters, AreParameters}
-use Rattle.alw_msg.specs.Statuses.{is_halted}
-use Rattle.alw_model.specs.Contexts.{Slot, slot_at, no_slot, running, slot_start}
-use Rattle.alw_model.specs.NodeStates.{NodeState}
-use Rattle.alw_model.specs.Machine.{MachineState, machine_start, no_node, node_at, has_halted, step, state, is_enabled}
-use Rattle.alw_model.specs.Runs.{moments}
-use Rattle.alw_model.specs.Counts.{counts_of, count_holds}
+use Rattle.law_machine.proofs.Vocabulary.{digit, weigh, value_at, NodeNo, Entry, Instr, Status, Ready, Halted, Parts, node_count, line_count, started_at, start_in, IsStart, IsImage, Parameters}
+use Rattle.law_machine.proofs.Vocabulary.{AreParameters, is_halted, Slot, slot_at, no_slot, running, slot_start, NodeState, MachineState, machine_start, no_node, node_at, has_halted, step, state}
+use Rattle.law_machine.proofs.Vocabulary.{is_enabled, moments, counts_of, count_holds, is_evict}
 use Rattle.law_lines.proofs.Steps.{enabled_is}
-use Rattle.alw_msg.specs.Events.{is_evict}
 use Rattle.law_machine.specs.Endings.{has_ended, may_go_on, AtEach}
 use Rattle.law_machine.specs.Machines.{OnEveryMachine}
 use Rattle.law_machine.proofs.Runs.{node_at_start}

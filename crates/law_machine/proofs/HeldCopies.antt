@@ -2,15 +2,10 @@
 use Rattle.std.proofs.Common.{◌≡◌, ◌≢◌, ℕ, ◌==◌, true, cond, not, Option, Some, None, List, refl, sym, ap, ◌∙◌}
 use Rattle.std.specs.Prelude.{is_some}
 use Rattle.std.proofs.lemmas.Bool.{eq-eqb, ne_eqb, eqb-true, false≢true}
-use Rattle.alw_num.specs.declared.addresses.Line.{Line}
-use Rattle.alw_num.specs.declared.states.Mode.{Mode}
-use Rattle.alw_num.specs.declared.states.Mode.TheVariants.{Read, Write}
-use Rattle.alw_num.specs.Maps.{kept_if, passes, value_at, with_value, without_value}
+use Rattle.law_machine.proofs.Vocabulary.{Line, Mode, Read, Write, kept_if, passes, value_at, with_value, without_value, Copy, Cache, set_of, grants, copy_at, granted_copy, replaced, invalidate}
+use Rattle.law_machine.proofs.Vocabulary.{Slot, slot_at, is_held, written}
 use Rattle.alw_num.proofs.MapLaws.{value-with, value-without}
 use Rattle.alw_num.proofs.Weigh.{is_node}
-use Rattle.alw_model.specs.Caches.{Copy, Cache, set_of, grants, copy_at, granted_copy, replaced, invalidate}
-use Rattle.alw_model.specs.Contexts.{Slot, slot_at, is_held}
-use Rattle.alw_model.specs.ProcessorSteps.{written}
 use Rattle.law_lines.proofs.Instructions.{kept_is}
 use Rattle.law_machine.proofs.ContextFacts.{hold_held}
 

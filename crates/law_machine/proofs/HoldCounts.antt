@@ -3,26 +3,10 @@ use Rattle.std.proofs.Common.{◌≡◌, ℕ, ◌+◌, ◌<◌, ◌≤◌, nat_l
 use Rattle.std.specs.Prelude.{is_some}
 use Rattle.std.specs.List.{AllByRecursion}
 use Rattle.std.proofs.lemmas.Bool.{eqb-true, false≢true}
-use Rattle.alw_num.specs.Weights.{digit, weigh}
-use Rattle.alw_num.specs.Maps.{value_at, passes}
-use Rattle.alw_msg.specs.declared.messages.Msg.{Msg}
-use Rattle.alw_msg.specs.declared.events.Event.{Event}
-use Rattle.alw_msg.specs.declared.events.Event.TheVariants.{Instr, Handle, Deliver, Evict}
-use Rattle.alw_msg.specs.declared.events.Entry.{Entry}
-use Rattle.alw_image.specs.declared.parts.Parts.{Parts}
-use Rattle.alw_image.specs.Images.{node_count}
-use Rattle.alw_image.specs.Parameters.{Parameters}
-use Rattle.alw_msg.specs.Contents.{ToCache, RDATA, WDATA, INV, BUSY, is_reply, brings_line, Content, ForMemory, ForCache, content}
-use Rattle.alw_model.specs.Caches.{Transaction}
-use Rattle.alw_model.specs.Contexts.{Slot, slot_at, no_slot, slot_start}
-use Rattle.alw_model.specs.Messages.{home_node, is_fit}
-use Rattle.alw_msg.specs.Events.{node_of}
-use Rattle.alw_model.specs.NodeStates.{NodeState, node_start, may_deliver}
-use Rattle.alw_msg.specs.Lists.{front, behind}
-use Rattle.alw_model.specs.Machine.{MachineState, machine_start, no_node, node_at, link_at, taken_by, stamp_at, is_enabled, step, stepped_by, after, state, AreLegal, IsLegal}
-use Rattle.alw_model.specs.Lines.{LineNode, downs, line_of}
-use Rattle.alw_model.specs.Runs.{Moment, moments_from, moments}
-use Rattle.alw_model.specs.Counts.{uses_hold, is_data, counts_of, count_holds}
+use Rattle.law_machine.proofs.Vocabulary.{digit, weigh, value_at, passes, Msg, Event, Instr, Handle, Deliver, Evict, Entry, Parts, node_count, Parameters, ToCache, RDATA, WDATA, INV, BUSY}
+use Rattle.law_machine.proofs.Vocabulary.{is_reply, brings_line, Content, ForMemory, ForCache, content, Transaction, Slot, slot_at, no_slot, slot_start, home_node, is_fit, node_of, NodeState}
+use Rattle.law_machine.proofs.Vocabulary.{node_start, may_deliver, front, behind, MachineState, machine_start, no_node, node_at, link_at, taken_by, stamp_at, is_enabled, step, stepped_by, after}
+use Rattle.law_machine.proofs.Vocabulary.{state, AreLegal, IsLegal, LineNode, downs, line_of, Moment, moments_from, moments, uses_hold, is_data, counts_of, count_holds}
 use Rattle.alw_model.proofs.Journals.{and_parts}
 use Rattle.law_line.proofs.Consequences.{reply_meets}
 use Rattle.law_lines.proofs.CacheSide.{old_part}

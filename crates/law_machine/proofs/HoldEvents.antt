@@ -2,30 +2,11 @@
 use Rattle.std.proofs.Common.{◌≡◌, ℕ, ◌+◌, ◌<◌, Bool, true, false, cond, Option, Some, None, List, [], ◌∷◌, length, set, refl, sym, subst, ap, ◌∙◌, arith}
 use Rattle.std.specs.Prelude.{is_some, IsSome}
 use Rattle.std.proofs.lemmas.Bool.{false≢true}
-use Rattle.alw_num.specs.Weights.{digit, weigh}
-use Rattle.alw_num.specs.Maps.{value_at, passes}
-use Rattle.alw_num.specs.declared.addresses.LineNo.{LineNo}
-use Rattle.alw_num.specs.declared.states.Mode.{Mode}
-use Rattle.sparc_table.specs.Turns.{need_of}
-use Rattle.sparc_table.specs.declared.outcomes.Need.{Need}
+use Rattle.law_machine.proofs.Vocabulary.{digit, weigh, value_at, passes, LineNo, Mode, need_of, Need, Msg, Ready, Event, Instr, Handle, Deliver, Evict, Parts, line_count, Parameters, ToMemory}
+use Rattle.law_machine.proofs.Vocabulary.{ToCache, RDATA, WDATA, INV, BUSY, brings_line, Content, ForMemory, ForCache, content, is_trapped, Copy, Transaction, granted_copy, is_ready, waits_on}
+use Rattle.law_machine.proofs.Vocabulary.{Slot, slot_at, no_slot, running, woken, wake, NodeState, home_at, slots_after, Stepped, clocked, access, instr_by, instr, at_home, at_cache, deliver_by}
+use Rattle.law_machine.proofs.Vocabulary.{deliver, handle_by, handle_front, event_at, uses_hold, is_data, next_mode}
 use Rattle.sparc_table.specs.declared.outcomes.Need.TheVariants as needs
-use Rattle.alw_msg.specs.declared.messages.Msg.{Msg}
-use Rattle.alw_msg.specs.declared.contexts.Status.TheVariants.{Ready}
-use Rattle.alw_msg.specs.declared.events.Event.{Event}
-use Rattle.alw_msg.specs.declared.events.Event.TheVariants.{Instr, Handle, Deliver, Evict}
-use Rattle.alw_image.specs.declared.parts.Parts.{Parts}
-use Rattle.alw_image.specs.Images.{line_count}
-use Rattle.alw_image.specs.Parameters.{Parameters}
-use Rattle.alw_msg.specs.Contents.{ToMemory, ToCache, RDATA, WDATA, INV, BUSY, brings_line, Content, ForMemory, ForCache, content}
-use Rattle.alw_model.specs.LimitLess.{is_trapped}
-use Rattle.alw_model.specs.Caches.{Copy, Transaction, granted_copy}
-use Rattle.alw_msg.specs.Statuses.{is_ready, waits_on}
-use Rattle.alw_model.specs.Contexts.{Slot, slot_at, no_slot, running, woken, wake}
-use Rattle.alw_model.specs.NodeStates.{NodeState, home_at}
-use Rattle.alw_model.specs.ProcessorSteps.{slots_after}
-use Rattle.alw_model.specs.NodeSteps.{Stepped, clocked, access, instr_by, instr, at_home, at_cache, deliver_by, deliver, handle_by, handle_front, event_at}
-use Rattle.alw_model.specs.Counts.{uses_hold, is_data}
-use Rattle.alw_model.specs.MachineInvariant.{next_mode}
 use Rattle.law_machine.specs.Holds.{uses_by}
 use Rattle.law_machine.proofs.FlatSlots.{Chosen, runs_ready}
 use Rattle.law_machine.proofs.ContextFacts.{NodeContexts, ready_not_waiting, wake_at, length-wake}

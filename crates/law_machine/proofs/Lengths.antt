@@ -1,14 +1,7 @@
 -- How long a legal journal can be: before the last halt each entry raises its node's clock, which stays within the limit, and after it each entry leaves less to do.
 use Rattle.std.proofs.Common.{◌≡◌, ℕ, ◌+◌, ◌*◌, ◌<◌, ◌≤◌, Bool, true, false, List, [], ◌∷◌, length, IsTrue, refl, subst, ap, arith}
-use Rattle.alw_num.specs.Weights.{weigh}
-use Rattle.alw_msg.specs.declared.events.Entry.{Entry}
-use Rattle.alw_msg.specs.declared.events.Event.{Event}
-use Rattle.alw_image.specs.declared.parts.Parts.{Parts}
-use Rattle.alw_image.specs.Images.{node_count, IsImage}
-use Rattle.alw_image.specs.Parameters.{Parameters, AreParameters}
-use Rattle.alw_msg.specs.Events.{node_of, is_evict}
-use Rattle.alw_model.specs.NodeStates.{NodeState}
-use Rattle.alw_model.specs.Machine.{MachineState, machine_start, no_node, node_at, taken_by, is_enabled, has_halted, step, stepped_by, IsNext, AreLegal, IsLegal}
+use Rattle.law_machine.proofs.Vocabulary.{weigh, Entry, Event, Parts, node_count, IsImage, Parameters, AreParameters, node_of, is_evict, NodeState, MachineState, machine_start, no_node, node_at}
+use Rattle.law_machine.proofs.Vocabulary.{taken_by, is_enabled, has_halted, step, stepped_by, IsNext, AreLegal, IsLegal}
 use Rattle.law_lines.proofs.Steps.{enabled_is}
 use Rattle.law_machine.specs.Endings.{AtEach, EvictsInTime}
 use Rattle.law_machine.proofs.Ended.{halted_stays}

@@ -1,3 +1,4 @@
+pub mod Vocabulary
 pub mod NodeKeeps
 pub mod NodeSteps
 pub mod Runs

@@ -1,20 +1,8 @@
 -- What the soundness of each line gives after every legal journal.
 use Rattle.std.proofs.Common.{◌≡◌, ◌≢◌, ℕ, ◌<◌, ◌≤◌, false, Some, IsTrue, List, ◌∷◌, sym, ◌∙◌}
 use Rattle.std.specs.Prelude.{IsSome}
-use Rattle.alw_num.specs.declared.addresses.Line.{Line}
-use Rattle.alw_num.specs.declared.states.Mode.{Mode}
-use Rattle.alw_num.specs.Weights.{sum_below}
-use Rattle.alw_msg.specs.declared.events.Entry.{Entry}
-use Rattle.alw_image.specs.declared.parts.Parts.{Parts}
-use Rattle.alw_image.specs.Images.{node_count, line_count}
-use Rattle.alw_image.specs.Parameters.{Parameters}
-use Rattle.alw_msg.specs.Contents.{ToMemory, ToCache, is_reply}
-use Rattle.alw_model.specs.LimitLess.{full_map_of}
-use Rattle.alw_model.specs.Machine.{IsLegal, state}
-use Rattle.alw_model.specs.Lines.{entry_of, line_of, current_value}
-use Rattle.alw_model.specs.LineInvariant.{reads, writes, owes}
-use Rattle.law_line.specs.Combinations.{IsListed}
-use Rattle.law_line.specs.Sound.{Sound}
+use Rattle.law_machine.proofs.Vocabulary.{Line, Mode, sum_below, Entry, Parts, node_count, line_count, Parameters, ToMemory, ToCache, is_reply, full_map_of, IsLegal, state, entry_of, line_of}
+use Rattle.law_machine.proofs.Vocabulary.{current_value, reads, writes, owes, IsListed, Sound}
 use Rattle.law_line.proofs.Unlisted.{listed}
 use Rattle.law_line.proofs.Consequences.{one_writer, no_reader, copy_value, reply_meets, all_owed}
 use Rattle.law_machine.specs.Values.{AfterEveryJournal, stored_after}

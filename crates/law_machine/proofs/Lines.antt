@@ -1,15 +1,8 @@
 -- After every legal journal each line meets the line invariant, and its current value is the one stored last.
 use Rattle.std.proofs.Common.{◌≡◌, ℕ, ◌<◌, length, IsTrue, refl, sym, subst}
-use Rattle.alw_num.specs.declared.addresses.Line.{Line}
-use Rattle.alw_image.specs.declared.parts.Parts.{Parts}
-use Rattle.alw_image.specs.Images.{node_count, line_count}
-use Rattle.alw_image.specs.Parameters.{Parameters}
-use Rattle.alw_model.specs.Messages.{home_node}
-use Rattle.alw_model.specs.Machine.{MachineState}
-use Rattle.alw_model.specs.Lines.{ups, packets_at, entry_of, line_of, current_value}
-use Rattle.alw_model.specs.LineInvariant.{LineInvariant, software_fits}
+use Rattle.law_machine.proofs.Vocabulary.{Line, Parts, node_count, line_count, Parameters, home_node, MachineState, ups, packets_at, entry_of, line_of, current_value, LineInvariant}
+use Rattle.law_machine.proofs.Vocabulary.{software_fits, IsStanding}
 use Rattle.law_line.proofs.Clauses.{invariant_holds, value_is}
-use Rattle.law_lines.specs.Standing.{IsStanding}
 use Rattle.law_lines.proofs.Following.{home_below}
 use Rattle.law_machine.specs.Values.{MachineIsSoundWith}
 

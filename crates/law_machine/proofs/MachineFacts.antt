@@ -3,18 +3,8 @@ use Rattle.std.proofs.Common.{◌≡◌, ℕ, ◌-◌, ◌^◌, ◌<◌, true, O
 use Rattle.std.specs.Prelude.{is_some}
 use Rattle.std.proofs.lemmas.Bool.{false≢true}
 use Rattle.alw_num.proofs.Weigh.{is_node}
-use Rattle.alw_num.specs.Maps.{value_at}
-use Rattle.alw_num.specs.declared.states.Mode.{Mode}
-use Rattle.alw_msg.specs.declared.messages.Msg.{Msg}
-use Rattle.alw_msg.specs.declared.contexts.Status.TheVariants.{Ready}
-use Rattle.alw_image.specs.Images.{node_count}
-use Rattle.alw_model.specs.Caches.{Copy, Cache, Transaction, grants, copy_at, granted_copy}
-use Rattle.alw_msg.specs.Statuses.{waits_on}
-use Rattle.alw_model.specs.Contexts.{slot_at}
-use Rattle.alw_msg.specs.Lists.{front}
-use Rattle.alw_model.specs.Machine.{state, node_at, link_at}
-use Rattle.alw_model.specs.Messages.{is_fit}
-use Rattle.alw_model.specs.MachineInvariant.{MachineInvariant}
+use Rattle.law_machine.proofs.Vocabulary.{value_at, Mode, Msg, Ready, node_count, Copy, Cache, Transaction, grants, copy_at, granted_copy, waits_on, slot_at, front, state, node_at, link_at}
+use Rattle.law_machine.proofs.Vocabulary.{is_fit, MachineInvariant}
 use Rattle.law_lines.proofs.Instructions.{kept_is}
 use Rattle.law_machine.specs.Machines.{OnEveryMachine}
 use Rattle.law_machine.proofs.ContextFacts.{waits_once}

@@ -3,18 +3,10 @@ use Rattle.std.proofs.Common.{◌≡◌, ℕ, ◌-◌, ◌^◌, ◌<◌, ◌≤�
 use Rattle.std.specs.List.{AllByRecursion, list_all}
 use Rattle.std.proofs.Math.Bool.{or-true}
 use Rattle.std.proofs.lemmas.Bool.{eq-eqb, lt-ltb, le-leb}
-use Rattle.alw_msg.specs.declared.messages.Msg.{Msg}
-use Rattle.alw_msg.specs.declared.events.Entry.{Entry}
-use Rattle.alw_image.specs.declared.parts.Parts.{Parts}
-use Rattle.alw_image.specs.Images.{node_count, line_count, IsImage}
-use Rattle.alw_image.specs.Parameters.{Parameters, AreParameters}
-use Rattle.alw_msg.specs.Contents.{content, is_to_memory}
-use Rattle.alw_model.specs.Messages.{home_node, is_fit}
-use Rattle.alw_model.specs.NodeStates.{NodeState}
-use Rattle.alw_model.specs.Machine.{MachineState, machine_start, node_at, link_at, has_halted, step, state, IsNext, IsLegal}
-use Rattle.alw_model.specs.MachineInvariant.{MachineInvariant, links_rightly, packed_rightly, left_to_do, most_to_do}
+use Rattle.law_machine.proofs.Vocabulary.{Msg, Entry, Parts, node_count, line_count, IsImage, Parameters, AreParameters, content, is_to_memory, home_node, is_fit, NodeState, MachineState}
+use Rattle.law_machine.proofs.Vocabulary.{machine_start, node_at, link_at, has_halted, step, state, IsNext, IsLegal, MachineInvariant, links_rightly, packed_rightly, left_to_do, most_to_do}
+use Rattle.law_machine.proofs.Vocabulary.{IsPacket}
 use Rattle.alw_model.proofs.Journals.{and_is}
-use Rattle.law_lines.specs.Standing.{IsPacket}
 use Rattle.law_machine.proofs.Runs.{node_at_start}
 use Rattle.law_machine.proofs.Lines.{invariant_of}
 use Rattle.law_machine.proofs.Stores.{all_of, entry_points, caches_stand, sizes_are}

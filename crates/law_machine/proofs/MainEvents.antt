@@ -8,18 +8,8 @@ use Rattle.std.proofs.lemmas.List.{get_or_past}
 use Rattle.std.proofs.lemmas.List.Folds.{list_any-append}
 use Rattle.std.proofs.Math.Nat.{mod-eq_of_lt, add-mod_left}
 use Rattle.alw_num.proofs.Weigh.{is_node, cases_lt_then}
-use Rattle.alw_msg.specs.declared.events.Event.{Event}
-use Rattle.alw_msg.specs.declared.events.Event.TheVariants.{Instr, Handle, Deliver}
-use Rattle.alw_image.specs.declared.parts.Parts.{Parts}
-use Rattle.alw_image.specs.Images.{node_count}
-use Rattle.alw_image.specs.Parameters.{Parameters}
-use Rattle.alw_num.specs.Maps.{passes}
-use Rattle.alw_msg.specs.Statuses.{is_ready}
-use Rattle.alw_model.specs.Contexts.{Slot, slot_at, no_slot, running}
-use Rattle.alw_msg.specs.Events.{node_of}
-use Rattle.alw_msg.specs.Lists.{is_nonempty, front}
-use Rattle.alw_model.specs.NodeStates.{may, may_deliver}
-use Rattle.alw_model.specs.Machine.{MachineState, node_at, link_at, taken_by, is_enabled, main_events}
+use Rattle.law_machine.proofs.Vocabulary.{Event, Instr, Handle, Deliver, Parts, node_count, Parameters, passes, is_ready, Slot, slot_at, no_slot, running, node_of, is_nonempty, front, may}
+use Rattle.law_machine.proofs.Vocabulary.{may_deliver, MachineState, node_at, link_at, taken_by, is_enabled, main_events}
 use Rattle.alw_model.proofs.Journals.{and_is}
 use Rattle.law_machine.specs.Endings.{may_go_on}
 

@@ -4,24 +4,12 @@ use Rattle.std.specs.List.{AllByRecursion}
 use Rattle.std.proofs.lemmas.Bool.{eq-eqb, ne_eqb, eqb-true}
 use Rattle.std.proofs.lemmas.List.{length-set, length-append}
 use Rattle.alw_num.proofs.Weigh.{is_node, digit_le}
-use Rattle.alw_num.specs.Weights.{digit}
-use Rattle.alw_num.specs.declared.states.Mode.TheVariants.{Read, Write}
-use Rattle.alw_msg.specs.declared.messages.Msg.{Msg}
-use Rattle.alw_image.specs.declared.parts.Parts.{Parts}
-use Rattle.alw_image.specs.Images.{node_count, line_count, zero_line}
-use Rattle.alw_image.specs.Parameters.{Parameters}
-use Rattle.alw_num.specs.Maps.{value_at, with_value, without_value}
-use Rattle.alw_msg.specs.Contents.{ToMemory, ToCache, RDATA, WDATA, INV, BUSY, ForMemory, content, request_in, is_to_memory}
-use Rattle.alw_model.specs.LimitLess.{Directory, directory_start, is_trapped, is_in_progress, hardware_act, trapped, handle}
-use Rattle.alw_model.specs.Caches.{Copy, Cache, set_of, copy_at, react, invalidate}
-use Rattle.alw_model.specs.Messages.{home_node}
-use Rattle.alw_model.specs.NodeStates.{NodeState, home_at, with_home, place_of}
-use Rattle.alw_model.specs.Lines.{ups}
+use Rattle.law_machine.proofs.Vocabulary.{digit, Read, Write, Msg, Parts, node_count, line_count, zero_line, Parameters, value_at, with_value, without_value, ToMemory, ToCache, RDATA, WDATA, INV}
+use Rattle.law_machine.proofs.Vocabulary.{BUSY, ForMemory, content, request_in, is_to_memory, Directory, directory_start, is_trapped, is_in_progress, hardware_act, trapped, handle, Copy, Cache}
+use Rattle.law_machine.proofs.Vocabulary.{set_of, copy_at, react, invalidate, home_node, NodeState, home_at, with_home, place_of, ups, EntryIsSound, IsCache, IsPacket, NodeStands}
 use Rattle.alw_num.proofs.MapLaws.{value-with, value-without}
-use Rattle.law_entry.specs.Entries.{EntryIsSound}
 use Rattle.law_entry.proofs.Soundness.{hardware_sound, handler_sound, trapped_sound}
 use Rattle.law_entry.proofs.Courses.{handled_free}
-use Rattle.law_lines.specs.Standing.{IsCache, IsPacket, NodeStands}
 use Rattle.law_lines.proofs.Contents.{ups-append}
 use Rattle.law_lines.proofs.Taken.{ups_without, other_request}
 use Rattle.law_lines.proofs.Places.{entry_set}

@@ -2,33 +2,12 @@
 use Rattle.std.proofs.Common.{◌≡◌, ℕ, ◌<◌, ◌≤◌, ◌==◌, nat_lt, Bool, true, false, Option, Some, None, List, [], ◌∷◌, IsTrue, refl, sym, subst, ap, ◌∙◌}
 use Rattle.std.specs.List.{AllByRecursion}
 use Rattle.std.proofs.lemmas.Bool.{eqb-true, ltb-true, false≢true}
-use Rattle.alw_num.specs.declared.addresses.Line.{Line}
-use Rattle.alw_num.specs.declared.states.Mode.{Mode}
-use Rattle.alw_num.specs.declared.states.Mode.TheVariants.{Read, Write}
-use Rattle.sparc_table.specs.declared.registers.Regs.{Regs}
-use Rattle.sparc_table.specs.declared.outcomes.Need.{Need}
+use Rattle.law_machine.proofs.Vocabulary.{Line, Mode, Read, Write, Regs, Need, Outcome, need_of, turn_of, Msg, Event, Instr, Handle, Deliver, Evict, Parts, node_count, line_count, Parameters}
+use Rattle.law_machine.proofs.Vocabulary.{value_at, passes, ToMemory, Content, ForMemory, ForCache, content, is_to_memory, is_trapped, is_in_progress, Copy, set_of, grants, copy_at, granted_copy}
+use Rattle.law_machine.proofs.Vocabulary.{slot_at, running, home_node, is_fit, node_of, is_nonempty, NodeState, home_at, may, may_reach, may_deliver, written, take_turn, access, instr_by, instr}
+use Rattle.law_machine.proofs.Vocabulary.{at_home, deliver_by, deliver, handle_by, handle_front, event_at, clocked, IsPacket, NodeStands}
 use Rattle.sparc_table.specs.declared.outcomes.Need.TheVariants as needs
-use Rattle.sparc_table.specs.declared.outcomes.Outcome.{Outcome}
-use Rattle.sparc_table.specs.Turns.{need_of, turn_of}
-use Rattle.alw_msg.specs.declared.messages.Msg.{Msg}
-use Rattle.alw_msg.specs.declared.events.Event.{Event}
-use Rattle.alw_msg.specs.declared.events.Event.TheVariants.{Instr, Handle, Deliver, Evict}
-use Rattle.alw_image.specs.declared.parts.Parts.{Parts}
-use Rattle.alw_image.specs.Images.{node_count, line_count}
-use Rattle.alw_image.specs.Parameters.{Parameters}
-use Rattle.alw_num.specs.Maps.{value_at, passes}
-use Rattle.alw_msg.specs.Contents.{ToMemory, Content, ForMemory, ForCache, content, is_to_memory}
-use Rattle.alw_model.specs.LimitLess.{is_trapped, is_in_progress}
-use Rattle.alw_model.specs.Caches.{Copy, set_of, grants, copy_at, granted_copy}
-use Rattle.alw_model.specs.Contexts.{slot_at, running}
-use Rattle.alw_model.specs.Messages.{home_node, is_fit}
-use Rattle.alw_msg.specs.Events.{node_of}
-use Rattle.alw_msg.specs.Lists.{is_nonempty}
-use Rattle.alw_model.specs.NodeStates.{NodeState, home_at, may, may_reach, may_deliver}
-use Rattle.alw_model.specs.ProcessorSteps.{written}
-use Rattle.alw_model.specs.NodeSteps.{take_turn, access, instr_by, instr, at_home, deliver_by, deliver, handle_by, handle_front, event_at, clocked}
 use Rattle.alw_model.proofs.Journals.{and_parts}
-use Rattle.law_lines.specs.Standing.{IsPacket, NodeStands}
 use Rattle.law_lines.proofs.Instructions.{kept_is}
 use Rattle.law_lines.proofs.Steps.{Fit, fit_is, not_is}
 use Rattle.law_machine.proofs.NodeKeeps.{cache_with, cache_without, cache_reacts, cache_changes, trap_stands, hardware_stands, handler_stands}

@@ -5,24 +5,10 @@ use Rattle.std.specs.List.{list_any}
 use Rattle.std.proofs.lemmas.Bool.{eq-eqb, eqb-true, false≢true}
 use Rattle.std.proofs.lemmas.Nat.{row_below_turned, mod_below}
 use Rattle.std.proofs.Math.Nat.{mod-add-div'}
-use Rattle.alw_num.specs.Maps.{passes, value_at}
-use Rattle.alw_num.specs.Weights.{digit}
-use Rattle.alw_msg.specs.declared.messages.Msg.{Msg}
-use Rattle.alw_msg.specs.declared.contexts.Status.{Status}
-use Rattle.alw_msg.specs.declared.contexts.Status.TheVariants.{Ready, Waiting, Halted, Trapped}
-use Rattle.alw_image.specs.declared.parts.Parts.{Parts}
-use Rattle.alw_image.specs.Images.{node_count, line_count, IsImage}
-use Rattle.alw_image.specs.Parameters.{Parameters, AreParameters}
-use Rattle.alw_msg.specs.Contents.{ToMemory, ToCache, RDATA, WDATA, INV, BUSY, Content, ForMemory, ForCache, content}
-use Rattle.alw_model.specs.LimitLess.{is_in_progress}
-use Rattle.alw_model.specs.Caches.{Copy, Transaction, replaced}
-use Rattle.alw_msg.specs.Statuses.{is_ready, waits_on}
-use Rattle.alw_model.specs.Contexts.{Slot, slot_at, is_held}
-use Rattle.alw_model.specs.Messages.{home_node, is_at_home, is_fit}
-use Rattle.alw_msg.specs.Lists.{is_nonempty, front}
-use Rattle.alw_model.specs.NodeStates.{NodeState, home_at, may_reach, may_reach_cache, may_deliver}
-use Rattle.alw_model.specs.Machine.{MachineState, no_node, node_at, link_at, link_place, is_settled}
-use Rattle.alw_model.specs.Lines.{LineNode, ups, downs, sent_by, line_of}
+use Rattle.law_machine.proofs.Vocabulary.{passes, value_at, digit, Msg, Status, Ready, Waiting, Halted, Trapped, Parts, node_count, line_count, IsImage, Parameters, AreParameters, ToMemory}
+use Rattle.law_machine.proofs.Vocabulary.{ToCache, RDATA, WDATA, INV, BUSY, Content, ForMemory, ForCache, content, is_in_progress, Copy, Transaction, replaced, is_ready, waits_on, Slot, slot_at}
+use Rattle.law_machine.proofs.Vocabulary.{is_held, home_node, is_at_home, is_fit, is_nonempty, front, NodeState, home_at, may_reach, may_reach_cache, may_deliver, MachineState, no_node, node_at}
+use Rattle.law_machine.proofs.Vocabulary.{link_at, link_place, is_settled, LineNode, ups, downs, sent_by, line_of}
 use Rattle.alw_model.proofs.Journals.{and_is}
 use Rattle.law_line.proofs.Consequences.{moves}
 use Rattle.law_lines.proofs.CacheSide.{old_part}

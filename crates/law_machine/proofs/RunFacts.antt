@@ -1,13 +1,8 @@
 -- What the machine invariant's induction gives of runs: no machine is stuck, contexts that have ended stay so, replies are used, and runs are bounded.
 use Rattle.std.proofs.Common.{◌≡◌, ℕ, ◌+◌, ◌*◌, ◌<◌, ◌≤◌, false, Some, length, IsTrue}
 use Rattle.std.specs.List.{AllByRecursion}
-use Rattle.alw_msg.specs.declared.events.Entry.{Entry}
-use Rattle.alw_image.specs.Images.{node_count}
-use Rattle.alw_model.specs.Contexts.{slot_at}
-use Rattle.alw_model.specs.Machine.{state, node_at, step, has_halted, is_settled, end_of, IsNext}
+use Rattle.law_machine.proofs.Vocabulary.{Entry, node_count, slot_at, state, node_at, step, has_halted, is_settled, end_of, IsNext, moments, counts_of, count_holds}
 use Rattle.alw_model.specs.Machine as machine
-use Rattle.alw_model.specs.Runs.{moments}
-use Rattle.alw_model.specs.Counts.{counts_of, count_holds}
 use Rattle.law_machine.specs.Endings.{has_ended, may_go_on, EvictsInTime}
 use Rattle.law_machine.specs.Holds.{UsesHold}
 use Rattle.law_machine.specs.Machines.{OnEveryMachine}

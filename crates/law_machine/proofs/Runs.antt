@@ -6,36 +6,15 @@ use Rattle.std.proofs.lemmas.List.FromFn.{length-range_with_len, get_or-map-rang
 use Rattle.std.proofs.Math.Nat.{mod-add-div'}
 use Rattle.alw_num.proofs.Weigh.{at_nodes, cases_lt_then}
 use Rattle.alw_num.proofs.Sets.{join-none}
-use Rattle.alw_num.specs.NodeSets.{no_nodes}
-use Rattle.alw_num.specs.Weights.{digit}
-use Rattle.alw_num.specs.declared.addresses.Line.{Line}
-use Rattle.alw_num.specs.declared.states.Meta.TheVariants.{Normal}
-use Rattle.alw_msg.specs.declared.messages.Msg.{Msg}
-use Rattle.alw_msg.specs.declared.events.Event.{Event}
-use Rattle.alw_msg.specs.declared.events.Event.TheVariants.{Instr, Handle, Deliver, Evict}
-use Rattle.alw_msg.specs.declared.events.Entry.{Entry}
-use Rattle.alw_image.specs.declared.parts.Parts.{Parts}
-use Rattle.alw_image.specs.Images.{node_count, line_count, body_of, is_always}
-use Rattle.alw_image.specs.Parameters.{Parameters}
-use Rattle.alw_num.specs.Maps.{kept_if, value_at}
-use Rattle.alw_model.specs.FullMap.{home_start}
-use Rattle.alw_model.specs.LimitLess.{Directory, directory_start, full_map_of, or_always, is_in_progress}
-use Rattle.alw_model.specs.Caches.{Copy, copy_at, set_of}
-use Rattle.alw_model.specs.Messages.{home_node}
-use Rattle.alw_msg.specs.Events.{node_of}
-use Rattle.alw_model.specs.NodeStates.{NodeState, node_start, place_of, home_at, stamp_of}
-use Rattle.alw_model.specs.NodeSteps.{Stepped}
-use Rattle.alw_model.specs.Machine.{MachineState, machine_start, node_at, link_at, link_place, taken_by, links_taken, is_enabled, step, stepped_by, after, AreLegal, IsLegal, state}
-use Rattle.alw_model.specs.Lines.{LineState, absent, ups, downs, sent_by, line_node, line_of}
+use Rattle.law_machine.proofs.Vocabulary.{no_nodes, digit, Line, Normal, Msg, Event, Instr, Handle, Deliver, Evict, Entry, Parts, node_count, line_count, body_of, is_always, Parameters, kept_if}
+use Rattle.law_machine.proofs.Vocabulary.{value_at, home_start, Directory, directory_start, full_map_of, or_always, is_in_progress, Copy, copy_at, set_of, home_node, node_of, NodeState}
+use Rattle.law_machine.proofs.Vocabulary.{node_start, place_of, home_at, stamp_of, Stepped, MachineState, machine_start, node_at, link_at, link_place, taken_by, links_taken, is_enabled, step}
+use Rattle.law_machine.proofs.Vocabulary.{stepped_by, after, AreLegal, IsLegal, state, LineState, absent, ups, downs, sent_by, line_node, line_of, start, last_stored, Sound, EntryIsSound}
+use Rattle.law_machine.proofs.Vocabulary.{line_events, NodeStands, IsStanding}
 use Rattle.alw_num.proofs.MapLaws.{value-empty}
-use Rattle.law_line.specs.Protocol.{start, last_stored}
-use Rattle.law_line.specs.Sound.{Sound}
 use Rattle.law_line.proofs.Steps.{run_keeps}
 use Rattle.law_line.proofs.Steps as line
-use Rattle.law_entry.specs.Entries.{EntryIsSound}
 use Rattle.law_entry.proofs.Soundness as limitless
-use Rattle.law_lines.specs.LineEvents.{line_events}
-use Rattle.law_lines.specs.Standing.{NodeStands, IsStanding}
 use Rattle.law_lines.proofs.Links.{read_set, length-sent}
 use Rattle.law_lines.proofs.Following.{home_below}
 use Rattle.law_lines.proofs.Places.{place_fits}

@@ -2,36 +2,16 @@
 use Rattle.std.proofs.Common.{◌≡◌, ℕ, ◌<◌, ◌≤◌, ◌==◌, nat_lt, not, Bool, true, false, cond, Option, Some, None, List, [], ◌∷◌, IsTrue, refl, sym, subst, ap, ◌∙◌, arith}
 use Rattle.std.specs.List.{AllByRecursion}
 use Rattle.std.proofs.lemmas.Bool.{eq-eqb, eqb-true, ltb-true, false≢true}
-use Rattle.alw_num.specs.NodeSets.{has_node}
-use Rattle.alw_num.specs.Maps.{value_at, passes}
-use Rattle.alw_num.specs.declared.addresses.Line.{Line}
-use Rattle.alw_num.specs.declared.states.Mode.{Mode}
-use Rattle.alw_num.specs.declared.states.Mode.TheVariants.{Read, Write}
-use Rattle.sparc_table.specs.Turns.{need_of}
-use Rattle.sparc_table.specs.declared.outcomes.Need.{Need}
+use Rattle.law_machine.proofs.Vocabulary.{has_node, value_at, passes, Line, Mode, Read, Write, need_of, Need, Msg, Event, Instr, Handle, Deliver, Evict, Parts, node_count, line_count, Parameters}
+use Rattle.law_machine.proofs.Vocabulary.{ToMemory, ToCache, RDATA, WDATA, INV, BUSY, Content, ForMemory, ForCache, content, is_to_memory, Sends, full_map_of, is_trapped, is_in_progress, Copy}
+use Rattle.law_machine.proofs.Vocabulary.{Requests, Transaction, granted_copy, copy_at, give_up, evicted, replaced, invalidate, react, set_of, slot_at, running, home_node, to_homes, to_caches}
+use Rattle.law_machine.proofs.Vocabulary.{is_at_home, is_fit, node_of, NodeState, home_at, may, may_reach, may_deliver, opened, access, instr_by, instr, at_home, deliver_by, deliver, handle_by}
+use Rattle.law_machine.proofs.Vocabulary.{handle_front, event_at, clocked, msgs_to, GoBelow, IsPacket, NodeStands}
 use Rattle.sparc_table.specs.declared.outcomes.Need.TheVariants as needs
 use Rattle.sparc_table.proofs.Effects.{turn_exists}
-use Rattle.alw_msg.specs.declared.messages.Msg.{Msg}
-use Rattle.alw_msg.specs.declared.events.Event.{Event}
-use Rattle.alw_msg.specs.declared.events.Event.TheVariants.{Instr, Handle, Deliver, Evict}
-use Rattle.alw_image.specs.declared.parts.Parts.{Parts}
-use Rattle.alw_image.specs.Images.{node_count, line_count}
-use Rattle.alw_image.specs.Parameters.{Parameters}
-use Rattle.alw_msg.specs.Contents.{ToMemory, ToCache, RDATA, WDATA, INV, BUSY, Content, ForMemory, ForCache, content, is_to_memory}
-use Rattle.alw_model.specs.FullMap.{Sends}
-use Rattle.alw_model.specs.LimitLess.{full_map_of, is_trapped, is_in_progress}
-use Rattle.alw_model.specs.Caches.{Copy, Requests, Transaction, granted_copy, copy_at, give_up, evicted, replaced, invalidate, react, set_of}
-use Rattle.alw_model.specs.Contexts.{slot_at, running}
-use Rattle.alw_model.specs.Messages.{home_node, to_homes, to_caches, is_at_home, is_fit}
-use Rattle.alw_msg.specs.Events.{node_of}
-use Rattle.alw_model.specs.NodeStates.{NodeState, home_at, may, may_reach, may_deliver}
-use Rattle.alw_model.specs.ProcessorSteps.{opened}
-use Rattle.alw_model.specs.NodeSteps.{access, instr_by, instr, at_home, deliver_by, deliver, handle_by, handle_front, event_at, clocked}
 use Rattle.alw_model.proofs.Journals.{and_parts}
 use Rattle.law_line.proofs.Homes.{DestsBelow}
 use Rattle.law_entry.proofs.Actions.{hardware_acts}
-use Rattle.law_lines.specs.Links.{msgs_to, GoBelow}
-use Rattle.law_lines.specs.Standing.{IsPacket, NodeStands}
 use Rattle.law_lines.proofs.Contents.{content_is}
 use Rattle.law_lines.proofs.Destinations.{act_below}
 use Rattle.law_lines.proofs.Following.{home_below}

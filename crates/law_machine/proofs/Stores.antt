@@ -4,20 +4,10 @@ use Rattle.std.specs.List.{AllByRecursion, list_all}
 use Rattle.std.proofs.Math.Bool.{or-true}
 use Rattle.std.proofs.lemmas.Bool.{eq-eqb, lt-ltb, le-leb}
 use Rattle.std.proofs.lemmas.Bool.Decides.{nat_tests}
-use Rattle.alw_num.specs.NodeSets.{Nodes, has_node, members, count_nodes}
+use Rattle.law_machine.proofs.Vocabulary.{Nodes, has_node, members, count_nodes, Line, Parts, node_count, line_count, Parameters, Map, ascends_from, found, value_at, Cache, set_of, home_node}
+use Rattle.law_machine.proofs.Vocabulary.{MachineState, node_at, entry_of, points_rightly, caches_rightly, IsCache}
 use Rattle.alw_num.proofs.Sets.{each_member, has-join}
-use Rattle.alw_num.specs.declared.addresses.Line.{Line}
-use Rattle.alw_image.specs.declared.parts.Parts.{Parts}
-use Rattle.alw_image.specs.Images.{node_count, line_count}
-use Rattle.alw_image.specs.Parameters.{Parameters}
-use Rattle.alw_num.specs.Maps.{Map, ascends_from, found, value_at}
-use Rattle.alw_model.specs.Caches.{Cache, set_of}
-use Rattle.alw_model.specs.Messages.{home_node}
-use Rattle.alw_model.specs.Machine.{MachineState, node_at}
-use Rattle.alw_model.specs.Lines.{entry_of}
-use Rattle.alw_model.specs.MachineInvariant.{points_rightly, caches_rightly}
 use Rattle.alw_model.proofs.Journals.{and_is}
-use Rattle.law_lines.specs.Standing.{IsCache}
 use Rattle.law_lines.proofs.Following.{home_below}
 use Rattle.law_machine.specs.Values.{MachineIsSoundWith}
 

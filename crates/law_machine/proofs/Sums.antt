@@ -2,7 +2,7 @@
 use Rattle.std.proofs.Common.{◌≡◌, ℕ, zero, suc, ◌+◌, ◌*◌, ◌<◌, ◌≤◌, ◌==◌, max, fold, Bool, true, false, cond, List, [], ◌∷◌, length, get_or, set, map, refl, sym, ap, ◌∙◌, arith}
 use Rattle.std.proofs.lemmas.Bool.{eq-eqb, ne_eqb}
 use Rattle.std.proofs.Math.Nat.{suc-mul}
-use Rattle.alw_num.specs.Weights.{weigh, sum_below}
+use Rattle.law_machine.proofs.Vocabulary.{weigh, sum_below}
 use Rattle.alw_num.proofs.Weigh.{is_node, sum_none, sum_both}
 
 sum_first : (n : ℕ) (f : ℕ → ℕ) → sum_below (suc n) f ≡ f 0 + sum_below n (λ i. f (suc i))

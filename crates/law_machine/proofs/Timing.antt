@@ -4,28 +4,11 @@ use Rattle.std.specs.List.{AllByRecursion}
 use Rattle.std.proofs.lemmas.Bool.{eq-eqb, eqb-true, leb-true, false≢true}
 use Rattle.std.proofs.lemmas.List.{length-set}
 use Rattle.alw_num.proofs.Weigh.{at_nodes}
-use Rattle.alw_num.specs.NodeSets.{has_node}
-use Rattle.alw_num.specs.declared.addresses.Line.{Line}
-use Rattle.alw_msg.specs.declared.messages.Msg.{Msg}
-use Rattle.alw_msg.specs.declared.events.Event.{Event}
-use Rattle.alw_msg.specs.declared.events.Event.TheVariants.{Instr, Handle, Deliver, Evict}
-use Rattle.alw_image.specs.declared.parts.Parts.{Parts}
-use Rattle.alw_image.specs.Images.{node_count, line_count}
-use Rattle.alw_image.specs.Parameters.{Parameters}
-use Rattle.alw_msg.specs.Contents.{ToMemory, Content, ForMemory, ForCache, content}
-use Rattle.alw_model.specs.LimitLess.{full_map_of, is_trapped}
-use Rattle.alw_model.specs.Caches.{Copy, granted_copy}
-use Rattle.alw_model.specs.Contexts.{slot_at, running}
-use Rattle.alw_msg.specs.Events.{node_of}
-use Rattle.alw_model.specs.NodeStates.{NodeState, home_at, stamp_of}
-use Rattle.alw_model.specs.NodeSteps.{access, instr_by, instr, at_home, deliver_by, deliver, handle_by, handle_front, event_at, clocked}
-use Rattle.alw_msg.specs.Lists.{front, behind}
-use Rattle.alw_model.specs.Machine.{MachineState, machine_start, no_node, node_at, link_at, link_place, taken_by, links_taken, is_enabled, is_within_limit, has_halted, stamp_at, step, stepped_by}
-use Rattle.sparc_table.specs.declared.outcomes.Need.{Need}
+use Rattle.law_machine.proofs.Vocabulary.{has_node, Line, Msg, Event, Instr, Handle, Deliver, Evict, Parts, node_count, line_count, Parameters, ToMemory, Content, ForMemory, ForCache, content}
+use Rattle.law_machine.proofs.Vocabulary.{full_map_of, is_trapped, Copy, granted_copy, slot_at, running, node_of, NodeState, home_at, stamp_of, access, instr_by, instr, at_home, deliver_by}
+use Rattle.law_machine.proofs.Vocabulary.{deliver, handle_by, handle_front, event_at, clocked, front, behind, MachineState, machine_start, no_node, node_at, link_at, link_place, taken_by}
+use Rattle.law_machine.proofs.Vocabulary.{links_taken, is_enabled, is_within_limit, has_halted, stamp_at, step, stepped_by, Need, need_of, Mode, msgs_to}
 use Rattle.sparc_table.specs.declared.outcomes.Need.TheVariants as needs
-use Rattle.sparc_table.specs.Turns.{need_of}
-use Rattle.alw_num.specs.declared.states.Mode.{Mode}
-use Rattle.law_lines.specs.Links.{msgs_to}
 use Rattle.law_lines.proofs.Links.{read_set, link_sent}
 use Rattle.law_lines.proofs.Steps.{Enabled, enabled_is}
 use Rattle.law_machine.specs.Values.{MachineIsSoundWith}

@@ -3,18 +3,10 @@ use Rattle.std.proofs.Common.{◌≡◌, ℕ, ◌+◌, ◌<◌, ◌≤◌, ◌==
 use Rattle.std.specs.List.{AllByRecursion}
 use Rattle.std.proofs.lemmas.Bool.{eq-eqb, false≢true}
 use Rattle.std.proofs.lemmas.List.{length-append}
-use Rattle.alw_num.specs.Weights.{weigh, sum_below}
+use Rattle.law_machine.proofs.Vocabulary.{weigh, sum_below, Msg, Parts, node_count, line_count, Parameters, ToMemory, ToCache, Content, ForMemory, ForCache, content, request_in, reply_in}
+use Rattle.law_machine.proofs.Vocabulary.{is_to_memory, home_node, is_at_home, NodeState, MachineState, no_node, node_at, link_at, LineNode, ups, downs, sent_by, packets_at, line_of, IsPacket}
+use Rattle.law_machine.proofs.Vocabulary.{IsStanding}
 use Rattle.alw_num.proofs.Weigh.{le_sum, sum_le, sum_same, sum_both}
-use Rattle.alw_msg.specs.declared.messages.Msg.{Msg}
-use Rattle.alw_image.specs.declared.parts.Parts.{Parts}
-use Rattle.alw_image.specs.Images.{node_count, line_count}
-use Rattle.alw_image.specs.Parameters.{Parameters}
-use Rattle.alw_msg.specs.Contents.{ToMemory, ToCache, Content, ForMemory, ForCache, content, request_in, reply_in, is_to_memory}
-use Rattle.alw_model.specs.Messages.{home_node, is_at_home}
-use Rattle.alw_model.specs.NodeStates.{NodeState}
-use Rattle.alw_model.specs.Machine.{MachineState, no_node, node_at, link_at}
-use Rattle.alw_model.specs.Lines.{LineNode, ups, downs, sent_by, packets_at, line_of}
-use Rattle.law_lines.specs.Standing.{IsPacket, IsStanding}
 use Rattle.law_lines.proofs.CacheSide.{old_part}
 use Rattle.law_lines.proofs.Following.{home_below}
 use Rattle.law_machine.proofs.Sums.{weigh_sum, sum_pairs, sum_swap, sum_pick, sum_cond}

@@ -2,24 +2,12 @@
 use Rattle.std.proofs.Common.{◌≡◌, ℕ, ◌+◌, ◌*◌, ◌≤◌, Bool, true, false, Option, Some, None, List, [], ◌∷◌, ◌++◌, length, map, IsTrue, refl, ap, arith, length-append}
 use Rattle.std.specs.List.{flat_map}
 use Rattle.std.proofs.lemmas.List.{length-map}
-use Rattle.sparc_table.specs.declared.outcomes.Outcome.{Outcome}
-use Rattle.alw_msg.specs.declared.messages.Msg.{Msg}
-use Rattle.alw_msg.specs.declared.events.Event.{Event}
-use Rattle.alw_msg.specs.declared.events.Event.TheVariants.{Instr, Handle, Deliver, Evict}
-use Rattle.alw_msg.specs.declared.events.Entry.{Entry}
-use Rattle.alw_msg.specs.Contents.{ToMemory, Content, ForMemory, ForCache, content}
-use Rattle.alw_msg.specs.Events.{node_of}
-use Rattle.alw_image.specs.declared.parts.Parts.{Parts}
-use Rattle.alw_image.specs.Images.{node_count, IsImage}
-use Rattle.alw_image.specs.Parameters.{Parameters, AreParameters}
-use Rattle.alw_model.specs.declared.steps.Did.{Did}
+use Rattle.law_machine.proofs.Vocabulary.{Outcome, Msg, Event, Instr, Handle, Deliver, Evict, Entry, ToMemory, Content, ForMemory, ForCache, content, node_of, Parts, node_count, IsImage}
+use Rattle.law_machine.proofs.Vocabulary.{Parameters, AreParameters, Did, running, NodeState, memory_of, at_home, deliver_by, deliver, handle_by, handle_front, MachineState, machine_start}
+use Rattle.law_machine.proofs.Vocabulary.{node_at, taken_by, is_enabled, has_halted, step, stepped_by, IsNext, AreLegal, IsLegal, Moment, number_of, moments_from, moments, turn_in, turns_in}
+use Rattle.law_machine.proofs.Vocabulary.{turns_of}
 use Rattle.alw_model.specs.declared.steps.Did.TheVariants as acts
-use Rattle.alw_model.specs.Contexts.{running}
 use Rattle.alw_model.specs.MemorySteps as memory
-use Rattle.alw_model.specs.NodeStates.{NodeState, memory_of}
-use Rattle.alw_model.specs.NodeSteps.{at_home, deliver_by, deliver, handle_by, handle_front}
-use Rattle.alw_model.specs.Machine.{MachineState, machine_start, node_at, taken_by, is_enabled, has_halted, step, stepped_by, IsNext, AreLegal, IsLegal}
-use Rattle.alw_model.specs.Runs.{Moment, number_of, moments_from, moments, turn_in, turns_in, turns_of}
 use Rattle.law_lines.proofs.Steps.{enabled_is}
 use Rattle.law_machine.specs.Machines.{OnEveryMachine}
 use Rattle.law_machine.proofs.Ended.{halted_stays}

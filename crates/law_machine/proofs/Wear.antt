@@ -5,36 +5,16 @@ use Rattle.std.specs.Prelude.{is_some}
 use Rattle.std.proofs.lemmas.Bool.{ltb-true, false≢true}
 use Rattle.std.proofs.lemmas.List.{length-append, length-map, set_past}
 use Rattle.std.proofs.lemmas.Nat.{mul-add-lt}
-use Rattle.alw_num.specs.Weights.{weigh}
-use Rattle.alw_num.specs.Maps.{value_at, passes}
+use Rattle.law_machine.proofs.Vocabulary.{weigh, value_at, passes, NodeNo, Mode, Read, Write, Msg, Event, Instr, Handle, Deliver, Evict, Status, Ready, Waiting, Halted, Trapped, Parts}
+use Rattle.law_machine.proofs.Vocabulary.{node_count, Parameters, ToMemory, Content, ForMemory, ForCache, content, is_to_memory, full_map_of, hardware_of, is_trapped, hardware_act, Copy, Cache}
+use Rattle.law_machine.proofs.Vocabulary.{give_up, evicted, is_ready, is_halted, slot_at, running, to_homes, to_caches, is_fit, is_nonempty, front, behind, NodeState, home_at, stamp_of}
+use Rattle.law_machine.proofs.Vocabulary.{may_deliver, Stepped, clocked, at_home, deliver_by, deliver, handle_by, handle_front, MachineState, no_node, node_at, link_at, link_place, links_sent}
+use Rattle.law_machine.proofs.Vocabulary.{stamp_at, is_enabled, has_halted, after_step, step, stepped_by, IsPacket, is_evict}
 use Rattle.alw_num.proofs.MapLengths.{length-without}
 use Rattle.alw_num.proofs.Weigh.{cases_lt_then}
-use Rattle.alw_num.specs.declared.addresses.NodeNo.{NodeNo}
-use Rattle.alw_num.specs.declared.states.Mode.{Mode}
-use Rattle.alw_num.specs.declared.states.Mode.TheVariants.{Read, Write}
-use Rattle.alw_msg.specs.declared.messages.Msg.{Msg}
-use Rattle.alw_msg.specs.declared.events.Event.{Event}
-use Rattle.alw_msg.specs.declared.events.Event.TheVariants.{Instr, Handle, Deliver, Evict}
-use Rattle.alw_msg.specs.declared.contexts.Status.{Status}
-use Rattle.alw_msg.specs.declared.contexts.Status.TheVariants.{Ready, Waiting, Halted, Trapped}
-use Rattle.alw_image.specs.declared.parts.Parts.{Parts}
-use Rattle.alw_image.specs.Images.{node_count}
-use Rattle.alw_image.specs.Parameters.{Parameters}
-use Rattle.alw_msg.specs.Contents.{ToMemory, Content, ForMemory, ForCache, content, is_to_memory}
-use Rattle.alw_model.specs.LimitLess.{full_map_of, hardware_of, is_trapped, hardware_act}
-use Rattle.alw_model.specs.Caches.{Copy, Cache, give_up, evicted}
-use Rattle.alw_msg.specs.Statuses.{is_ready, is_halted}
-use Rattle.alw_model.specs.Contexts.{slot_at, running}
-use Rattle.alw_model.specs.Messages.{to_homes, to_caches, is_fit}
-use Rattle.alw_msg.specs.Lists.{is_nonempty, front, behind}
-use Rattle.alw_model.specs.NodeStates.{NodeState, home_at, stamp_of, may_deliver}
-use Rattle.alw_model.specs.NodeSteps.{Stepped, clocked, at_home, deliver_by, deliver, handle_by, handle_front}
-use Rattle.alw_model.specs.Machine.{MachineState, no_node, node_at, link_at, link_place, links_sent, stamp_at, is_enabled, has_halted, after_step, step, stepped_by}
 use Rattle.alw_model.proofs.Journals.{and_parts}
-use Rattle.law_lines.specs.Standing.{IsPacket}
 use Rattle.law_lines.proofs.Taken.{split_front}
 use Rattle.law_lines.proofs.Steps.{Fit, fit_is, enabled_is}
-use Rattle.alw_msg.specs.Events.{is_evict}
 use Rattle.law_machine.proofs.FlatSlots.{runs_ready}
 use Rattle.law_machine.proofs.ContextRuns.{HasContexts}
 use Rattle.law_machine.proofs.Ended.{halted_at}

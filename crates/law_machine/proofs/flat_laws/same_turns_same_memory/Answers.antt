@@ -1,6 +1,6 @@
 -- Both are the flat machine after the same turns.
 use Rattle.std.proofs.Common.{ap, sym, ◌∙◌}
-use Rattle.alw_model.specs.Flat.{flat_after, flat_prints}
+use Rattle.law_machine.proofs.Vocabulary.{flat_after, flat_prints}
 use Rattle.law_machine.proofs.FlatStarts.{flat_view_is, prints_are}
 use Rattle.law_machine.proofs.flat_laws.same_turns_same_memory.Goals as goal
 

@@ -1,5 +1,5 @@
 -- What the induction over a journal gives of entries and caches.
-use Rattle.alw_model.specs.Machine.{state}
+use Rattle.law_machine.proofs.Vocabulary.{state}
 use Rattle.law_machine.specs.Values.{stored_after}
 use Rattle.law_machine.proofs.Runs.{always_sound_with}
 use Rattle.law_machine.proofs.Stores.{entry_points, caches_stand, sizes_are}

@@ -1,5 +1,5 @@
 -- The induction over a journal, and what it gives of each line.
-use Rattle.alw_model.specs.Machine.{state}
+use Rattle.law_machine.proofs.Vocabulary.{state}
 use Rattle.law_machine.specs.Values.{stored_after}
 use Rattle.law_machine.proofs.Runs.{always_sound_with}
 use Rattle.law_machine.proofs.Lines.{invariant_of, value_of}
