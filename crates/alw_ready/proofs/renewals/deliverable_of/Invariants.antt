@@ -1,8 +1,8 @@
-use Rattle.alw_num.specs.NodeSets.{nodes_of, count_nodes}
+use Rattle.alw_num.specs.NodeSets.{AreBelow, nodes_of, count_nodes}
 use Rattle.alw_image.specs.Images.{node_count}
 use Rattle.alw_ready.specs.Rows.{delivery}
 use Rattle.alw_ready.specs.Fits.{may_happen}
-use Rattle.alw_ready.proofs.Renewing.{AreFound, AreBelow}
+use Rattle.alw_ready.proofs.Renewing.{AreFound}
 use Rattle.alw_ready.proofs.renewals.deliverable_of.Given as goal
 
 abbrev pub invariant-loop-from : goal.invariant-loop-from
