@@ -689,7 +689,7 @@ def check_texts(findings, rules):
     for group, row in case_rows():
         refused.add(row.get('error', '').partition(': ')[2])
         for rule, text, wanted in texts_of(row):
-            if rule and text and isinstance(text, str) and wanted != bool(forms[rule].fullmatch(text) and grammars.is_counted(text)):
+            if rule in forms and text and isinstance(text, str) and wanted != bool(forms[rule].fullmatch(text) and grammars.is_counted(text)):
                 findings.say(FORMATS, 0, f'a text of the case {group}: {row["name"]} is {"no" if wanted else "a"} {rule}, and it should{"" if wanted else " not"}')
     for number, cell in cells_below(FORMATS, 'line'):
         if cell.strip('`') not in refused:
