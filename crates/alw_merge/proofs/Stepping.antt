@@ -114,7 +114,7 @@ module _ {readings : List Reading} {waiting : Waiting} {head place : ℕ} (under
       pub goes_on : StreamIsUnderWay (set readings place after) again
       goes_on =
           let moved : ReadingGoesOn at.k at.reading after rest again =
-              subst (λ (k : ℕ). ReadingGoesOn k at.reading after rest again) same (subst (λ (r : Reading). ReadingGoesOn place r after rest again) is goes) in
+          subst (λ (k : ℕ). ReadingGoesOn k at.reading after rest again) same (subst (λ (r : Reading). ReadingGoesOn place r after rest again) is goes) in
           subst (λ (k : ℕ). StreamIsUnderWay (set readings k after) again) (sym same) (goes_to_next readings waiting rest again head after at under popped most moved)
 
       pub left_is : merged (map left_of (set readings place after)) ≡ behind (merged (map left_of readings))
