@@ -1,0 +1,13 @@
+pub mod Shown
+pub mod Chooses
+pub mod Machines
+pub mod Sent
+pub mod Steps
+pub mod Exact
+pub mod Runs
+pub mod Come
+pub mod Shows
+pub mod Leads
+pub mod Going
+pub mod Nodes
+pub mod Whole
