@@ -22,6 +22,7 @@ use Rattle.alw_ready.specs.Rows.{delivery}
 use Rattle.alw_ready.specs.Changes.{is_fed_for}
 use Rattle.alw_mesh.specs.Histories.{History, IsRun, grown, entry_of, state_of, may_be_next}
 use Rattle.alw_mesh.specs.Ends.{next_events}
+use Rattle.alw_mesh.proofs.Carriers.{none_is_empty}
 use Rattle.alw_due.specs.Due.{times_in, start_for, is_due_for, EventIsTimed, EventsAreTimed, StartsAscend}
 use Rattle.alw_due.proofs.Left as left
 use Rattle.alw_due.proofs.Mains.{here, in_next}
@@ -83,10 +84,6 @@ leaves_late (Handle at) start cost = omega arith
 leaves_late (Deliver from to) start cost = omega arith
 leaves_late (Evict at set) start cost = omega arith
 
-none_long : (msgs : List Msg) → front msgs ≡ None → length msgs ≡ 0
-none_long [] is = refl
-none_long (msg ∷ rest) is = absurd (cc)
-
 -- ---- two events
 
 module _ (h : History) (costs : Costs) (event : Event) (run : IsRun h) (timed : EventIsTimed h costs event) where
@@ -135,7 +132,7 @@ module _ (h : History) (costs : Costs) (event : Event) (run : IsRun h) (timed : 
 
       queue_is : queue_at times.arrivals p ≡ []
       queue_is = nil_from_length (queue_at times.arrivals p)
-          (beside_at AreAsMany times.arrivals (state_of h).links p [] [] refl (left.are h costs event run may).arrivals ∙ none_long (slice_index_or (state_of h).links p []) (none_there _ refl))
+          (beside_at AreAsMany times.arrivals (state_of h).links p [] [] refl (left.are h costs event run may).arrivals ∙ ap length (none_is_empty (slice_index_or (state_of h).links p []) (none_there _ refl)))
 
       abbrev leave : ℕ
       leave = leaves_at event (start_for h costs times event) (start_for h costs times event + cost_of costs (left.happened h costs event run may) (left.sends h costs event run may))

@@ -18,6 +18,7 @@ use Rattle.alw_model.proofs.Journals.{and_parts}
 use Rattle.law_lines.proofs.Steps.{enabled_is}
 use Rattle.law_order.specs.Orders.{SeesAlike}
 use Rattle.law_order.proofs.Local.{has_front, enabled_alike}
+use Rattle.alw_mesh.proofs.Carriers.{none_is_empty}
 use Rattle.alw_ready.specs.Fits.{may_happen}
 use Rattle.alw_times.specs.declared.costs.Costs.{Costs}
 use Rattle.alw_times.specs.Times.{Times, queue_at, first_time, woken_at, arrival_of, begin_by, work_before, start_by}
@@ -86,10 +87,6 @@ first_late : (bound : ℕ) (queue : List ℕ) (time : ℕ) → front queue ≡ S
 first_late bound [] time is all = absurd (cc)
 first_late bound (t ∷ rest) time is all = all.0
 
-nothing_there : (msgs : List Msg) → front msgs ≡ None → length msgs ≡ 0
-nothing_there [] is = refl
-nothing_there (msg ∷ rest) is = absurd (cc)
-
 -- ---- an event of the node
 
 module _ (parts : Parts) (parameters : Parameters) (bound : ℕ) (s : MachineState) (t : Times) (s' : MachineState) (t' : Times) where
@@ -156,7 +153,7 @@ module _ (parts : Parts) (parameters : Parameters) (bound : ℕ) (s : MachineSta
       go (Some msg) is =
           absurd (let same = may_so event sees limit (ap front on.link ∙ (front_more (link_at parts s' from.0 to.0) on.more msg is ∙ sym is)) in cc)
       go None is =
-          let none : queue_at t'.arrivals p ≡ [] = nil_from_length (queue_at t'.arrivals p) (beside_at AreAsMany t'.arrivals s'.links p [] [] refl also ∙ nothing_there (link_at parts s' from.0 to.0) is) in
+          let none : queue_at t'.arrivals p ≡ [] = nil_from_length (queue_at t'.arrivals p) (beside_at AreAsMany t'.arrivals s'.links p [] [] refl also ∙ ap length (none_is_empty (link_at parts s' from.0 to.0) is)) in
           let all : queue_at t.arrivals p ≡ on.arrivals.more = on.arrivals.after_is ∙ ap (λ (queue : List ℕ). queue ++ on.arrivals.more) none in
           let time = has_time parts parameters t.arrivals s.links event many (has_front parts parameters s event enabled) in
           let from_bound = first_late bound (queue_at t.arrivals p) time.0 time.1 (subst (λ (queue : List ℕ). AllByRecursion (λ arrival. bound ≤ arrival) queue) (sym all) on.arrivals.late) in
