@@ -1,5 +1,5 @@
 -- One node goes on in a machine as it does in its picture, while the pictures of all others still show theirs.
-use Rattle.std.proofs.Common.{◌≡◌, ◌≢◌, ℕ, ◌+◌, ◌<◌, ◌≤◌, ◌==◌, Bool, true, false, cond, List, [], ◌∷◌, ◌++◌, inl, inr, append-nil, append_assoc, refl, sym, ap, subst, ◌∙◌, arith}
+use Rattle.std.proofs.Common.{◌≡◌, ◌≢◌, ℕ, ◌+◌, ◌<◌, ◌≤◌, ◌==◌, Bool, true, false, cond, max, List, [], ◌∷◌, ◌++◌, inl, inr, append-nil, append_assoc, refl, sym, ap, subst, ◌∙◌, arith}
 use Rattle.alw_num.proofs.Weigh.{is_node}
 use Rattle.alw_msg.specs.declared.messages.Msg.{Msg}
 use Rattle.alw_msg.specs.declared.events.Event.{Event}
@@ -16,12 +16,13 @@ use Rattle.law_windows.proofs.Choices.{with_journal, and_event, run_grows}
 use Rattle.law_windows.proofs.Halted.{each_halted}
 use Rattle.law_windows.proofs.Limits.{NodeLeads}
 use Rattle.law_apart.specs.Pictures.{Picture, picture_of, IsPicture, ShowsBelow, ShowsBut, Shows, and_come}
-use Rattle.law_apart.specs.Alone.{LimitHolds, start_in, after_in, after_all, IsWholeIn, told_in, sent_by, sent_in}
+use Rattle.law_apart.specs.Alone.{LimitHolds, start_in, finish_in, after_in, after_all, IsWholeIn, told_in, sent_by, sent_in}
 use Rattle.law_apart.specs.Apart.{last_of, node_last, LimitStays, GoApart}
 use Rattle.law_apart.proofs.Exact.{but_alike}
 use Rattle.law_apart.proofs.Leads.{run_leads}
+use Rattle.law_apart.proofs.Machines.{grown_is}
 use Rattle.law_apart.proofs.Runs.{stays_picture}
-use Rattle.law_apart.proofs.Shows.{comes_alike, start_alike, own_shows, sends_alike, others_show, exact_next, more_next}
+use Rattle.law_apart.proofs.Shows.{comes_alike, start_alike, own_shows, finish_alike, sends_alike, others_show, exact_next, more_next}
 
 -- more and then more of one node is both
 more_both : (t : Bool) (xs a b : List (Msg × ℕ)) → cond t (cond t (xs ++ a) xs ++ b) (cond t (xs ++ a) xs) ≡ cond t (xs ++ (a ++ b)) xs
@@ -147,6 +148,12 @@ module _ (h : History) (costs : Costs) (from : ℕ) (pictures : ℕ → Picture)
       sends_same : (m : ℕ) → sent_by h.image h.parameters costs part m event ≡ sent_by h.image h.parameters costs (picture_of (with_journal h journal) costs) m event
       sends_same m = sends_alike (with_journal h journal) costs n bound part going.run (holds journal till) going.here.is going.here.shows event comes m
 
+      -- the greatest finish goes on in both by the same
+      latest_next : (in_machine next).times.latest ≡ max (in_machine journal).times.latest (finish_in h.image h.parameters costs part event)
+      latest_next = ap (λ (picture : Picture). picture.times.latest) (grown_is (with_journal h journal) costs event going.run comes.due.may)
+          ∙ ap (λ (finish : ℕ). max (in_machine journal).times.latest finish)
+          (finish_alike (with_journal h journal) costs n bound part going.run (holds journal till) going.here.is going.here.shows event comes)
+
     -- ---- it takes its run
 
     pub record Ran (journal : List Entry) (part : Picture) (events : List Event) : Type 0 where
@@ -155,6 +162,9 @@ module _ (h : History) (costs : Costs) (from : ℕ) (pictures : ℕ → Picture)
       pub after : List Entry
       pub after_is : grown_by (with_journal h journal) events ≡ with_journal h after
       pub going : Going after (after_all h.image h.parameters costs part events) []
+      pub latest : ℕ
+      pub whole_latest : (in_machine after).times.latest ≡ max (in_machine journal).times.latest latest
+      pub part_latest : (after_all h.image h.parameters costs part events).times.latest ≡ max part.times.latest latest
       pub exact : Shows h.image n (in_machine journal) part → Shows h.image n (picture_of (grown_by (with_journal h journal) events) costs) (after_all h.image h.parameters costs part events)
       pub more : (m : ℕ) → m < node_count h.image → (m ≡ n → events ≡ []) → (come : ℕ → List (Msg × ℕ)) (other : Picture) → ShowsBut h.image m come (in_machine journal) other →
           ShowsBut h.image m (and_come n (sent_in h.image h.parameters costs part m events) come) (picture_of (grown_by (with_journal h journal) events) costs) other
@@ -166,6 +176,9 @@ module _ (h : History) (costs : Costs) (from : ℕ) (pictures : ℕ → Picture)
       after = journal;
       after_is = refl;
       going = going;
+      latest = 0;
+      whole_latest = omega arith;
+      part_latest = omega arith;
       exact = λ shows. shows;
       more = λ m below none come other shows. but_alike h.image m (in_machine journal) other come (and_come n [] come) (λ k lt differ. more_none (k == n) (come k)) shows;
     }
@@ -178,6 +191,9 @@ module _ (h : History) (costs : Costs) (from : ℕ) (pictures : ℕ → Picture)
           after = deep.after;
           after_is = deep.after_is;
           going = deep.going;
+          latest = max (finish_in h.image h.parameters costs part event) deep.latest;
+          whole_latest = let first = latest_next journal part event rest going in let then = deep.whole_latest in omega (arith, first, then);
+          part_latest = let then = deep.part_latest in omega (arith, then);
           exact = λ shows. deep.exact (subst (λ (k : ℕ). Shows h.image k (in_machine (and_event h journal event)) (after_in h.image h.parameters costs part event)) now.due.node
               (exact_next (with_journal h journal) costs part going.run going.here.is event now.due.may (subst (λ (k : ℕ). Shows h.image k (in_machine journal) part) (sym now.due.node) shows)));
           more = λ m below none come other shows.

@@ -1,5 +1,5 @@
 -- Nodes take their runs one after another in a machine, each as it does in its picture.
-use Rattle.std.proofs.Common.{◌≡◌, ℕ, zero, suc, ◌<◌, ◌==◌, Bool, true, false, cond, ◌||◌, List, [], ◌∷◌, length, slice_index_or, refl, sym, ap, subst, ◌∙◌, arith}
+use Rattle.std.proofs.Common.{◌≡◌, ℕ, zero, suc, ◌<◌, ◌≤◌, ◌==◌, Bool, true, false, cond, max, ◌||◌, List, [], ◌∷◌, length, slice_index_or, refl, sym, ap, subst, ◌∙◌, arith}
 use Rattle.std.specs.List.{AllByRecursion, Contains, list_any}
 use Rattle.std.proofs.lemmas.Bool.{eq-eqb}
 use Rattle.alw_num.proofs.Weigh.{at_nodes}
@@ -19,7 +19,7 @@ use Rattle.law_windows.proofs.Following as follow
 use Rattle.law_windows.proofs.InTurn.{grown_both}
 use Rattle.law_apart.specs.Pictures.{Picture, picture_of, ShowsBut, and_come}
 use Rattle.law_apart.specs.Alone.{after_all, sent_in}
-use Rattle.law_apart.specs.Apart.{node_last, GoApart}
+use Rattle.law_apart.specs.Apart.{last_of, node_last, latest_by, GoApart}
 use Rattle.law_apart.proofs.Exact.{below_of}
 use Rattle.law_apart.proofs.Going.{bound, in_machine, Stands, TillLast, till_last, holds, lifts, Going, Ran, ran}
 use Rattle.law_apart.proofs.Shown.{machine_is}
@@ -122,17 +122,42 @@ module _ (h : History) (costs : Costs) (from : ℕ) (pictures : ℕ → Picture)
 
   -- ---- all of them
 
+  -- the greatest finish in a machine
+  abbrev finish_of_all : List Entry → ℕ
+  finish_of_all journal = (in_machine h costs from pictures own apart journal).times.latest
+
+  -- where no picture has a greater one, one node's run leaves the greatest of both, and again none has a greater one
+  module _ (journal : List Entry) (at : Places) (stand : Stand journal at)
+      (low : (k : ℕ) → k < node_count h.image → (at k).0.times.latest ≤ finish_of_all journal) (n : ℕ) (exists : n < node_count h.image) where
+    abbrev once : List Entry
+    once = (node_ran journal at stand n exists).after
+
+    finish_once : finish_of_all once ≡ max (finish_of_all journal) (last_of h costs pictures own n).times.latest
+    finish_once =
+        let whole = (node_ran journal at stand n exists).whole_latest in
+        let part = (node_ran journal at stand n exists).part_latest in
+        let last = ap (λ (picture : Picture). picture.times.latest) (stand.each n exists).ends in
+        let le = low n exists in
+        omega (arith, whole, part, last, le)
+
+    low_once : (k : ℕ) → k < node_count h.image → (done h costs n at k).0.times.latest ≤ finish_of_all once
+    low_once = at_nodes (λ k (place : Picture × List Event). k < node_count h.image → place.0.times.latest ≤ finish_of_all once) at n (after_all h.image h.parameters costs (at n).0 (at n).1, [])
+        (λ below. let part = (node_ran journal at stand n exists).part_latest in let whole = (node_ran journal at stand n exists).whole_latest in
+        let le = low n exists in omega (arith, part, whole, le))
+        (λ k other below. let whole = (node_ran journal at stand n exists).whole_latest in let le = low k below in omega (arith, whole, le))
+
   pub record InTurn (journal : List Entry) (nodes : List ℕ) (at : Places) : Type 0 where
     pub turns : RunInTurn (with_journal h journal) costs (bound h costs from pictures own apart) nodes (parts_by h costs nodes at)
     pub after : List Entry
     pub after_is : grown_by (with_journal h journal) (in_turn (parts_by h costs nodes at)) ≡ with_journal h after
     pub stand : Stand after (at_end h costs nodes at)
+    pub latest : ((k : ℕ) → k < node_count h.image → (at k).0.times.latest ≤ finish_of_all journal) → finish_of_all after ≡ latest_by (last_of h costs pictures own) nodes (finish_of_all journal)
     pub more : (m : ℕ) → m < node_count h.image → (at m).1 ≡ [] → (come : ℕ → List (Msg × ℕ)) (other : Picture) →
         ShowsBut h.image m come (in_machine h costs from pictures own apart journal) other →
         ShowsBut h.image m (come_by h costs m nodes at come) (in_machine h costs from pictures own apart after) other
 
   pub all_in_turn : (journal : List Entry) (nodes : List ℕ) (at : Places) → AllByRecursion (λ n. n < node_count h.image) nodes → Stand journal at → InTurn journal nodes at
-  all_in_turn journal [] at below stand = record { turns = tt; after = journal; after_is = refl; stand = stand; more = λ m exists none come other shows. shows }
+  all_in_turn journal [] at below stand = record { turns = tt; after = journal; after_is = refl; stand = stand; latest = λ low. refl; more = λ m exists none come other shows. shows }
   all_in_turn journal (n ∷ nodes) at below stand =
       let g = with_journal h journal in
       let one = node_ran journal at stand n below.0 in
@@ -144,6 +169,7 @@ module _ (h : History) (costs : Costs) (from : ℕ) (pictures : ℕ → Picture)
         after = rest.after;
         after_is = grown_both g (at n).1 (in_turn parts) ∙ (ap (λ (last : History). grown_by last (in_turn parts)) one.after_is ∙ rest.after_is);
         stand = rest.stand;
+        latest = λ low. rest.latest (low_once journal at stand low n below.0) ∙ ap (latest_by (last_of h costs pictures own) nodes) (finish_once journal at stand low n below.0);
         more = λ m exists none come other shows.
             let sent = sent_in h.image h.parameters costs (at n).0 m (at n).1 in
             let first = one.more m exists (λ same. subst (λ (k : ℕ). (at k).1 ≡ []) same none) come other shows in

@@ -4,19 +4,19 @@ use Rattle.alw_msg.specs.declared.messages.Msg.{Msg}
 use Rattle.alw_msg.specs.declared.events.Event.{Event}
 use Rattle.alw_msg.specs.Events.{node_of}
 use Rattle.alw_image.specs.Images.{node_count}
-use Rattle.alw_model.specs.Machine.{is_enabled}
+use Rattle.alw_model.specs.Machine.{taken_by, is_enabled}
 use Rattle.alw_model.proofs.Journals.{and_parts}
 use Rattle.alw_mesh.specs.Histories.{History, IsRun, grown, state_of, may_be_next}
 use Rattle.alw_times.specs.declared.costs.Costs.{Costs}
 use Rattle.law_times.proofs.Orders.{AreTimesOf}
 use Rattle.law_windows.specs.Windows.{lookahead, start_next, ComesBelow}
 use Rattle.law_apart.specs.Pictures.{Picture, picture_of, IsPicture, ShowsBelow, ShowsBut, Shows, and_come}
-use Rattle.law_apart.specs.Alone.{LimitHolds, start_in, after_in, ComesIn, sent_by}
+use Rattle.law_apart.specs.Alone.{LimitHolds, start_in, finish_in, after_in, ComesIn, sent_by}
 use Rattle.law_apart.proofs.Shown.{SeesPart, are_of, machine_is, sees_of, shows_of}
 use Rattle.law_apart.proofs.Chooses.{takes, start_same, comes_in_other, comes_in_one}
 use Rattle.law_apart.proofs.Machines.{grown_is, comes_is}
 use Rattle.law_apart.proofs.Runs.{enabled_in}
-use Rattle.law_apart.proofs.Steps.{own_sees, other_shows, sent_same}
+use Rattle.law_apart.proofs.Steps.{own_sees, other_shows, finish_same, sent_same}
 use Rattle.law_apart.proofs.Exact.{own_exact, other_more}
 
 -- what may be next is enabled
@@ -61,9 +61,14 @@ module _ (h : History) (costs : Costs) (n bound : ℕ) (part : Picture) (run : I
         (subst (λ (k : ℕ). SeesPart h.image k (after_in h.image h.parameters costs whole event) then bound) comes.due.node
         (own_sees h.image h.parameters costs whole part event bound (machine_is h costs run) also enabled' sees_here)))
 
+    taken_same : taken_by h.image (state_of h) event ≡ taken_by h.image part.state event
+    taken_same = (takes h.image h.parameters costs n bound whole part are are' sees event comes.due.node enabled').taken
+
+    pub finish_alike : finish_in h.image h.parameters costs (picture_of h costs) event ≡ finish_in h.image h.parameters costs part event
+    finish_alike = finish_same h.image h.parameters costs whole part event bound sees_here taken_same (sym (start_alike event comes))
+
     pub sends_alike : (to : ℕ) → sent_by h.image h.parameters costs part to event ≡ sent_by h.image h.parameters costs (picture_of h costs) to event
-    sends_alike to = sent_same h.image h.parameters costs whole part event bound to sees_here
-        (takes h.image h.parameters costs n bound whole part are are' sees event comes.due.node enabled').taken (sym (start_alike event comes))
+    sends_alike = sent_same h.image h.parameters costs whole part event bound sees_here taken_same (sym (start_alike event comes))
 
   pub others_show : n < node_count h.image → (event : Event) → may_be_next h event ≡ true → n ≢ node_of event → bound ≤ start_next h costs event + lookahead costs →
       ShowsBelow h.image n bound (picture_of (grown h event) costs) part

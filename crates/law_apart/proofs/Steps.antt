@@ -17,7 +17,7 @@ use Rattle.law_windows.proofs.Others.{other_sees}
 use Rattle.law_windows.proofs.Sees.{alike_so}
 use Rattle.law_windows.proofs.Together.{together_sees}
 use Rattle.law_apart.specs.Pictures.{Picture, IsPicture}
-use Rattle.law_apart.specs.Alone.{happening_in, sends_in, start_in, after_in, out_to, sent_by}
+use Rattle.law_apart.specs.Alone.{happening_in, sends_in, start_in, finish_in, after_in, out_to, sent_by}
 use Rattle.law_apart.proofs.Shown.{SeesPart, are_of, picture_is}
 
 module _ (image : Parts) (parameters : Parameters) (costs : Costs) where
@@ -47,20 +47,23 @@ module _ (image : Parts) (parameters : Parameters) (costs : Costs) where
     other_shows n bound is exists apart enabled low sees =
         other_sees image parameters costs n bound whole.state whole.times part.state part.times event exists apart enabled (are_of image parameters costs whole is) low sees
 
-    -- what is sent is the same
-    pub sent_same : (bound to : ℕ) → SeesPart image (node_of event) whole part bound → taken_by image whole.state event ≡ taken_by image part.state event →
-        start_in image parameters costs whole event ≡ start_in image parameters costs part event → sent_by image parameters costs part to event ≡ sent_by image parameters costs whole to event
-    sent_same bound to sees taken starts = sym (λ x.
-        out_to image costs n (leaves_at event (starts x) (starts x + cost_of costs (happens x) (sends x))) to (sees.ports.here x) (sends x))
-      where
-        n : ℕ
-        n = node_of event
+    -- ---- where it sees the same
 
-        alike : SeesAlike image event whole.state part.state
-        alike = alike_so image parameters bound whole.state whole.times part.state part.times event sees taken
+    module _ (bound : ℕ) (sees : SeesPart image (node_of event) whole part bound) (taken : taken_by image whole.state event ≡ taken_by image part.state event)
+        (starts : start_in image parameters costs whole event ≡ start_in image parameters costs part event) where
+      alike : SeesAlike image event whole.state part.state
+      alike = alike_so image parameters bound whole.state whole.times part.state part.times event sees taken
 
-        happens : happening_in image parameters whole event ≡ happening_in image parameters part event
-        happens = ap happened_of (moment_alike image parameters costs whole.state part.state (record { stamp = 0; event = event }) alike)
+      happens : happening_in image parameters whole event ≡ happening_in image parameters part event
+      happens = ap happened_of (moment_alike image parameters costs whole.state part.state (record { stamp = 0; event = event }) alike)
 
-        sends : sends_in image parameters whole event ≡ sends_in image parameters part event
-        sends x = (stepped_alike image parameters whole.state part.state event alike x).sends
+      sends : sends_in image parameters whole event ≡ sends_in image parameters part event
+      sends x = (stepped_alike image parameters whole.state part.state event alike x).sends
+
+      -- it finishes at the same time
+      pub finish_same : finish_in image parameters costs whole event ≡ finish_in image parameters costs part event
+      finish_same x = starts x + cost_of costs (happens x) (sends x)
+
+      -- and sends the same
+      pub sent_same : (to : ℕ) → sent_by image parameters costs part to event ≡ sent_by image parameters costs whole to event
+      sent_same to = sym (λ x. out_to image costs (node_of event) (leaves_at event (starts x) (finish_same x)) to (sees.ports.here x) (sends x))

@@ -10,6 +10,7 @@ use Rattle.alw_msg.specs.declared.events.Event.{Event}
 use Rattle.alw_image.specs.Images.{node_count}
 use Rattle.alw_mesh.specs.Histories.{History, IsRun, grown}
 use Rattle.alw_times.specs.declared.costs.Costs.{Costs}
+use Rattle.alw_due.specs.Due.{times_in}
 use Rattle.alw_due.proofs.Mains.{here}
 use Rattle.law_windows.specs.Turns.{in_turn, GoInTurn, IsSortOf, events_told, sort_by_start}
 use Rattle.law_windows.specs.Windows.{start_next, grown_by, IsRunAlone, events_of, timeline, told_of}
@@ -21,7 +22,7 @@ use Rattle.law_windows.proofs.Sorting.{is_sorted}
 use Rattle.law_windows.proofs.Windows.{front_of}
 use Rattle.law_apart.specs.Pictures.{Picture, picture_of, ShowsBut, Shows, and_come, all_come}
 use Rattle.law_apart.specs.Alone.{after_all, told_in, sent_in}
-use Rattle.law_apart.specs.Apart.{nodes_of, parts_of, last_of, GoApart}
+use Rattle.law_apart.specs.Apart.{nodes_of, parts_of, last_of, latest_by, GoApart}
 use Rattle.law_apart.proofs.Come.{put_all}
 use Rattle.law_apart.proofs.Exact.{but_alike}
 use Rattle.law_apart.proofs.Going.{bound, in_machine, Ran}
@@ -130,6 +131,15 @@ module _ (h : History) (costs : Costs) (from : ℕ) (pictures : ℕ → Picture)
       told_alike n = cases_lt_then (node_count h.image) n
           (λ exists. told nodes parts go n exists ∙ sym (told nodes' parts' go' n exists))
           (λ le. nothing_beyond nodes parts go n le ∙ sym (nothing_beyond nodes' parts' go' n le))
+
+  -- ---- the greatest finish
+
+  pub all_latest : ((n : ℕ) → n < node_count h.image → (pictures n).times.latest ≤ (times_in h costs).latest) →
+      (times_in (grown_by h (in_turn (parts_of h own))) costs).latest ≡ latest_by (last_of h costs pictures own) (nodes_of h) (times_in h costs).latest
+  all_latest low =
+      let all = all_in_turn h costs from pictures own apart h.journal (nodes_of h) at below stand in
+      ap (λ (parts : List (List Event)). (times_in (grown_by h (in_turn parts)) costs).latest) (sym parts_is)
+      ∙ (ap (λ (g : History). (times_in g costs).latest) all.after_is ∙ all.latest low)
 
   -- ---- what a last picture shows
 

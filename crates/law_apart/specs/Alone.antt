@@ -14,7 +14,7 @@ use Rattle.alw_mesh.specs.Histories.{History, IsRun, state_of}
 use Rattle.alw_times.specs.declared.costs.Costs.{Costs}
 use Rattle.alw_times.specs.declared.happenings.TimedMoment.{TimedMoment}
 use Rattle.alw_times.specs.Happening.{happened_of}
-use Rattle.alw_times.specs.Times.{time_at, queue_at, is_later, start_by, length_of, leaves_at, start_of, finish_of, passed}
+use Rattle.alw_times.specs.Times.{time_at, queue_at, is_later, start_by, length_of, leaves_at, cost_of, passed}
 use Rattle.alw_due.specs.Due.{rank_of, arrived_at, sender_of, is_before}
 use Rattle.law_windows.specs.Windows.{NoneIsAtLimit}
 use Rattle.law_apart.specs.Pictures.{Picture, picture_of, IsPicture, ShowsBelow, ShowsBut}
@@ -56,6 +56,10 @@ module _ (image : Parts) (parameters : Parameters) where
     -- when an event would start
     abbrev pub start_in : Picture → Event → ℕ
     start_in picture event = let node = node_at picture.state (node_of event) in start_by image costs picture.times (running node.slots node.current) event
+
+    -- and finish
+    abbrev pub finish_in : Picture → Event → ℕ
+    finish_in picture event = start_in picture event + cost_of costs (happening_in picture event) (sends_in picture event)
 
     -- an event is due, but for an instruction that a packet interrupts
     abbrev pub is_due_in : Picture → Event → Bool
@@ -119,10 +123,8 @@ module _ (image : Parts) (parameters : Parameters) (costs : Costs) where
   -- what an event sends to a node, each message with its arrival
   abbrev pub sent_by : Picture → ℕ → Event → List (Msg × ℕ)
   sent_by picture to event =
-      let happened = happening_in image parameters picture event in
-      let sends = sends_in image parameters picture event in
-      let leave = leaves_at event (start_of image costs picture.times happened) (finish_of image costs picture.times happened sends) in
-      out_to image costs (node_of event) leave to (time_at picture.times.ports (node_of event)) sends
+      let leave = leaves_at event (start_in image parameters costs picture event) (finish_in image parameters costs picture event) in
+      out_to image costs (node_of event) leave to (time_at picture.times.ports (node_of event)) (sends_in image parameters picture event)
 
   -- what the events of a run send to it
   abbrev pub sent_in : Picture → ℕ → List Event → List (Msg × ℕ)

@@ -1,5 +1,5 @@
 -- Nodes that go through a window apart: each takes its whole run in a picture of its own.
-use Rattle.std.specs.Prelude.{◌≡◌, ℕ, ◌+◌, ◌<◌, ◌⊎◌, false, List, map}
+use Rattle.std.specs.Prelude.{◌≡◌, ℕ, ◌+◌, ◌<◌, ◌⊎◌, false, max, List, [], ◌∷◌, map}
 use Rattle.std.specs.List.{list_any, range_with_len}
 use Rattle.alw_msg.specs.declared.events.Event.{Event}
 use Rattle.alw_msg.specs.Statuses.{has_trapped}
@@ -27,6 +27,11 @@ last_of h costs pictures own n = after_all h.image h.parameters costs (pictures 
 
 abbrev pub node_last : History → Costs → (ℕ → Picture) → (ℕ → List Event) → ℕ → NodeState
 node_last h costs pictures own n = node_at (last_of h costs pictures own n).state n
+
+-- the greatest of a finish and those of some pictures
+abbrev pub latest_by : (ℕ → Picture) → List ℕ → ℕ → ℕ
+latest_by last [] finish = finish
+latest_by last (n ∷ nodes) finish = latest_by last nodes (max finish (last n).times.latest)
 
 -- none of these nodes is at the limit, or one has a slot that hasn't halted
 abbrev pub LimitStays : History → (ℕ → NodeState) → Type 0

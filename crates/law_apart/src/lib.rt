@@ -9,11 +9,12 @@ ghost use Rattle.alw_image.specs.declared.parts.Parts.{Parts};
 ghost use Rattle.alw_image.specs.Images.{node_count};
 ghost use Rattle.alw_mesh.specs.Histories.{History, IsRun, may_be_next, grown};
 ghost use Rattle.alw_times.specs.declared.costs.Costs.{Costs};
+ghost use Rattle.alw_due.specs.Due.{times_in};
 ghost use Rattle.law_windows.specs.Windows.{lookahead, start_next, ComesBelow, timeline, told_of, grown_by};
 ghost use Rattle.law_windows.specs.Turns.{in_turn, GoInTurn, IsSortOf, events_told};
 ghost use Rattle.law_apart.specs.Pictures.{Picture, picture_of, IsPicture, HasCome, ShowsBelow, ShowsBut, Shows, all_come, and_come};
 ghost use Rattle.law_apart.specs.Alone.{after_in, after_all, start_in, ComesIn, told_in, sent_by, sent_in, WhereRunIn, WhereShownBelow, WhereShownBut};
-ghost use Rattle.law_apart.specs.Apart.{nodes_of, parts_of, last_of, WhereNodesGoApart};
+ghost use Rattle.law_apart.specs.Apart.{nodes_of, parts_of, last_of, latest_by, WhereNodesGoApart};
 
 /// A machine is a picture. One stays a picture along a node's run, and where messages come. What the run sends to
 /// another node stands behind what was on the link to it, each message with its arrival.
@@ -48,13 +49,16 @@ pub fn pictures_show_nodes()
 
 /// Nodes may go through a window apart, each in a picture of its own. What each did is then a run in turn of all,
 /// and is told there with the same starts. Once what the others sent to a node has come, its last picture shows
-/// it in the machine that they leave, and in the machine that the sort leaves.
+/// it in the machine that they leave, and in the machine that the sort leaves. The greatest finish is that of the last
+/// pictures, and of the machine before.
 pub fn nodes_may_go_apart()
     ensures turns { WhereNodesGoApart (λ h costs from pictures own. GoInTurn h costs from (nodes_of h) (parts_of h own)) }
     ensures told { WhereNodesGoApart (λ h costs from pictures own. (n : ℕ) → n < node_count h.image →
         told_of n (timeline h costs (in_turn (parts_of h own))) ≡ told_in h.image h.parameters costs (pictures n) (own n)) }
     ensures shows { WhereNodesGoApart (λ h costs from pictures own. (n : ℕ) → n < node_count h.image → Shows h.image n (picture_of (grown_by h (in_turn (parts_of h own))) costs)
         (all_come h.image n (λ k. sent_in h.image h.parameters costs (pictures k) n (own k)) (nodes_of h) (last_of h costs pictures own n))) }
+    ensures latest { WhereNodesGoApart (λ h costs from pictures own. ((n : ℕ) → n < node_count h.image → (pictures n).times.latest ≤ (times_in h costs).latest) →
+        (times_in (grown_by h (in_turn (parts_of h own))) costs).latest ≡ latest_by (last_of h costs pictures own) (nodes_of h) (times_in h costs).latest) }
     ensures sorted { WhereNodesGoApart (λ h costs from pictures own. (sorted : List (ℕ × Event)) → IsSortOf sorted (timeline h costs (in_turn (parts_of h own))) → (n : ℕ) → n < node_count h.image →
         Shows h.image n (picture_of (grown_by h (events_told sorted)) costs)
         (all_come h.image n (λ k. sent_in h.image h.parameters costs (pictures k) n (own k)) (nodes_of h) (last_of h costs pictures own n))) }
