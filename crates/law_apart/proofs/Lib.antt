@@ -11,3 +11,4 @@ pub mod Leads
 pub mod Going
 pub mod Nodes
 pub mod Whole
+pub mod Through

@@ -1,3 +1,4 @@
 pub mod Pictures
 pub mod Alone
 pub mod Apart
+pub mod Through

@@ -11,10 +11,12 @@ ghost use Rattle.alw_mesh.specs.Histories.{History, IsRun, may_be_next, grown};
 ghost use Rattle.alw_times.specs.declared.costs.Costs.{Costs};
 ghost use Rattle.alw_due.specs.Due.{times_in};
 ghost use Rattle.law_windows.specs.Windows.{lookahead, start_next, ComesBelow, timeline, told_of, grown_by};
+ghost use Rattle.law_windows.specs.Following.{WindowsFollow};
 ghost use Rattle.law_windows.specs.Turns.{in_turn, GoInTurn, IsSortOf, events_told};
 ghost use Rattle.law_apart.specs.Pictures.{Picture, picture_of, IsPicture, HasCome, ShowsBelow, ShowsBut, Shows, all_come, and_come};
 ghost use Rattle.law_apart.specs.Alone.{after_in, after_all, start_in, ComesIn, told_in, sent_by, sent_in, WhereRunIn, WhereShownBelow, WhereShownBut};
 ghost use Rattle.law_apart.specs.Apart.{nodes_of, parts_of, last_of, latest_by, WhereNodesGoApart};
+ghost use Rattle.law_apart.specs.Through.{pictures_behind, told_through, windows_of, machine_behind, WhereWindowsAreTaken};
 
 /// A machine is a picture. One stays a picture along a node's run, and where messages come. What the run sends to
 /// another node stands behind what was on the link to it, each message with its arrival.
@@ -62,4 +64,15 @@ pub fn nodes_may_go_apart()
     ensures sorted { WhereNodesGoApart (λ h costs from pictures own. (sorted : List (ℕ × Event)) → IsSortOf sorted (timeline h costs (in_turn (parts_of h own))) → (n : ℕ) → n < node_count h.image →
         Shows h.image n (picture_of (grown_by h (events_told sorted)) costs)
         (all_come h.image n (λ k. sent_in h.image h.parameters costs (pictures k) n (own k)) (nodes_of h) (last_of h costs pictures own n))) }
+{}
+
+/// Nodes may go apart through windows one behind another, where between two of them nothing is handed over but
+/// what was sent. Their events, window after window and each sorted by start and then by node, are what the timed
+/// schedule takes; each node is told there as in its pictures, and its last one shows it as the machine stands.
+pub fn windows_go_apart()
+    ensures follow { WhereWindowsAreTaken (λ h costs from pictures windows. WindowsFollow h costs from (windows_of h costs windows) (machine_behind h costs windows)) }
+    ensures told { WhereWindowsAreTaken (λ h costs from pictures windows. (n : ℕ) → n < node_count h.image →
+        told_of n (timeline h costs (in_turn (windows_of h costs windows))) ≡ told_through h.image h.parameters costs pictures n windows) }
+    ensures shows { WhereWindowsAreTaken (λ h costs from pictures windows. (n : ℕ) → n < node_count h.image →
+        Shows h.image n (picture_of (machine_behind h costs windows) costs) (pictures_behind h.image h.parameters costs pictures windows n)) }
 {}
