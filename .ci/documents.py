@@ -20,7 +20,8 @@ What is tested:
 - docs/FORMATS.md: its rules have the words that the definitions of texts spell, and no other, and each a name of its own. What each case writes is of its rule, and what is refused
   for its form isn't. Its tables have each event, message, state, status, trap type, key, field and fault of the definitions, and no other; each line of a
   refusal is that of a case. Each text that tools/words.py names has a rule, which begins as it says, and the table of formats says what reads it.
-- docs/ARCHITECTURE.md has each crate of crates.txt, in that order, and no other. tools/took.csv has each crate that the program is made from, and no other.
+- the table of docs/ARCHITECTURE.md has each crate of crates.txt with the first sentence of its README, as .ci/floors.py writes it. tools/took.csv has each crate that the
+  program is made from, and no other.
 - a crate of crates.txt stands on crates of its own floor and of those that the floor's line names; what it lists else is of the toolchain.
 - cases/README.md names each group of cases, but for those that have the name of a command. Each command is called by a case.
 - docs/REFUSALS.md: each row has calls of its crate, a clause of one of them or a word of it, and tests or cases, these as `group: name`; and each call of these crates that
@@ -39,6 +40,7 @@ from pathlib import Path
 
 sys.path.insert(0, str(Path(__file__).resolve().parent.parent / 'tools'))
 sys.dont_write_bytecode = True
+import floors
 import grammars
 import places
 import words
@@ -257,7 +259,7 @@ def name_of(row):
 def named_rows(repository):
     """The rows of each named promise, by its name, each with its crate; floor by floor."""
     found = {}
-    for name in crates_in_order():
+    for name in floors.crates():
         for row in promise_rows(repository[name]) if name in repository else ():
             if name_of(row):
                 found.setdefault(name_of(row), []).append((repository[name], row))
@@ -423,62 +425,13 @@ def check_times(findings):
                 findings.say(file, 0, f"doesn't say {time}, which is the launcher's {name}")
 
 
-def check_architecture(findings, repository):
-    """crates.txt, the folders of crates/ and the table of docs/ARCHITECTURE.md have the same crates."""
-    listed = crates_in_order()
-    file = ROOT / 'docs' / 'ARCHITECTURE.md'
-    shown = [name for head, rows in tables_of(file.read_text()) if head[0] == 'crate' for row in rows for name in SPAN.findall(row.cells[0])]
-    for name in sorted(set(listed) ^ set(repository)):
-        findings.say(ROOT / 'crates.txt', 0, f'{name} stands in crates.txt or in crates/, and not in both')
-    for name in sorted(set(shown) ^ set(listed)):
-        findings.say(file, 0, f'{name} stands in its table or in crates.txt, and not in both')
-    if sorted(shown) == sorted(listed) and shown != listed:
-        findings.say(file, 0, 'its crates are not in the order of crates.txt')
-
-
-def crates_below(top):
-    """A crate and all that it stands on, by crates.txt."""
-    below = {name: words.split() for name, words in re.findall(r'^(\w+)(?: \w+=?\w*)*:(.*)$', (ROOT / 'crates.txt').read_text(), re.M)}
-    found, left = set(), [top]
-    while left:
-        name = left.pop()
-        if name in below and name not in found:
-            found.add(name)
-            left += below[name]
-    return found
-
-
 def check_took(findings):
     """tools/took.csv has the seconds of each crate that the program is made from, and of no other."""
     file = ROOT / 'tools' / 'took.csv'
     with file.open() as rows:
         took = {row['crate'] for row in csv.DictReader(rows)}
-    for name in sorted(took ^ crates_below('alw_cli')):
+    for name in sorted(took ^ floors.crates_below('alw_cli')):
         findings.say(file, 0, f'{name} has a row or is a crate of the program, and not both')
-
-
-def crates_in_order():
-    """The crates of crates.txt."""
-    return re.findall(r'^(\w+)(?: \w+=?\w*)*:', (ROOT / 'crates.txt').read_text(), re.M)
-
-
-FLOOR = re.compile(r'^# (\w+)(?:, on ([\w, ]+))?: .*\n((?:\w+.*\n)+)', re.M)
-
-
-def check_floors(findings, repository):
-    """A crate stands on those of its own floor and of the floors that the line above its floor names."""
-    file = ROOT / 'crates.txt'
-    floors = {name: (set((below or '').split(', ')), re.findall(r'^(\w+)[^:\n]*:(.*)', rows, re.M)) for name, below, rows in FLOOR.findall(file.read_text())}
-    floor_of = {crate: floor for floor, (_, rows) in floors.items() for crate, _ in rows}
-    for name in sorted(set(repository) - set(floor_of)):
-        findings.say(file, 0, f'{name} stands on no floor')
-    for floor, (below, rows) in floors.items():
-        for name in sorted(below - set(floors) - {''}):
-            findings.say(file, 0, f'{floor} names a floor {name} that is none')
-        for crate, used in rows:
-            for other in used.split():
-                if floor_of.get(other, floor) not in below | {floor}:
-                    findings.say(file, 0, f'{crate} of {floor} stands on {other} of {floor_of[other]}')
 
 
 @lru_cache(maxsize=None)
@@ -750,8 +703,8 @@ def documents(repository):
 # The checks of whole pages, each with what it reads of them: those that look at sources, and those that don't.
 BY_SOURCES = {
     check_promises: 'crates/*/README.md',
-    check_architecture: 'crates.txt docs/ARCHITECTURE.md',
-    check_floors: 'crates.txt',
+    floors.check_architecture: 'crates.txt docs/ARCHITECTURE.md crates/*/README.md',
+    floors.check_floors: 'crates.txt',
     check_refusals: 'docs/REFUSALS.md',
 }
 BY_THEMSELVES = {

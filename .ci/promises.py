@@ -8,11 +8,11 @@
 A promise, its clause and its edit stand in a row of its crate's README. The page has the rows floor by floor, with what each
 reaches beside it (.ci/reach.py), an index of the named ones with counts, and lists of what those reach that README.md links to.
 """
-import re
 import sys
 
 sys.dont_write_bytecode = True
 import documents
+import floors
 import places
 import reach
 import trusted
@@ -51,13 +51,6 @@ UNREACHED = """
 
 Definitions of `specs/` that no promise reaches, named or not: words of private functions and of proofs.
 """
-FLOOR = re.compile(r'^# (\w+)(?:, on [\w, ]+)?: (.*)\n((?:\w+.*\n)+)', re.M)
-
-
-def floors():
-    """The floors of crates.txt: of each its name, what it is, and its crates."""
-    text = (ROOT / 'crates.txt').read_text() + '\n'
-    return [(name, about, re.findall(r'^(\w+)', rows, re.M)) for name, about, rows in FLOOR.findall(text)]
 
 
 def told(sources, items):
@@ -74,9 +67,9 @@ def link_to(name):
 def indexed(repository, sources, reaches):
     """The index: the named promises floor by floor, each with a link to its first row and with what it reaches."""
     names = documents.named_rows(repository)
-    for floor, _, crates in floors():
-        for name in (name for name, rows in names.items() if rows[0][0].name in crates):
-            yield f'| {floor} | {link_to(name)} | {" | ".join(map(str, trusted.counts_of(sources, reaches[name])))} |'
+    for floor in floors.read():
+        for name in (name for name, rows in names.items() if rows[0][0].name in floor.crates):
+            yield f'| {floor.name} | {link_to(name)} | {" | ".join(map(str, trusted.counts_of(sources, reaches[name])))} |'
     yield f'| | all of them | {" | ".join(map(str, trusted.counts_of(sources, set().union(*reaches.values()))))} |'
 
 
@@ -94,9 +87,9 @@ def table_of(sources, crate, seen):
 def tables(repository, sources):
     """The promises, floor by floor."""
     seen = set()
-    for floor, about, crates in floors():
-        yield from ('', f'# Floor: {floor}', '', f'{about[0].upper()}{about[1:]}.')
-        for crate in (repository[name] for name in crates if name in repository and documents.promise_rows(repository[name])):
+    for floor in floors.read():
+        yield from ('', f'# Floor: {floor.name}', '', f'{floor.about[0].upper()}{floor.about[1:]}.')
+        for crate in (repository[name] for name in floor.crates if name in repository and documents.promise_rows(repository[name])):
             yield from ('', f'## {crate.name}', '', *table_of(sources, crate, seen))
 
 
