@@ -20,8 +20,8 @@ What is tested:
 - docs/FORMATS.md: its rules have the words that the definitions of texts spell, and no other, and each a name of its own. What each case writes is of its rule, and what is refused
   for its form isn't. Its tables have each event, message, state, status, trap type, key, field and fault of the definitions, and no other; each line of a
   refusal is that of a case. Each text that tools/words.py names has a rule, which begins as it says, and the table of formats says what reads it.
-- the table of docs/ARCHITECTURE.md has each crate of crates.txt with the first sentence of its README, as .ci/floors.py writes it. tools/took.csv has each crate that the
-  program is made from, and no other.
+- the table of docs/ARCHITECTURE.md has each crate of crates.txt with the first sentence of its README, as .ci/floors.py writes it. tools/took.csv has no other crates
+  than those that the program is made from.
 - a crate of crates.txt stands on crates of its own floor and of those that the floor's line names; what it lists else is of the toolchain.
 - cases/README.md names each group of cases, but for those that have the name of a command. Each command is called by a case.
 - docs/REFUSALS.md: each row has calls of its crate, a clause of one of them or a word of it, and tests or cases, these as `group: name`; and each call of these crates that
@@ -426,12 +426,12 @@ def check_times(findings):
 
 
 def check_took(findings):
-    """tools/took.csv has the seconds of each crate that the program is made from, and of no other."""
+    """tools/took.csv has seconds of crates that the program is made from, and of no other."""
     file = ROOT / 'tools' / 'took.csv'
     with file.open() as rows:
         took = {row['crate'] for row in csv.DictReader(rows)}
-    for name in sorted(took ^ floors.crates_below('alw_cli')):
-        findings.say(file, 0, f'{name} has a row or is a crate of the program, and not both')
+    for name in sorted(took - floors.crates_below('alw_cli')):
+        findings.say(file, 0, f'{name} has a row, and the program is made from no such crate')
 
 
 @lru_cache(maxsize=None)
