@@ -23,7 +23,7 @@ What is tested:
 - the table of docs/ARCHITECTURE.md has each crate of crates.txt with the first sentence of its README, as .ci/floors.py writes it. tools/took.csv has no other crates
   than those that the program is made from.
 - a crate of crates.txt stands on crates of its own floor and of those that the floor's line names; what it lists else is of the toolchain.
-- cases/README.md names each group of cases, but for those that have the name of a command. Each command is called by a case.
+- cases/README.md names each group of cases, but for those that have the name of a command or of a text. Each command is called by a case.
 - docs/REFUSALS.md: each row has calls of its crate, a clause of one of them or a word of it, and tests or cases, these as `group: name`; and each call of these crates that
   answers a Result or an Option has a row. A crate that makes what a command answers is one of these.
 
@@ -454,11 +454,11 @@ def case_rows():
 
 
 def check_cases(findings):
-    """cases/README.md has each group of cases in its table, but for those that have the name of a command, and no other; a case calls each command."""
+    """cases/README.md has each group of cases in its table, but for those of the name of a command or of a text, and no other; a case calls each command."""
     file = ROOT / 'cases' / 'README.md'
     shown = {name for head, rows in tables_of(file.read_text()) if head[0] == 'group' for row in rows for name in SPAN.findall(row.cells[0])}
     groups = {group.stem for group in file.parent.glob('*.jsonl')}
-    for name in sorted((shown - groups) | (groups - shown - set(COMMANDS))):
+    for name in sorted((shown - groups) | (groups - shown - {*COMMANDS, *words.KINDS})):
         findings.say(file, 0, f'{name} is a group or stands in its table, and not both')
     for name in sorted(set(COMMANDS) - {called.split()[0] for _, row in case_rows() for called in row['words'].split(' | ') if called}):
         findings.say(file, 0, f'no case calls {name}')
