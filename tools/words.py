@@ -5,14 +5,15 @@
     tools/words.py --check   names what isn't current, and ends with 1 where something isn't
 
 The options of each command, their ranges and defaults are read from rows.rt and options.rt of crates/alw_config/src, and the names of instructions and
-directives from crates/sparc_asm/src/mnemonics.rt. What is written: the table of README.md, the launcher's help, the commands and options of docs/alewife.1,
-docs/completions, and tools/words.json, by which tools/explain.py explains refusals. What the sources don't tell stands below: what a command reads, writes and does, how a text
-begins, and what an option is for. The scripts of tools, .ci and bench ask here.
+directives from crates/sparc_asm/src/mnemonics.rt. What is written: the table of README.md with the forms of a run, the launcher's help, the commands and options
+of docs/alewife.1, docs/completions, and tools/words.json, by which tools/explain.py explains refusals. What the sources don't tell stands below: what a command reads, writes and
+does, how a text begins, and what an option is for. The scripts of tools, .ci and bench ask here.
 """
 import json
 import math
 import re
 import sys
+import textwrap
 from dataclasses import asdict, dataclass, field, replace
 
 sys.dont_write_bytecode = True
@@ -35,6 +36,8 @@ MOST_LISTED = 16
 MOST_COST = 2**16 - 1
 GREATEST = {'u64::MAX': 2**64 - 1, 'u32::MAX': 2**32 - 1}
 FORMS = {'AsmForm': 'ASM_FORMS', 'AuditForm': 'AUDIT_FORMS', 'TimeForm': 'TIME_FORMS', 'Form': 'FORMS', 'RunForm': 'FORMS', 'TimedForm': 'TIMED_FORMS'}
+# The paragraph of README.md that begins with the forms of a run.
+OF_FORMS = re.compile(r'^`--write` takes [^.]* of a run\. (.*?)(?=\n\n)', re.M | re.S)
 # Of each command that an option makes another one of: the option, the table of options that stand open before it, and the part of the program's tables behind it.
 TURNING = {'run': ('--cycles', 'UNDECIDED_OPTIONS', 'Timed')}
 
@@ -75,6 +78,16 @@ COMMANDS = {
 }
 # The forms of a command that are other texts than those of their names.
 OTHER = {('audit', 'log'): 'claim_log'}
+# Of each form of a run what it writes, for the manual.
+FORMS_TOLD = {
+    'report': 'the report of the run',
+    'json': 'the same as one JSON object',
+    'trace': 'the image, the parameters and the events in order',
+    'claim': 'the image, the turns, the printed words and the memory',
+    'summary': 'the first seven lines of the report',
+    'log': 'a line for each event with what it did, and where each context stands at the end',
+    'profile': 'as one JSON object what is counted by node, by line and by code word',
+}
 ORDER, FORM, EVICT = 'the number that the order of events is drawn from', 'what is written', 'how often of 256 an eviction is tried'
 POINTERS = 'hardware pointers of a directory entry, of which all is one for each node'
 COSTS = {'--hit': 'cycles of an instruction', '--switch': 'more, where another slot runs than the last', '--hop': 'cycles of a message for each wire of its route',
@@ -498,6 +511,27 @@ def overview(commands):
     return rows
 
 
+def forms_of_runs(commands):
+    """The forms of a run."""
+    return next(option.names for option in commands['replay'].options if option.name == '--write')
+
+
+def with_forms(text, commands):
+    """README.md with the forms of a run in the paragraph that begins with them."""
+    *names, last = forms_of_runs(commands)
+    said = f'`--write` takes {", ".join(f"`{name}`" for name in names)} or `{last}` of a run.'
+    return OF_FORMS.sub(lambda found: textwrap.fill(f'{said} {found[1]}', 119, break_on_hyphens=False), text)
+
+
+def form_lines(commands):
+    """What each form of a run writes, for the manual: the default first, each with its word in bold letters."""
+    told = [(name, said_of(FORMS_TOLD, name)) for name in forms_of_runs(commands)]
+    (first, phrase), *others = told
+    lines = [f'.B \\-\\-write {first}', f'(the default) writes {phrase},', *(f'.B {name}\n{phrase},' for name, phrase in others)]
+    lines[-2:] = [f'{lines[-2]} and', f'{lines[-1][:-1]}.']
+    return '\n'.join(lines) + '\n'
+
+
 def between(text, first, last, middle):
     """A text with another middle between two marks, of which the first stays before it and the last behind it."""
     before, mark, rest = text.partition(first)
@@ -510,14 +544,15 @@ def manual(commands):
     called = between(MANUAL.read_text(), '.SH SYNOPSIS\n', '.SH DESCRIPTION', synopsis(commands))
     first, last = '.SH COMMANDS\n', '.PP\nOptions come'
     described = between(called, first, last, paragraphs(commands, called.partition(first)[2].partition(last)[0]))
-    return between(described, '.\\" tools/words.py writes the synopsis, the first words of a command, and the options.\n', '.SH WORDS OF THE LAUNCHER', manual_page(commands))
+    told = between(described, 'at most as many workers as nodes.\n', 'With\n.B \\-\\-cycles', form_lines(commands))
+    return between(told, '.\\" tools/words.py writes the synopsis, the first words of a command, the forms of a run, and the options.\n', '.SH WORDS OF THE LAUNCHER', manual_page(commands))
 
 
 def pages():
     """All that is written: each file with its text."""
     commands = read_table()
     return {
-        README: between(README.read_text(), '| command | reads | writes | options |\n|---|---|---|---|\n', '\n`--write` takes', overview(commands)),
+        README: with_forms(between(README.read_text(), '| command | reads | writes | options |\n|---|---|---|---|\n', '\n`--write` takes', overview(commands)), commands),
         LAUNCHER: between(LAUNCHER.read_text(), 'multiprocessor, proved\n\n', '\nThe first run', help_page(commands)),
         MANUAL: manual(commands),
         BASH: bash_page(commands),
