@@ -25,7 +25,7 @@ What is tested:
 - a crate of crates.txt stands on crates of its own floor and of those that the floor's line names; what it lists else is of the toolchain.
 - cases/README.md names each group of cases, but for those that have the name of a command or of a text. Each command is called by a case.
 - docs/REFUSALS.md: each row has calls of its crate, a clause of one of them or a word of it, and tests or cases, these as `group: name`; and each call of these crates that
-  answers a Result or an Option has a row. A crate that makes what a command answers is one of these.
+  answers a Result or an Option has a row. A crate that makes what a command answers is one of these, and of the floor of texts each that answers more than want of memory.
 
 A row's second cell is read like this: parts are parted by ';', and what stands in `code` in a part is a function, method or
 type of the crate, or a clause of one named before it in that part. In brackets stand definitions, or an edit's crate.
@@ -508,14 +508,22 @@ def check_refusals(findings, repository):
     check_all_refuse(findings, file, named, repository)
 
 
+def refusing(crate):
+    """The calls of a crate that answer a Result or an Option."""
+    return [f for f in crate.calls() if re.search('->.*(Result|Option)', f.signature, re.S)]
+
+
 def check_all_refuse(findings, file, named, repository):
-    """Each call of these crates that answers a Result or an Option is named, and each crate with a call that makes what a command answers is one of them."""
+    """Each call of these crates that answers a Result or an Option is named. Each crate with a call that makes what a command answers is one of them, and each
+    of the floor of texts with a call that answers more than want of memory."""
     for name in sorted({name for name, crate in repository.items() if any('Result<Output,' in f.signature for f in crate.calls())} - set(named)):
         findings.say(file, 0, f'has no row of {name}, which makes what a command answers')
     for name, paths in named.items():
-        refusing = {f.path for f in repository[name].calls() if re.search('->.*(Result|Option)', f.signature, re.S)}
-        if missing := refusing - paths:
+        if missing := {f.path for f in refusing(repository[name])} - paths:
             findings.say(file, 0, f'has no row of {", ".join(sorted(missing))} of {name}')
+    for name in (name for floor in floors.read() if floor.name == 'texts' for name in floor.crates if name in repository and name not in named):
+        if missing := {f.path for f in refusing(repository[name]) if not re.search(r'->.*Result<.*, NoMemory>', f.signature, re.S)}:
+            findings.say(file, 0, f'has no row of {", ".join(sorted(missing))} of {name}, which may answer more than want of memory')
 
 
 TUTORIAL = ROOT / 'docs' / 'TUTORIAL.md'
