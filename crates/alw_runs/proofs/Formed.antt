@@ -13,8 +13,6 @@ use Rattle.alw_report.specs.Json.{json_text}
 use Rattle.alw_told.specs.Heads.{head_of}
 use Rattle.alw_trace.specs.declared.values.Claim.{Claim}
 use Rattle.alw_trace.specs.Texts.{trace_text, claim_text}
-use Rattle.alw_log.specs.Logs.{log_of}
-use Rattle.alw_profile.specs.Json.{profile_of}
 use Rattle.alw_config.specs.declared.commands.Form.TheVariants as forms
 use Rattle.alw_answers.specs.declared.outputs.Ending.{Ending}
 use Rattle.alw_answers.specs.declared.outputs.Output.{Output}
@@ -34,14 +32,6 @@ module _ (h : History) (e : Ended) where
     pub told_summary : text ≡ summary_text told → told ≡ head_of (told_of h.image h.parameters h.journal e) → output ≡ output_of h e forms.Summary
     unfolding run_text summary_text head_text sizes_line
     told_summary same whole = is ∙ ap (output_with h e) (same ∙ ap summary_text whole)
-
-  pub told_log : (output : Output) (text : List ℕ) → output ≡ output_with h e text → text ≡ log_of h.image h.parameters h.journal e → output ≡ output_of h e forms.Log
-  unfolding run_text
-  told_log output text is same = is ∙ ap (output_with h e) same
-
-  pub told_profile : (output : Output) (text : List ℕ) → output ≡ output_with h e text → text ≡ profile_of h.image h.parameters h.journal → output ≡ output_of h e forms.Profile
-  unfolding run_text
-  told_profile output text is same = is ∙ ap (output_with h e) same
 
   module _ (end : Ending) (ends : end ≡ ending_of e) (image : Parts) (i : image ≡ h.image) (entries : List Entry) (j : entries ≡ h.journal) (text : List ℕ) where
     abbrev made : Output

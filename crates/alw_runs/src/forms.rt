@@ -55,6 +55,7 @@ fn summarized(alloc: Global, machine: Machine, ended: Ended) -> Result<Output, N
 }
 
 // As a log.
+#[tactic(auto, unfolding(crate::specs::Forms::run_text))]
 fn logged(alloc: Global, machine: Machine, ended: Ended) -> Result<Output, NoMemory>
     ensures { IfOk result (λ output. output ≡ output_of machine ended forms.Log) }
 {
@@ -63,6 +64,7 @@ fn logged(alloc: Global, machine: Machine, ended: Ended) -> Result<Output, NoMem
 }
 
 // As a profile.
+#[tactic(auto, unfolding(crate::specs::Forms::run_text))]
 fn profiled(alloc: Global, machine: Machine, ended: Ended) -> Result<Output, NoMemory>
     ensures { IfOk result (λ output. output ≡ output_of machine ended forms.Profile) }
 {

@@ -1,5 +1,0 @@
-use Rattle.alw_runs.proofs.Formed.{told_profile}
-use Rattle.alw_runs.proofs.forms.profiled.Goals as goal
-
-pub returns : goal.returns
-returns c = told_profile c.args.machine c.args.ended c.output_with.result c.in_ok-text.text c.output_with.ensures c.in_ok-text.ensures
